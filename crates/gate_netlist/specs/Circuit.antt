@@ -1,0 +1,82 @@
+-- What a circuit is: its nets in order, and what sets each of them.
+use Rattle.std.specs.Prelude.{◌≡◌, ℕ, ◌<◌, ◌≤◌, Bool, true, false, List, [], ◌∷◌, length, get_or, Option, Some, None, IfSome, position, count_by}
+use Rattle.std.specs.List.{All}
+use Rattle.std.specs.Str.{bytes_eq}
+use Rattle.gate_values.specs.Tables.{HasInputs}
+use Rattle.gate_values.specs.Behaviour.{Source}
+use Rattle.gate_netlist.specs.declared.driver.Driver.{Driver}
+use Rattle.gate_netlist.specs.declared.driver.Driver.TheVariants.{Input, Gate, Flop}
+use Rattle.gate_netlist.specs.Cut.{Ownership}
+
+-- Net n has the n-th name, driver and delay. The delay of an input is 0.
+pub record Design : Type 0 where
+  pub names : List (List ℕ)
+  pub drivers : List Driver
+  pub delays : List ℕ
+  pub outputs : List ℕ
+  pub clock : Option ℕ
+  pub scope : Option (List ℕ)
+  pub cut : Option Ownership
+
+abbrev pub nets_of : Design → ℕ
+nets_of d = length d.names
+
+-- what sets a net; an input, where there is no such net
+abbrev pub driver_of : Design → ℕ → Driver
+driver_of d n = get_or d.drivers n Input
+
+abbrev pub name_of : Design → ℕ → List ℕ
+name_of d n = get_or d.names n []
+
+-- the net of a name
+abbrev pub net_of : Design → List ℕ → Option ℕ
+net_of d name = position (λ other. bytes_eq name other) d.names
+
+abbrev pub is_input : Driver → Bool
+is_input Input = true
+is_input _ = false
+
+abbrev pub is_gate : Driver → Bool
+is_gate (Gate kind inputs) = true
+is_gate _ = false
+
+abbrev pub is_flop : Driver → Bool
+is_flop (Flop d clock) = true
+is_flop _ = false
+
+-- how long a net takes, which only a net that a gate or a flip-flop sets does
+abbrev pub delay_by : Driver → ℕ → Option ℕ
+delay_by Input delay = None
+delay_by (Gate kind inputs) delay = Some delay
+delay_by (Flop d clock) delay = Some delay
+
+abbrev pub delay_of : Design → ℕ → Option ℕ
+delay_of d n = delay_by (driver_of d n) (get_or d.delays n 0)
+
+-- what a driver and a delay are to the value of a net
+abbrev pub source_by : Driver → ℕ → Source
+source_by Input delay = Source.Outside
+source_by (Gate kind inputs) delay = Source.Gate kind delay inputs
+source_by (Flop d clock) delay = Source.Flop delay d clock
+
+abbrev pub source_of : Design → ℕ → Source
+source_of d n = source_by (driver_of d n) (get_or d.delays n 0)
+
+-- a delay of a net that isn't an input
+abbrev pub IsDelay : ℕ → Type 0
+IsDelay delay = (1 ≤ delay) × (delay ≤ 1000000)
+
+-- the driver is one among so many nets, with this delay
+abbrev pub IsDriven : ℕ → Driver → ℕ → Type 0
+IsDriven nets Input delay = delay ≡ 0
+IsDriven nets (Gate kind inputs) delay = HasInputs kind (length inputs) × All (λ i. i < nets) inputs × IsDelay delay
+IsDriven nets (Flop d clock) delay = (d < nets) × (clock < nets) × IsDelay delay
+
+-- what is true of every circuit
+pub record IsCircuit (d : Design) : Type 0 where
+  pub within : nets_of d ≤ 1000000
+  pub drivers : length d.drivers ≡ nets_of d
+  pub delays : length d.delays ≡ nets_of d
+  pub driven : (n : ℕ) → n < nets_of d → IsDriven (nets_of d) (driver_of d n) (get_or d.delays n 0)
+  pub outputs : All (λ n. n < nets_of d) d.outputs
+  pub clock : IfSome d.clock (λ c. c < nets_of d)

@@ -1,0 +1,53 @@
+-- A gate of unknown inputs puts out unknown.
+use Rattle.std.proofs.Common.{◌≡◌, ℕ, zero, suc, ◌-◌, ◌<◌, ◌∙◌, List, [], ◌∷◌, map, length, false, refl, ap, arith}
+use Rattle.std.specs.List.{list_any, list_all}
+use Rattle.gate_values.specs.declared.logic.Logic.{Logic}
+use Rattle.gate_values.specs.declared.logic.Logic.TheVariants.{Zero, One, X, Z}
+use Rattle.gate_values.specs.declared.gate.Kind.{Kind}
+use Rattle.gate_values.specs.declared.gate.Kind.TheVariants.{And, Nand, Or, Nor, Xor, Xnor, Not, Buff}
+use Rattle.gate_values.specs.Tables.{table_of, HasInputs, is_zero, is_one, inverted, passed, and_of, or_of, xor_of, only_of}
+use Rattle.gate_values.specs.Behaviour.{Source, Outside, Gate, Flop, Moment, unknown, output, before, value, delay_of, history, IsWellFormed}
+use Rattle.gate_values.proofs.Behaving.{value_is}
+
+all_x : List ℕ → List Logic
+all_x ns = map (λ _. X) ns
+
+none_zero : (ns : List ℕ) → list_any is_zero (map (λ (n : ℕ). X) ns) ≡ false
+none_zero [] = refl
+none_zero (n ∷ ns) = none_zero ns
+
+none_one : (ns : List ℕ) → list_any is_one (map (λ (n : ℕ). X) ns) ≡ false
+none_one [] = refl
+none_one (n ∷ ns) = none_one ns
+
+pub table_of-unknown : (kind : Kind) (ns : List ℕ) → HasInputs kind (length ns) → table_of kind (map (λ (n : ℕ). X) ns) ≡ X
+unfolding table_of
+table_of-unknown And [] h = absurd (omega arith)
+table_of-unknown Nand [] h = absurd (omega arith)
+table_of-unknown Or [] h = absurd (omega arith)
+table_of-unknown Nor [] h = absurd (omega arith)
+table_of-unknown Xor [] h = absurd (omega arith)
+table_of-unknown Xnor [] h = absurd (omega arith)
+table_of-unknown Not [] h = refl
+table_of-unknown Buff [] h = refl
+table_of-unknown And (n ∷ ns) h = rw (none_zero ns) refl
+table_of-unknown Nand (n ∷ ns) h = rw (none_zero ns) refl
+table_of-unknown Or (n ∷ ns) h = rw (none_one ns) refl
+table_of-unknown Nor (n ∷ ns) h = rw (none_one ns) refl
+table_of-unknown Xor (n ∷ ns) h = refl
+table_of-unknown Xnor (n ∷ ns) h = refl
+table_of-unknown Not (n ∷ ns) h = refl
+table_of-unknown Buff (n ∷ ns) h = refl
+
+-- what a source makes of the moment before time 0
+output-unknown : (s : Source) (n : ℕ) → IsWellFormed s → output s unknown n ≡ X
+output-unknown Outside n w = refl
+output-unknown (Gate kind delay inputs) n w = table_of-unknown kind inputs w.1
+output-unknown (Flop delay d c) n w = refl
+
+pub unknown_before : (source : ℕ → Source) (given : ℕ → ℕ → Logic) (n t : ℕ) → IsWellFormed (source n) → t < delay_of (source n) → value source given n t ≡ X
+unfolding history
+unknown_before source given n t w h =
+    let positive : 0 < delay_of (source n) = omega arith in
+    let start : suc t - delay_of (source n) ≡ 0 = omega arith in
+    value_is source given n t (source n) refl positive ∙ rw start (output-unknown (source n) n w)

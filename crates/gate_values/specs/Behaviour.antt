@@ -1,0 +1,93 @@
+-- The value of each net of a circuit at each time.
+use Rattle.std.specs.Prelude.{ℕ, zero, suc, ◌<◌, List, [], ◌∷◌, map, length}
+use Rattle.std.specs.List.{AllByRecursion}
+use Rattle.gate_values.specs.declared.logic.Logic.{Logic}
+use Rattle.gate_values.specs.declared.logic.Logic.TheVariants.{X}
+use Rattle.gate_values.specs.declared.gate.Kind.{Kind}
+use Rattle.gate_values.specs.Tables.{table_of, flip_of, HasInputs}
+
+-- What sets a net: something outside, a gate over nets, or a flip-flop. A delay is at least 1.
+pub data Source : Type 0 where
+  Outside : Source
+  Gate : (kind : Kind) (delay : ℕ) (inputs : List ℕ) → Source
+  Flop : (delay data_net clock : ℕ) → Source
+
+-- Everything at one time: the value of each net, the content of each flip-flop.
+pub record Moment : Type 0 where
+  pub value : ℕ → Logic
+  pub content : ℕ → Logic
+
+-- before time 0
+abbrev pub unknown : Moment
+unknown = record { value = λ _. X; content = λ _. X }
+
+-- the moment so many steps back, where 1 is the newest; before time 0 all is unknown
+abbrev pub back : List Moment → ℕ → Moment
+back past zero = unknown
+back [] (suc k) = unknown
+back (m ∷ past) (suc zero) = m
+back (m ∷ past) (suc (suc k)) = back past (suc k)
+
+-- what a gate makes of a moment, or a flip-flop holds in it
+abbrev pub output : Source → Moment → ℕ → Logic
+output Outside m n = X
+output (Gate kind delay inputs) m n = table_of kind (map m.value inputs)
+output (Flop delay data_net clock) m n = m.content n
+
+-- the value that a net takes: from outside, or its source's output one delay ago
+abbrev pub next_value : Source → (ℕ → Logic) → List Moment → ℕ → Logic
+next_value Outside given past n = given n
+next_value (Gate kind delay inputs) given past n = output (Gate kind delay inputs) (back past delay) n
+next_value (Flop delay data_net clock) given past n = output (Flop delay data_net clock) (back past delay) n
+
+-- The content that a flip-flop takes, by its clock just before and now, and its data just before.
+abbrev pub next_content : Source → (ℕ → Logic) → Moment → ℕ → Logic
+next_content Outside now last n = X
+next_content (Gate kind delay inputs) now last n = X
+next_content (Flop delay data_net clock) now last n =
+    flip_of (last.content n) (last.value clock) (now clock) (last.value data_net)
+
+abbrev pub next_moment : (ℕ → Source) → (ℕ → Logic) → List Moment → Moment
+next_moment source given past =
+    record {
+      value = λ n. next_value (source n) given past n;
+      content = λ n. next_content (source n) (λ i. next_value (source i) given past i) (back past 1) n;
+    }
+
+abbrev pub with_next : (ℕ → Source) → (ℕ → Logic) → List Moment → List Moment
+with_next source given past = next_moment source given past ∷ past
+
+-- The moments before time t, the newest first. `given t n` is the value at t of a net that is set from outside.
+unfoldable pub history : (ℕ → Source) → (ℕ → ℕ → Logic) → ℕ → List Moment
+history source given zero = []
+history source given (suc t) = with_next source (given t) (history source given t)
+
+-- the moment just before time t
+abbrev pub before : (ℕ → Source) → (ℕ → ℕ → Logic) → ℕ → Moment
+before source given t = back (history source given t) 1
+
+-- the value of net n at time t
+abbrev pub value : (ℕ → Source) → (ℕ → ℕ → Logic) → ℕ → ℕ → Logic
+value source given n t = (before source given (suc t)).value n
+
+-- the content of flip-flop n at time t
+abbrev pub content : (ℕ → Source) → (ℕ → ℕ → Logic) → ℕ → ℕ → Logic
+content source given n t = (before source given (suc t)).content n
+
+-- how long the source takes
+abbrev pub delay_of : Source → ℕ
+delay_of Outside = 0
+delay_of (Gate kind delay inputs) = delay
+delay_of (Flop delay data_net clock) = delay
+
+-- A delay is at least 1, and a gate has as many inputs as its kind takes.
+abbrev pub IsWellFormed : Source → Type 0
+IsWellFormed Outside = Unit {0}
+IsWellFormed (Gate kind delay inputs) = (0 < delay) × HasInputs kind (length inputs)
+IsWellFormed (Flop delay data_net clock) = 0 < delay
+
+-- it is set by a gate or a flip-flop, which takes at least one moment and reads nets of N alone
+abbrev pub IsOver : (ℕ → Type 0) → Source → Type 0
+IsOver N Outside = ⊥
+IsOver N (Gate kind delay inputs) = (0 < delay) × AllByRecursion N inputs
+IsOver N (Flop delay data_net clock) = (0 < delay) × N data_net × N clock
