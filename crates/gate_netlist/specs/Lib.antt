@@ -1,3 +1,6 @@
 pub mod Circuit
 pub mod Cut
 pub mod Held
+pub mod Faults
+pub mod Netlist
+pub mod HeldBench

@@ -1,12 +1,16 @@
 //! Netlists: a `.bench` text and a settings text as a circuit.
 #![tactic(auto)]
 
+mod bench;
 mod circuit;
 mod cut;
 mod driver;
+mod fault;
 mod nets;
 
+pub use bench::{Bench, Definition};
 pub use circuit::Circuit;
 pub use cut::Cut;
 pub use driver::Driver;
+pub use fault::{BenchCause, BenchFault, SettingsFault};
 pub use nets::Nets;

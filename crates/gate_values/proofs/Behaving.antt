@@ -92,9 +92,9 @@ module _ (s1 s2 : ℕ → Source) (g1 g2 : ℕ → ℕ → Logic) (Own Shared : 
   unfolding history
   agree_step zero ih = record { values = λ i p h. refl; contents = λ n own h. refl }
   agree_step (suc t) ih = record {
-      values = λ i p h. step_values t i ih p h;
-      contents = λ n own h. content_step t n (s1 n) refl ih (j.over n own) own h;
-    }
+    values = λ i p h. step_values t i ih p h;
+    contents = λ n own h. content_step t n (s1 n) refl ih (j.over n own) own h;
+  }
 
   -- the values of both behaviours agree at the times below u
   pub same_before : (m : ℕ) → Agree m

@@ -73,10 +73,11 @@ before_time-changes f k zero = ap (changes f) (let e : 0 ≡ min k 0 = omega ari
 before_time-changes f k (suc t) =
     before_time-append k (changes f t) (change_at f t)
     ∙ elim (lt_cases t k) [
-        inl l ↦ (let e : min k (suc t) ≡ suc t = omega arith in let e2 : min k t ≡ t = omega arith in
-            rw (before_time-changes f k t, before_time-one k t f, lt_true t k l, e, e2) refl)
+      | inl l ↦ (let e : min k (suc t) ≡ suc t = omega arith in let e2 : min k t ≡ t = omega arith in
+          rw (before_time-changes f k t, before_time-one k t f, lt_true t k l, e, e2) refl)
       | inr g ↦ (let e : min k (suc t) ≡ min k t = omega arith in
-            rw (before_time-changes f k t, before_time-one k t f, lt_false t k g, e, append-nil (changes f (min k t))) refl) ]
+          rw (before_time-changes f k t, before_time-one k t f, lt_false t k g, e, append-nil (changes f (min k t))) refl)
+    ]
 
 -- the change at a time, as an option
 abbrev pub change_option : (ℕ → Logic) → ℕ → Option Logic
@@ -124,10 +125,11 @@ unfolding changes
 pair_at-changes f zero t h = absurd (omega arith)
 pair_at-changes f (suc b) t h =
     elim (lt_cases t b) [
-      inl l ↦ (let ne : b ≢ t = omega arith in pair_at-append_later (changes f b) (change_at f b) t (pair_at-other f b t ne) ∙ pair_at-changes f b t l)
-    | inr g ↦ (let e : b ≡ t = omega arith in
-        subst (λ (k : ℕ). pair_at (changes f k ++ change_at f k) t ≡ change_option f t) (sym e)
-          (pair_at-append (changes f t) (change_at f t) t (pair_at-late f t t (omega arith)) ∙ pair_at-one f t)) ]
+      | inl l ↦ (let ne : b ≢ t = omega arith in pair_at-append_later (changes f b) (change_at f b) t (pair_at-other f b t ne) ∙ pair_at-changes f b t l)
+      | inr g ↦ (let e : b ≡ t = omega arith in
+          subst (λ (k : ℕ). pair_at (changes f k ++ change_at f k) t ≡ change_option f t) (sym e)
+          (pair_at-append (changes f t) (change_at f t) t (pair_at-late f t t (omega arith)) ∙ pair_at-one f t))
+    ]
 
 pub change_option-or : (f : ℕ → Logic) (t : ℕ) → unwrap_or (change_option f t) (just_before f t) ≡ f t
 change_option-or f t = go (same (f t) (just_before f t)) refl

@@ -19,8 +19,8 @@ o = Source.Outside
 s27 : ℕ → Source
 unfolding o
 s27 n = get_or (o ∷ o ∷ o ∷ o ∷ Source.Flop 1 13 17 ∷ Source.Flop 1 14 17 ∷ Source.Flop 1 16 17 ∷ Source.Gate Not 1 (0 ∷ []) ∷ Source.Gate Not 1 (14 ∷ [])
-  ∷ Source.Gate And 1 (7 ∷ 5 ∷ []) ∷ Source.Gate Or 1 (15 ∷ 9 ∷ []) ∷ Source.Gate Or 1 (3 ∷ 9 ∷ []) ∷ Source.Gate Nand 1 (11 ∷ 10 ∷ []) ∷ Source.Gate Nor 1 (7 ∷ 14 ∷ [])
-  ∷ Source.Gate Nor 1 (4 ∷ 12 ∷ []) ∷ Source.Gate Nor 1 (1 ∷ 6 ∷ []) ∷ Source.Gate Nor 1 (2 ∷ 15 ∷ []) ∷ []) n Source.Outside
+    ∷ Source.Gate And 1 (7 ∷ 5 ∷ []) ∷ Source.Gate Or 1 (15 ∷ 9 ∷ []) ∷ Source.Gate Or 1 (3 ∷ 9 ∷ []) ∷ Source.Gate Nand 1 (11 ∷ 10 ∷ []) ∷ Source.Gate Nor 1 (7 ∷ 14 ∷ [])
+    ∷ Source.Gate Nor 1 (4 ∷ 12 ∷ []) ∷ Source.Gate Nor 1 (1 ∷ 6 ∷ []) ∷ Source.Gate Nor 1 (2 ∷ 15 ∷ []) ∷ []) n Source.Outside
 
 stim : ℕ → ℕ → Logic
 unfolding at latest

@@ -6,5 +6,4 @@ ghost use Rattle.gate_values.specs.Behaviour.{Source, value, delay_of, IsWellFor
 pub fn unknown_before_delay()
     ensures { (source : ℕ → Source) (given : ℕ → ℕ → Logic) (n t : ℕ)
         → IsWellFormed (source n) → t < delay_of (source n) → value source given n t ≡ Logic.X }
-{
-}
+{}

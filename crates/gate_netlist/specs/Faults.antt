@@ -1,0 +1,30 @@
+-- The names of the causes of refusal.
+use Rattle.std.specs.Prelude.{ℕ, List, codes}
+use Rattle.gate_netlist.specs.declared.fault.BenchCause.{BenchCause}
+use Rattle.gate_netlist.specs.declared.fault.BenchCause.TheVariants as bench
+use Rattle.gate_netlist.specs.declared.fault.BenchFault.{BenchFault}
+use Rattle.gate_netlist.specs.declared.fault.SettingsFault.{SettingsFault}
+use Rattle.gate_netlist.specs.declared.fault.SettingsFault.TheVariants as settings
+
+abbrev pub bench_cause_name : BenchCause → List ℕ
+bench_cause_name bench.BadLine = codes "BadLine"
+bench_cause_name bench.BadName = codes "BadName"
+bench_cause_name bench.UnknownGate = codes "UnknownGate"
+bench_cause_name bench.InputCount = codes "InputCount"
+bench_cause_name bench.DrivenTwice = codes "DrivenTwice"
+bench_cause_name bench.Undriven = codes "Undriven"
+bench_cause_name bench.TooManyNets = codes "TooManyNets"
+bench_cause_name bench.Memory = codes "Memory"
+
+abbrev pub settings_fault_name : SettingsFault → List ℕ
+settings_fault_name settings.Toml = codes "Toml"
+settings_fault_name settings.UnknownKey = codes "UnknownKey"
+settings_fault_name settings.UnknownNet = codes "UnknownNet"
+settings_fault_name settings.BadDelay = codes "BadDelay"
+settings_fault_name settings.ClockNotInput = codes "ClockNotInput"
+settings_fault_name settings.BadCut = codes "BadCut"
+settings_fault_name settings.Memory = codes "Memory"
+
+-- want of memory, which has no line
+abbrev pub out_of_memory : BenchFault
+out_of_memory = record { line = 0; cause = bench.Memory }

@@ -1,0 +1,25 @@
+-- What a bench text says: nets in the order of their defining lines.
+use Rattle.std.specs.Prelude.{◌≡◌, ℕ, ◌<◌, ◌≤◌, List, length, get_or}
+use Rattle.std.specs.List.{All}
+use Rattle.gate_values.specs.Tables.{HasInputs}
+use Rattle.gate_netlist.specs.declared.bench.Definition.{Definition}
+use Rattle.gate_netlist.specs.declared.bench.Definition.TheVariants.{Input, Gate, Flop}
+
+-- Net n has the n-th name and definition. Nets are meant by their numbers.
+pub record Netlist : Type 0 where
+  pub names : List (List ℕ)
+  pub definitions : List Definition
+  pub outputs : List ℕ
+
+-- the definition is one among so many nets
+abbrev pub IsDefinition : ℕ → Definition → Type 0
+IsDefinition nets Input = Unit {0}
+IsDefinition nets (Gate kind inputs) = HasInputs kind (length inputs) × All (λ i. i < nets) inputs
+IsDefinition nets (Flop d) = d < nets
+
+-- what is true of every netlist that was read
+pub record IsNetlist (b : Netlist) : Type 0 where
+  pub within : length b.names ≤ 999999
+  pub definitions : length b.definitions ≡ length b.names
+  pub defined : (n : ℕ) → n < length b.names → IsDefinition (length b.names) (get_or b.definitions n Input)
+  pub outputs : All (λ n. n < length b.names) b.outputs

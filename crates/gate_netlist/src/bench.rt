@@ -1,0 +1,32 @@
+use crate::nets::Nets;
+use gate_values::Kind;
+use indexmap::IndexSet;
+use std::marker::Model;
+
+/// What a net's line says that sets it. The clock of a flip-flop isn't written in a bench text.
+#[derive(Debug, Drop)]
+pub enum Definition {
+    Input,
+    Gate { kind: Kind, inputs: Nets },
+    Flop { d: u32 },
+}
+
+/// A bench text, read: its nets in the order of their defining lines, and the nets marked as outputs.
+#[derive(Drop)]
+pub struct Bench {
+    pub(crate) names: IndexSet<String>,
+    pub(crate) definitions: Vec<Definition>,
+    pub(crate) outputs: Vec<u32>,
+}
+
+impl Model for Bench {
+    ghost use Rattle.gate_netlist.specs.Netlist.{Netlist, IsNetlist};
+
+    ghost Value = { Netlist };
+
+    ghost use Rattle.gate_netlist.specs.HeldBench.{netlist_of};
+
+    ghost view = { netlist_of };
+
+    ghost invariant = { λ b. IsNetlist (netlist_of b) };
+}

@@ -1,0 +1,4 @@
+pub mod Faults
+pub mod Timescales
+pub mod Given
+pub mod Held

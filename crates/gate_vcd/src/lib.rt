@@ -1,0 +1,10 @@
+//! Value change dumps: the stimulus as read, waves, and the dump as written.
+#![tactic(auto)]
+
+mod fault;
+mod stimulus;
+mod timescale;
+
+pub use fault::{StimCause, StimFault, WriteFault};
+pub use stimulus::Stimulus;
+pub use timescale::{Timescale, Unit};
