@@ -2,3 +2,5 @@ pub mod Faults
 pub mod Timescales
 pub mod Given
 pub mod Held
+pub mod Sink
+pub mod Grown

@@ -2,9 +2,12 @@
 #![tactic(auto)]
 
 mod fault;
+mod put;
+mod sink;
 mod stimulus;
 mod timescale;
 
 pub use fault::{StimCause, StimFault, WriteFault};
+pub use sink::{Grow, Sink};
 pub use stimulus::Stimulus;
 pub use timescale::{Timescale, Unit};
