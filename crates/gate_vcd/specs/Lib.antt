@@ -4,3 +4,4 @@ pub mod Given
 pub mod Held
 pub mod Sink
 pub mod Grown
+pub mod Codes
