@@ -1,3 +1,4 @@
 pub mod Latest
 pub mod Writing
 pub mod Coding
+pub mod Waving

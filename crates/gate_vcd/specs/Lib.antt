@@ -5,3 +5,5 @@ pub mod Held
 pub mod Sink
 pub mod Grown
 pub mod Codes
+pub mod Waves
+pub mod HeldWaves

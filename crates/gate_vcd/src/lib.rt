@@ -7,9 +7,11 @@ mod put;
 mod sink;
 mod stimulus;
 mod timescale;
+mod waves;
 
 pub use codes::code;
 pub use fault::{StimCause, StimFault, WriteFault};
 pub use sink::{Grow, Sink};
 pub use stimulus::Stimulus;
 pub use timescale::{Timescale, Unit};
+pub use waves::Waves;
