@@ -7,3 +7,4 @@ pub mod Grown
 pub mod Codes
 pub mod Waves
 pub mod HeldWaves
+pub mod Dump
