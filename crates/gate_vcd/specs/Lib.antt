@@ -2,3 +2,9 @@ pub mod Faults
 pub mod Timescales
 pub mod Given
 pub mod Held
+pub mod Sink
+pub mod Grown
+pub mod Codes
+pub mod Waves
+pub mod HeldWaves
+pub mod Dump

@@ -1,10 +1,17 @@
 //! Value change dumps: the stimulus as read, waves, and the dump as written.
 #![tactic(auto)]
 
+mod codes;
 mod fault;
+mod put;
+mod sink;
 mod stimulus;
 mod timescale;
+mod waves;
 
+pub use codes::code;
 pub use fault::{StimCause, StimFault, WriteFault};
+pub use sink::{Grow, Sink};
 pub use stimulus::Stimulus;
 pub use timescale::{Timescale, Unit};
+pub use waves::Waves;
