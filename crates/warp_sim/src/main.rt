@@ -2,7 +2,9 @@
 #![tactic(auto)]
 
 mod fault;
+mod joined;
 
 pub use fault::Fault;
+pub use joined::split_joined;
 
 fn main() {}
