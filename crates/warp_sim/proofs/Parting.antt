@@ -49,9 +49,9 @@ lines-first : (byte : ℕ) (text : List ℕ)
     → lines (byte ∷ text) ≡ take (line_end (byte ∷ text)) (byte ∷ text) ∷ lines (drop (line_end (byte ∷ text)) (byte ∷ text))
 unfolding lines line_end
 lines-first byte [] = elim (byte == 10) as (λ here. (if here then (byte ∷ []) ∷ [] else with_front byte []) ≡ take (if here then 1 else suc 0) (byte ∷ []) ∷ lines (drop (if here then 1 else suc 0) (byte ∷ []))) [
-    | true ↦ refl
-    | false ↦ refl
-  ]
+  | true ↦ refl
+  | false ↦ refl
+]
 lines-first byte (next ∷ text) = after_front byte (next ∷ text) (line_end (next ∷ text)) (lines-first next text) (byte == 10)
 
 pub lines-cut : (text : List ℕ) (n : ℕ) → 0 < length text → line_end text ≡ n → lines text ≡ take n text ∷ lines (drop n text)
@@ -79,9 +79,9 @@ pub lines-joined : (text : List ℕ) → concat (lines text) ≡ text
 unfolding lines
 lines-joined [] = refl
 lines-joined (byte ∷ text) = elim (byte == 10) as (λ here. concat (if here then (byte ∷ []) ∷ lines text else with_front byte (lines text)) ≡ byte ∷ text) [
-    | true ↦ ap (λ s. byte ∷ s) (lines-joined text)
-    | false ↦ with_front-joined byte (lines text) ∙ ap (λ s. byte ∷ s) (lines-joined text)
-  ]
+  | true ↦ ap (λ s. byte ∷ s) (lines-joined text)
+  | false ↦ with_front-joined byte (lines text) ∙ ap (λ s. byte ∷ s) (lines-joined text)
+]
 
 pub passes_line : (text : List ℕ) (at n : ℕ) → IsPassed text at → HasLine text at n → at + n ≤ length text
     → is_parting (take n (drop at text)) ≡ false → IsPassed text (at + n)
@@ -90,15 +90,16 @@ passes_line text at n passed line within other =
     record {
       within = within;
       before = passed.before ∙ ap (λ ls. take at text ++ before_parting ls) line ∙ rw (other, take-add, ← append_assoc, drop-drop) refl;
-      after = passed.after ∙ ap after_parting line ∙ rw (other, drop-drop) refl
+      after = passed.after ∙ ap after_parting line ∙ rw (other, drop-drop) refl;
     }
 
 pub parts_here : (text : List ℕ) (at n : ℕ) → IsPassed text at → HasLine text at n
     → is_parting (take n (drop at text)) ≡ true → (before_parting (lines text) ≡ take at text) × (after_parting (lines text) ≡ drop (at + n) text)
 unfolding before_parting after_parting
-parts_here text at n passed line here =
-    (passed.before ∙ ap (λ ls. take at text ++ before_parting ls) line ∙ rw here (append-nil _),
-     passed.after ∙ ap after_parting line ∙ rw (here, lines-joined, drop-drop) refl)
+parts_here text at n passed line here = (
+  passed.before ∙ ap (λ ls. take at text ++ before_parting ls) line ∙ rw here (append-nil _),
+  passed.after ∙ ap after_parting line ∙ rw (here, lines-joined, drop-drop) refl,
+)
 
 pub parts_nowhere : (text : List ℕ) (at : ℕ) → IsPassed text at → length text ≤ at → (before_parting (lines text) ≡ text) × (after_parting (lines text) ≡ [])
 unfolding before_parting after_parting lines

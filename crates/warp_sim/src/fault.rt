@@ -1,7 +1,12 @@
 //! Why a run ends without a dump.
 ghost use Rattle.std.specs.Prelude.{◌≡◌, Some};
 ghost use Rattle.warp_sim.specs.FaultLines.{
-    place_word, fault_line, status_of, bench_fault, settings_fault, stimulus_fault
+  place_word,
+  fault_line,
+  status_of,
+  bench_fault,
+  settings_fault,
+  stimulus_fault,
 };
 ghost use Rattle.warp_sim.specs.declared.fault.Fault.TheVariants as faults;
 
