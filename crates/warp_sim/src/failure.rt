@@ -5,7 +5,7 @@ ghost use Rattle.warp_sim.specs.declared.failure.Failure.TheVariants as failures
 ghost use Rattle.warp_sim.specs.declared.fault.Fault.TheVariants as faults;
 
 use crate::fault::Fault;
-use std::alloc::AllocError;
+use std::alloc::{AllocError, Global};
 use std::fmt;
 
 /// Why the program ends without a text on standard output.
@@ -25,7 +25,15 @@ pub enum Failure<'a> {
     Unwritten,
 }
 
-impl Failure<'_> {
+impl<'a> Failure<'a> {
+    /// The failure of a line that the program refuses itself, with a text that says why.
+    pub fn line(alloc: Global, text: &str) -> Failure<'a> {
+        match String::from_str(alloc, text) {
+            Ok(text) => Failure::Line(text),
+            Err(_) => Failure::Fault(Fault::Memory),
+        }
+    }
+
     /// The program's exit status: 2 for a refused line, 4 for a file or a write, else the fault's.
     pub fn status(&self) -> u8
         ensures { result ≡ failure_status self.now }

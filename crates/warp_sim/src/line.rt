@@ -76,10 +76,7 @@ fn sources_of<'a>(bench: &'a str, stimulus: Option<&'a str>) -> Result<Sources<'
 
 /// The failure of a line that lacks what its command requires. `clap` refuses such a line before.
 fn incomplete<'a>(alloc: Global) -> Failure<'a> {
-    match String::from_str(alloc, "the line is incomplete\n") {
-        Ok(text) => Failure::Line(text),
-        Err(_) => Failure::Fault(Fault::Memory),
-    }
+    Failure::line(alloc, "the line is incomplete\n")
 }
 
 fn run_request<'a>(alloc: Global, found: &ArgMatches<'a>) -> Result<Request<'a>, Failure<'a>> {

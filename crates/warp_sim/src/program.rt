@@ -1,7 +1,7 @@
 //! The program, over texts that are handed in and writers that may fail.
 ghost use Rattle.std.specs.Prelude.{◌≡◌, ◌⊎◌, OnOk};
 ghost use Rattle.std.specs.Io.KnownBytes.{Appends};
-ghost use Rattle.warp_sim.specs.Failures.{failure_status};
+ghost use Rattle.warp_sim.specs.Failures.{failure_status, failure_text};
 ghost use Rattle.warp_sim.specs.Endings.{IsShown, Executes, Refuses};
 ghost use Rattle.warp_sim.specs.declared.request.Request.{Request as ARequest};
 
@@ -21,16 +21,27 @@ fn write_text<O: Write>(out: &mut O, text: &[u8]) -> io::Result<()>
     out.flush()
 }
 
+fn write_failure<E: Write>(err: &mut E, failure: &Failure<'_>) -> io::Result<()>
+    ensures { OnOk result (Appends (E.contents err.old) (E.contents err.new) (failure_text failure.now)) }
+{
+    write!(err, "{failure}")
+}
+
+/// Tells a failure; where it can't be told, the status stays.
 fn fail<E: Write>(err: &mut E, failure: &Failure<'_>) -> u8
     ensures { result ≡ failure_status failure.now }
 {
-    let _ = write!(err, "{failure}");
+    let _ = write_failure(err, failure);
     failure.status()
 }
 
 /// Shows what a request is answered: the text on `out`, or the failure's on `err`. Answers the
 /// program's exit status.
-fn show<O: Write, E: Write>(reply: &Result<Vec<u8>, Failure<'_>>, out: &mut O, err: &mut E) -> u8
+pub fn show<O: Write, E: Write>(
+    reply: &Result<Vec<u8>, Failure<'_>>,
+    out: &mut O,
+    err: &mut E,
+) -> u8
     ensures { IsShown reply.now result (O.contents out.old) (O.contents out.new) }
 {
     match reply {
