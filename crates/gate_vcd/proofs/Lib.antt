@@ -3,5 +3,7 @@ pub mod DumpRows
 pub mod Writing
 pub mod SameEntries
 pub mod Stops
+pub mod WaveValues
+pub mod DumpLaws
 pub mod Coding
 pub mod Waving
