@@ -1,14 +1,15 @@
 -- Laws of the text of a dump: one net or one time more; what it depends on; how long it is.
-use Rattle.std.proofs.Common.{◌≡◌, ℕ, zero, suc, ◌+◌, ◌*◌, ◌<◌, ◌≤◌, ◌^◌, Bool, true, false, cond, not, ◌||◌, nat_eq, nat_lt, ◌-◌, ◌/◌, ◌%◌, List, [], ◌∷◌, ◌++◌, length, get_or, refl, ap, sym, ◌∙◌, arith, add-one, length-append}
+use Rattle.std.proofs.Common.{◌≡◌, ℕ, zero, suc, ◌+◌, ◌*◌, ◌<◌, ◌≤◌, ◌^◌, Bool, true, false, cond, not, ◌||◌, nat_eq, List, [], ◌∷◌, ◌++◌, length, get_or, refl, ap, sym, ◌∙◌, arith, add-one, length-append}
 use Rattle.std.specs.Prelude.{codes, decimal}
 use Rattle.std.proofs.lemmas.Fmt.{length-decimal-le}
 use Rattle.gate_values.specs.declared.logic.Logic.{Logic}
 use Rattle.gate_values.specs.declared.logic.Change.{Change}
 use Rattle.gate_values.specs.Changes.{same, just_before, changes}
 use Rattle.gate_vcd.specs.declared.timescale.Timescale.{Timescale}
-use Rattle.gate_vcd.specs.Codes.{code_within, code_of}
+use Rattle.gate_vcd.specs.Codes.{code_of}
 use Rattle.gate_vcd.specs.Waves.{wave_of, wave_value}
 use Rattle.gate_vcd.specs.Dump.{stamp, value_line, var_line, var_lines, first_lines, has_change, some_change, change_lines, moment, moments, dump_text}
+use Rattle.gate_vcd.proofs.Coding.{length-code_of}
 use Rattle.gate_vcd.proofs.WaveValues.{latest-changes}
 
 pub var_lines-none : (names : List (List ℕ)) → var_lines names 0 ≡ []
@@ -77,23 +78,15 @@ dump_text-waves top names scale lists f horizon are =
     dump_text-agree top names scale (wave_value lists) f horizon (λ n t h k. rw (are n h) (latest-changes (f n) (horizon + 1) t (omega arith)))
 
 -- ---- how long it is
-length-code_within : (k n : ℕ) → length (code_within k n) ≤ k
-length-code_within zero n = omega arith
-length-code_within (suc k) n = go (nat_lt n 94) (length-code_within k (n / 94 - 1))
-  where
-    go : (b : Bool) → length (code_within k (n / 94 - 1)) ≤ k → length (cond b ((33 + n) ∷ []) ((33 + n % 94) ∷ code_within k (n / 94 - 1))) ≤ suc k
-    go true h = omega arith
-    go false h = omega arith
-
 length-value_line : (v : Logic) (n : ℕ) → length (value_line v n) ≤ 6
-length-value_line v n = omega (arith, length-append (code_of n) (codes "\n"), length-code_within 4 n)
+length-value_line v n = omega (arith, length-append (code_of n) (codes "\n"), length-code_of n)
 
 length-stamp : (t : ℕ) → t ≤ 2 ^ 40 → length (stamp t) ≤ 22
 length-stamp t h = grind (arith, length-append, length-decimal-le 20 t)
 
 -- a line of a name that lies in memory
 pub length-var_line : (n : ℕ) (name : List ℕ) → length name < 2 ^ 64 → length (var_line n name) ≤ 2 ^ 65
-length-var_line n name h = grind (arith, length-append, length-code_within 4 n)
+length-var_line n name h = grind (arith, length-append, length-code_of n)
 
 length-first_lines : (v : ℕ → ℕ → Logic) (n : ℕ) → length (first_lines v n) ≤ 6 * n
 unfolding first_lines

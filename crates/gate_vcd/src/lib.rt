@@ -3,6 +3,7 @@
 
 mod codes;
 mod fault;
+mod lines;
 mod put;
 mod sink;
 mod stimulus;
