@@ -6,9 +6,12 @@ use Rattle.gate_values.specs.declared.logic.Logic.{Logic}
 use Rattle.gate_values.specs.declared.logic.Change.{Change}
 use Rattle.gate_values.specs.Changes.{same, just_before, changes}
 use Rattle.gate_vcd.specs.declared.timescale.Timescale.{Timescale}
+use Rattle.gate_vcd.specs.declared.timescale.Unit.{Unit}
+use Rattle.gate_vcd.specs.declared.timescale.Unit.TheVariants as units
+use Rattle.gate_vcd.specs.Timescales.{unit_name}
 use Rattle.gate_vcd.specs.Codes.{code_of}
 use Rattle.gate_vcd.specs.Waves.{wave_of, wave_value}
-use Rattle.gate_vcd.specs.Dump.{stamp, value_line, var_line, var_lines, first_lines, has_change, some_change, change_lines, moment, moments, dump_text}
+use Rattle.gate_vcd.specs.Dump.{stamp, value_line, var_line, var_lines, timescale_line, scope_line, header, first_lines, has_change, some_change, change_lines, moment, moments, dump_text}
 use Rattle.gate_vcd.proofs.Coding.{length-code_of}
 use Rattle.gate_vcd.proofs.WaveValues.{latest-changes}
 
@@ -122,3 +125,24 @@ length-moments v nets horizon (suc t) h k =
 pub length-below : (v : ℕ → ℕ → Logic) (nets horizon : ℕ) → nets ≤ 1000000 → horizon ≤ 2 ^ 40 → length (first_lines v nets ++ (codes "$end\n" ++ moments v nets horizon horizon)) ≤ 2 ^ 64
 length-below v nets horizon h k =
     omega (arith, length-append (first_lines v nets) (codes "$end\n" ++ moments v nets horizon horizon), length-append (codes "$end\n") (moments v nets horizon horizon), length-first_lines v nets, length-moments v nets horizon horizon h k)
+
+length-unit_name : (u : Unit) → length (unit_name u) ≤ 2
+length-unit_name units.S = omega arith
+length-unit_name units.Ms = omega arith
+length-unit_name units.Us = omega arith
+length-unit_name units.Ns = omega arith
+length-unit_name units.Ps = omega arith
+length-unit_name units.Fs = omega arith
+
+length-timescale_line : (scale : Timescale) → scale.number < 2 ^ 64 → length (timescale_line scale) ≤ 2 ^ 10
+length-timescale_line scale h = grind (arith, length-append, length-unit_name scale.unit, length-decimal-le 20 scale.number)
+
+length-scope_line : (top : List ℕ) → length top < 2 ^ 64 → length (scope_line top) ≤ 2 ^ 65
+length-scope_line top h = grind (arith, length-append)
+
+-- what stands above the values
+pub length-header : (top : List ℕ) (names : List (List ℕ)) (scale : Timescale) → length top < 2 ^ 64 → scale.number < 2 ^ 64 → length (var_lines names (length names)) ≤ 2 ^ 85 → length (header top names scale) ≤ 2 ^ 90
+unfolding header
+length-header top names scale a b c =
+    let rest = codes "$upscope $end\n$enddefinitions $end\n#0\n$dumpvars\n" in
+    omega (arith, length-append (timescale_line scale) (scope_line top ++ (var_lines names (length names) ++ rest)), length-append (scope_line top) (var_lines names (length names) ++ rest), length-append (var_lines names (length names)) rest, length-timescale_line scale b, length-scope_line top a)

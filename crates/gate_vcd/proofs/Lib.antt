@@ -5,5 +5,6 @@ pub mod SameEntries
 pub mod Stops
 pub mod WaveValues
 pub mod DumpLaws
+pub mod Walking
 pub mod Coding
 pub mod Waving

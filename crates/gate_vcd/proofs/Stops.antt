@@ -248,6 +248,22 @@ module _ (value : ℕ → ℕ → Logic) where
     | inr now ↦ (lookup-behind (at_stop s m) (all_stops nets t) _ (all_stops-late nets t s m (omega arith)) ∙ subst (λ (u : ℕ). lookup (at_stop s m) (stops_at u nets) ≡ change_option (value m) s) now (stops_at-here s m nets k))
   ]
 
+  stops_at-known : (nets t n : ℕ) → n ≤ nets → AllByRecursion (λ (s : Stop). s.0.1 < nets) (stops_at t n)
+  stops_at-known nets t zero h = tt
+  stops_at-known nets t (suc n) h = All-append (λ (s : Stop). s.0.1 < nets) (stops_at t n) _ (stops_at-known nets t n (omega arith)) (go (has_change value t n))
+    where
+      go : (b : Bool) → AllByRecursion (λ (s : Stop). s.0.1 < nets) (cond b (((t, n), value n t) ∷ []) [])
+      go true = (omega arith, tt)
+      go false = tt
+
+  all_stops-known : (nets t : ℕ) → AllByRecursion (λ (s : Stop). s.0.1 < nets) (all_stops nets t)
+  all_stops-known nets zero = tt
+  all_stops-known nets (suc t) = All-append (λ (s : Stop). s.0.1 < nets) (all_stops nets t) (stops_at t nets) (all_stops-known nets t) (stops_at-known nets t nets (omega arith))
+
+  -- they are of the nets that there are
+  pub known_below : (nets most t : ℕ) → nets ≤ most → AllByRecursion (λ (s : Stop). s.0.1 < most) (all_stops nets t)
+  known_below nets most t h = All-weaker (λ (s : Stop). s.0.1 < nets) (λ (s : Stop). s.0.1 < most) (all_stops nets t) (λ s l. omega arith) (all_stops-known nets t)
+
   -- ---- they are in order
   record InOrder (t n : ℕ) (xs : List Stop) : Type 0 where
     sorted : IsStrictlySortedBy by_time (keys_of xs)

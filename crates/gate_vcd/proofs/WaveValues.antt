@@ -1,5 +1,5 @@
 -- The values that waves give, and the changes of a function as a wave.
-use Rattle.std.proofs.Common.{◌≡◌, ◌≢◌, ℕ, zero, suc, ◌+◌, ◌<◌, ◌≤◌, ◌⊎◌, inl, inr, Bool, true, false, cond, nat_eq, nat_le, Option, Some, None, List, [], ◌∷◌, ◌++◌, length, refl, ap, sym, ◌∙◌, subst, arith, add-one}
+use Rattle.std.proofs.Common.{◌≡◌, ◌≢◌, ℕ, zero, suc, ◌+◌, ◌<◌, ◌≤◌, ◌⊎◌, inl, inr, Bool, true, false, cond, nat_eq, nat_le, Option, Some, None, List, [], ◌∷◌, ◌++◌, length, get_or, refl, ap, sym, ◌∙◌, subst, arith}
 use Rattle.std.proofs.lemmas.Bool.Decides.{nat_tests}
 use Rattle.std.proofs.lemmas.List.{append-nil, get_or_past}
 use Rattle.std.specs.BTreeMap.{BTreeMap, get, IsOrdered}
@@ -167,3 +167,22 @@ changes-IsWave f (suc b) = go (same (f b) (just_before f b)) refl (changes-IsWav
       where
         differ : same (f b) (just_before f b) ≡ false → f b ≡ just_before f b → ⊥
         differ e equal = let both : same (just_before f b) (just_before f b) ≡ false = rw equal at e in let both_too : true ≡ false = sym (same_refl (just_before f b)) ∙ both in cc
+
+-- the value at 0, by the first change
+pub first-none : (cs : List Change) → length cs ≡ 0 → X ≡ latest X cs 0
+first-none [] e = sym (latest-none X 0)
+first-none (c ∷ cs) e = absurd (omega arith)
+
+pub first-later : (cs : List Change) (d : Change) → IsWave cs → 0 < length cs → (get_or cs 0 d).time ≢ 0 → X ≡ latest X cs 0
+first-later [] d w h late = absurd (omega arith)
+first-later (c ∷ cs) d w h late =
+    let later : 0 < c.time = omega arith in
+    sym (latest-later X c cs 0 later ∙ latest-early (c.time + 1) c.value X cs 0 w.2 (omega arith))
+
+pub first-now : (cs : List Change) (d : Change) → IsWave cs → 0 < length cs → (get_or cs 0 d).time ≡ 0 → (get_or cs 0 d).value ≡ latest X cs 0
+first-now [] d w h now = absurd (omega arith)
+first-now (c ∷ cs) d w h now =
+    let le : c.time ≤ 0 = omega arith in
+    sym (latest-since X c cs 0 le ∙ latest-early (c.time + 1) c.value c.value cs 0 w.2 (omega arith))
+
+pub ruleset first_values = (first-none, first-later, first-now)

@@ -2,6 +2,7 @@
 #![tactic(auto)]
 
 mod codes;
+mod dump;
 mod fault;
 mod lines;
 mod put;
@@ -11,6 +12,7 @@ mod timescale;
 mod waves;
 
 pub use codes::code;
+pub use dump::write_vcd;
 pub use fault::{StimCause, StimFault, WriteFault};
 pub use sink::{Grow, Sink};
 pub use stimulus::Stimulus;
