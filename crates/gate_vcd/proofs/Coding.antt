@@ -1,5 +1,5 @@
 -- Laws of codes.
-use Rattle.std.proofs.Common.{◌≡◌, ℕ, zero, suc, ◌+◌, ◌-◌, ◌*◌, ◌/◌, ◌%◌, ◌<◌, ◌≤◌, ◌⊎◌, inl, inr, Bool, true, false, cond, nat_lt, List, [], ◌∷◌, get_or, refl, ap, sym, ◌∙◌, arith}
+use Rattle.std.proofs.Common.{◌≡◌, ℕ, zero, suc, ◌+◌, ◌-◌, ◌*◌, ◌/◌, ◌%◌, ◌<◌, ◌≤◌, ◌⊎◌, inl, inr, Bool, true, false, cond, nat_lt, List, [], ◌∷◌, length, refl, ap, sym, ◌∙◌, arith}
 use Rattle.std.proofs.lemmas.Bool.Decides.{nat_tests}
 use Rattle.gate_vcd.specs.Codes.{code_within, code_of}
 
@@ -17,10 +17,10 @@ lt_false n m h = grind (arith, nat_tests)
 lt_cases : (n m : ℕ) → (n < m) ⊎ (m ≤ n)
 lt_cases n m = grind arith
 
-pub code_within-short : (k n : ℕ) → n < 94 → code_within (suc k) n ≡ (33 + n) ∷ []
+code_within-short : (k n : ℕ) → n < 94 → code_within (suc k) n ≡ (33 + n) ∷ []
 code_within-short k n h = rw (lt_true n 94 h) refl
 
-pub code_within-long : (k n : ℕ) → 94 ≤ n → code_within (suc k) n ≡ (33 + n % 94) ∷ code_within k (n / 94 - 1)
+code_within-long : (k n : ℕ) → 94 ≤ n → code_within (suc k) n ≡ (33 + n % 94) ∷ code_within k (n / 94 - 1)
 code_within-long k n h = rw (lt_false n 94 h) refl
 
 fewer : (k n : ℕ) → n < room (suc k) → 94 ≤ n → n / 94 - 1 < room k
@@ -70,7 +70,25 @@ code_within-differ (suc k) m n a b e = elim (lt_cases m 94) [
 ]
 
 pub code_of-differ : (m n : ℕ) → m < 1000000 → n < 1000000 → code_of m ≡ code_of n → m ≡ n
+unfolding code_of
 code_of-differ m n a b e = code_within-differ 4 m n (omega arith) (omega arith) e
 
 pub code_of-long : (n : ℕ) → 94 ≤ n → n < 1000000 → code_of n ≡ (33 + n % 94) ∷ code_of (n / 94 - 1)
+unfolding code_of
 code_of-long n long h = code_within-long 3 n long ∙ ap (λ rest. (33 + n % 94) ∷ rest) (sym (code_within-more 3 (n / 94 - 1) (omega arith)))
+
+pub code_of-short : (n : ℕ) → n < 94 → code_of n ≡ (33 + n) ∷ []
+unfolding code_of
+code_of-short n h = code_within-short 3 n h
+
+length-code_within : (k n : ℕ) → length (code_within k n) ≤ k
+length-code_within zero n = omega arith
+length-code_within (suc k) n = go (nat_lt n 94) (length-code_within k (n / 94 - 1))
+  where
+    go : (b : Bool) → length (code_within k (n / 94 - 1)) ≤ k → length (cond b ((33 + n) ∷ []) ((33 + n % 94) ∷ code_within k (n / 94 - 1))) ≤ suc k
+    go true h = omega arith
+    go false h = omega arith
+
+pub length-code_of : (n : ℕ) → length (code_of n) ≤ 4
+unfolding code_of
+length-code_of n = length-code_within 4 n

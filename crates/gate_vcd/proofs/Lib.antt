@@ -1,5 +1,10 @@
 pub mod Latest
 pub mod DumpRows
 pub mod Writing
+pub mod SameEntries
+pub mod Stops
+pub mod WaveValues
+pub mod DumpLaws
+pub mod Walking
 pub mod Coding
 pub mod Waving

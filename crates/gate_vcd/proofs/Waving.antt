@@ -12,7 +12,9 @@ use Rattle.std.specs.Cmp.{IsTotalOrder}
 use Rattle.std.specs.Ordering.{nat_cmp, is_eq}
 use Rattle.std.specs.declared.cmp.Ordering.{Ordering}
 use Rattle.std.specs.declared.cmp.Ordering.TheVariants.{Less, Equal, Greater}
-use Rattle.std.specs.BTreeMap.{BTreeMap, get, is_at, Updates}
+use Rattle.std.specs.BTreeMap.{BTreeMap, get, is_at, IsOrdered, Updates}
+use Rattle.std.specs.List.Sorted.{IsStrictlySortedBy}
+use Rattle.std.specs.Map.{keys_of}
 use Rattle.gate_values.specs.declared.logic.Logic.{Logic}
 use Rattle.gate_values.specs.declared.logic.Logic.TheVariants.{X}
 use Rattle.gate_values.specs.declared.logic.Change.{Change}
@@ -113,10 +115,11 @@ module _ (lists : List (List Change)) (old new : BTreeMap (ℕ × ℕ) Logic) (n
   ]
 
   -- lists and order are in step again when both have the change
-  pub in_step-push : IsInStep lists old → net < length lists → Follows (wave_of lists net) c → Updates by_time old new (c.time, net) (Some c.value) → (all : List (List Change)) → all ≡ pushed → IsInStep all new
-  in_step-push is known follows updates all e = rw e (record {
+  pub in_step-push : IsInStep lists old → net < length lists → Follows (wave_of lists net) c → Updates by_time old new (c.time, net) (Some c.value) → IsOrdered by_time new → (all : List (List Change)) → all ≡ pushed → IsInStep all new
+  in_step-push is known follows updates sorted all e = rw e (record {
     few = omega (arith, is.few, length-set lists net (wave_of lists net ++ c ∷ []));
     waves = waves_push is.waves known follows;
+    sorted = sorted;
     in_step = order_push is.in_step updates known (pair_at-end 0 X (wave_of lists net) c.time (is.waves net) follows.0);
   })
 
@@ -125,6 +128,7 @@ pub in_step-kept : (lists all : List (List Change)) (old new : BTreeMap (ℕ × 
 in_step-kept lists all old new is e same = rw e (record {
   few = is.few;
   waves = is.waves;
+  sorted = subst (λ es. IsStrictlySortedBy by_time (keys_of es)) (sym same) is.sorted;
   in_step = λ t n. rw same (is.in_step t n);
 })
 
@@ -134,10 +138,11 @@ wave_of-none (suc count) zero = refl
 wave_of-none (suc count) (suc n) = wave_of-none count n
 
 -- lists without a change, and an order without a place
-pub in_step-none : (count : ℕ) (all : List (List Change)) (order : BTreeMap (ℕ × ℕ) Logic) → count < 2 ^ 32 → all ≡ replicate count [] → order.entries ≡ [] → IsInStep all order
-in_step-none count all order small e none = rw e (record {
+pub in_step-none : (count : ℕ) (all : List (List Change)) (order : BTreeMap (ℕ × ℕ) Logic) → count < 2 ^ 32 → all ≡ replicate count [] → order.entries ≡ [] → IsOrdered by_time order → IsInStep all order
+in_step-none count all order small e none sorted = rw e (record {
   few = omega (arith, length-replicate {A = List Change} count []);
   waves = λ n. rw (wave_of-none count n) tt;
+  sorted = sorted;
   in_step = λ t n. rw (none, wave_of-none count n) refl;
 })
 

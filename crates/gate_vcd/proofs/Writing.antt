@@ -1,6 +1,6 @@
 -- Writes one behind another.
 use Rattle.std.proofs.Common.{◌≡◌, ℕ, zero, suc, ◌+◌, ◌-◌, ◌<◌, ◌≤◌, ◌^◌, ◌∙◌, ◌==◌, Bool, true, false, List, [], ◌∷◌, ◌++◌, length, take, drop, Some, refl, ap, sym, arith, length-append, append_assoc, suc-add}
-use Rattle.std.proofs.lemmas.List.{take-append-le, take_rest, take_all}
+use Rattle.std.proofs.lemmas.List.{append-nil, take-append-le, take_rest, take_all}
 use Rattle.std.proofs.lemmas.Bool.{ne_eqb}
 use Rattle.std.proofs.Math.Seq.{take-append-add}
 use Rattle.gate_vcd.specs.Sink.{Held, Writes, is_failure}
@@ -91,3 +91,11 @@ writes_then {a} {b} {c} {n} {m} {k} {s} {t} x y = record {
               omega (arith, first, second),
         )
 
+
+-- nothing went in
+pub writes_none : (a : Held) (n : ℕ) → Writes a a n [] n
+writes_none a n = record {
+  skipped = λ _. (refl, refl);
+  whole = λ h. (h, sym (append-nil a.bytes), λ _. omega arith);
+  part = λ sound failed. apart a.failed failed sound;
+}

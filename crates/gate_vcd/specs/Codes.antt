@@ -8,5 +8,5 @@ code_within zero n = []
 code_within (suc bytes) n = if nat_lt n 94 then (33 + n) ∷ [] else (33 + n % 94) ∷ code_within bytes (n / 94 - 1)
 
 -- the code of a net below 1,000,000
-abbrev pub code_of : ℕ → List ℕ
+unfoldable pub code_of : ℕ → List ℕ
 code_of n = code_within 4 n

@@ -6,6 +6,8 @@ use Rattle.gate_values.specs.Changes.{same, just_before}
 use Rattle.gate_vcd.specs.declared.timescale.Timescale.{Timescale}
 use Rattle.gate_vcd.specs.Timescales.{unit_name}
 use Rattle.gate_vcd.specs.Codes.{code_of}
+use Rattle.gate_vcd.specs.Given.{Given}
+use Rattle.gate_netlist.specs.Circuit.{Design}
 
 -- the letter of a value: 0, 1, x or z
 abbrev pub letter : Logic → ℕ
@@ -78,3 +80,7 @@ module _ (value : ℕ → ℕ → Logic) where
 unfoldable pub dump_text : List ℕ → List (List ℕ) → Timescale → (ℕ → ℕ → Logic) → ℕ → List ℕ
 dump_text top names scale value horizon =
     header top names scale ++ (first_lines value (length names) ++ (codes "$end\n" ++ moments value (length names) horizon horizon))
+
+-- the dump of a circuit: its nets' names, the stimulus's timescale, and values
+abbrev pub vcd_text : List ℕ → Design → Given → (ℕ → ℕ → Logic) → ℕ → List ℕ
+vcd_text top design given value horizon = dump_text top design.names given.timescale value horizon

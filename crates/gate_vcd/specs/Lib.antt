@@ -8,3 +8,4 @@ pub mod Codes
 pub mod Waves
 pub mod HeldWaves
 pub mod Dump
+pub mod Walk

@@ -2,6 +2,7 @@ ghost use Rattle.std.specs.Prelude.{◌≡◌, ◌<◌, ◌≤◌, ◌+◌, ◌-
 ghost use Rattle.gate_vcd.specs.Codes.{code_of};
 
 /// The code of a net in a dump, and how many bytes it has: 1 to 4 of the bytes 33 to 126.
+#[tactic(auto, unfolding(crate::specs::Codes::code_of))]
 pub fn code(n: u32) -> ([u8; 4], usize)
     requires { n < 1000000 }
     ensures bytes { take result.1 result.0 ≡ code_of n }

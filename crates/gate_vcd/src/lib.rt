@@ -2,7 +2,9 @@
 #![tactic(auto)]
 
 mod codes;
+mod dump;
 mod fault;
+mod lines;
 mod put;
 mod sink;
 mod stimulus;
@@ -10,6 +12,7 @@ mod timescale;
 mod waves;
 
 pub use codes::code;
+pub use dump::write_vcd;
 pub use fault::{StimCause, StimFault, WriteFault};
 pub use sink::{Grow, Sink};
 pub use stimulus::Stimulus;

@@ -1,5 +1,6 @@
 ghost use Rattle.std.specs.Prelude.{◌≡◌, ℕ, ◌<◌, ◌++◌, [], ◌∷◌, length, IfOk, OnOk, OnErr, slice_set, replicate};
-ghost use Rattle.gate_vcd.specs.Waves.{wave_of, Follows, IsWave, IsOrderOf};
+ghost use Rattle.gate_vcd.specs.Waves.{wave_of, Follows, IsWave, by_time, IsOrderOf};
+ghost use Rattle.std.specs.BTreeMap.{IsOrdered};
 
 use gate_values::{Change, Logic};
 use std::alloc::{AllocError, Global};
@@ -80,7 +81,8 @@ impl Waves {
 
     /// All changes by time, and at one time by net.
     pub(crate) fn order(&self) -> &BTreeMap<(u64, u32), Logic>
-        ensures { IsOrderOf self.now result.now }
+        ensures sorted { IsOrdered by_time result.now }
+        ensures in_step { IsOrderOf self.now result.now }
     {
         &self.order
     }

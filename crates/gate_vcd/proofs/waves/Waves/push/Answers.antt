@@ -29,7 +29,7 @@ invariant_of-self-2 c =
     let kept = lists-kept (λ list. list.items) c.self.inside.lists.items c.args.net c.reserve.new.self c.index_mut.result.now c.index_mut.ensures.value c.reserve.ensures.items in
     let known : c.args.net < length (map (λ list. list.items) c.self.inside.lists.items) = rw c.self.view_is c.requires.known in
     let longer = lists-push (λ list. list.items) c.self.inside.lists.items c.args.net c.reserve.new.self c.index_mut-2.result.now c.push_reserved.new.self c.args.change known kept c.index_mut-2.ensures.value c.push_reserved.ensures.items in
-    in_step-push _ _ c.insert.new.self c.args.net c.args.change c.self.invariant known (rw c.self.view_is c.requires.follows) c.in_ok-insert.ensures.updates _ longer
+    in_step-push _ _ c.insert.new.self c.args.net c.args.change c.self.invariant known (rw c.self.view_is c.requires.follows) c.in_ok-insert.ensures.updates c.in_ok-insert.ensures.ordered _ longer
 
 pub returns-clause-ok : goal.returns-clause-ok
 returns-clause-ok c =
