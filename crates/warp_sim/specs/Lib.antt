@@ -6,3 +6,4 @@ pub mod CountLines
 pub mod Replies
 pub mod Line
 pub mod Endings
+pub mod Plain

@@ -2,8 +2,11 @@
 #![tactic(auto)]
 
 mod counts;
+mod dump;
+mod evaluate;
 mod failure;
 mod fault;
+mod fill;
 mod joined;
 mod line;
 mod outside;
