@@ -8,3 +8,4 @@ pub mod DumpLaws
 pub mod Walking
 pub mod Coding
 pub mod Waving
+pub mod Following

@@ -1,4 +1,4 @@
-ghost use Rattle.std.specs.Prelude.{◌≡◌, ℕ, ◌<◌, ◌++◌, [], ◌∷◌, length, IfOk, OnOk, OnErr, slice_set, replicate};
+ghost use Rattle.std.specs.Prelude.{◌≡◌, ◌≢◌, ℕ, ◌<◌, ◌++◌, [], ◌∷◌, length, IfOk, OnOk, OnErr, IsTrue, ◌↔◌, slice_set, replicate};
 ghost use Rattle.gate_vcd.specs.Waves.{wave_of, Follows, IsWave, by_time, IsOrderOf};
 ghost use Rattle.std.specs.BTreeMap.{IsOrdered};
 
@@ -26,6 +26,12 @@ impl Model for Waves {
     ghost view = { lists_of };
 
     ghost invariant = { λ w. IsInStep (lists_of w) w.order };
+}
+
+fn differs(value: Logic, other: Logic) -> bool
+    ensures { IsTrue result ↔ (value ≢ other) }
+{
+    value != other
 }
 
 impl Waves {
@@ -63,6 +69,22 @@ impl Waves {
         ensures { result.now ≡ wave_of self.now net }
     {
         self.lists[net as usize].as_slice()
+    }
+
+    /// Whether a change may be pushed: it is later than the last one of the net, and of another value.
+    pub fn follows(&self, net: u32, change: Change) -> bool
+        requires { net < length self.now }
+        ensures { IsTrue result ↔ Follows (wave_of self.now net) change }
+    {
+        match self.changes(net) {
+            [] => change.value != Logic::X,
+            [.., last] => {
+                if change.time <= last.time {
+                    return false;
+                }
+                differs(change.value, last.value)
+            }
+        }
     }
 
     /// Appends a change to those of a net. After an error nothing has changed.
