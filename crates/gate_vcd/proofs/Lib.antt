@@ -6,5 +6,6 @@ pub mod Stops
 pub mod WaveValues
 pub mod DumpLaws
 pub mod Walking
+pub mod Arrays
 pub mod Coding
 pub mod Waving
