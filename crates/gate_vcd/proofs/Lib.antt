@@ -1,5 +1,6 @@
 pub mod Latest
 pub mod DumpRows
+pub mod Compared
 pub mod Writing
 pub mod SameEntries
 pub mod Stops

@@ -11,27 +11,7 @@ use Rattle.gate_values.proofs.ChangeLists.{change_option, same_refl, same_is, la
 use Rattle.gate_vcd.specs.Waves.{wave_of, wave_value, end_time, IsWaveFrom, IsWave, IsUntil, by_time, IsOrderOf}
 use Rattle.gate_vcd.proofs.Waving.{pair_at-end, IsWaveFrom-push}
 use Rattle.gate_vcd.proofs.Stops.{all_stops, entries_are}
-
-le_true : (s t : ℕ) → s ≤ t → nat_le s t ≡ true
-le_true s t h = grind (arith, nat_tests)
-
-le_false : (s t : ℕ) → t < s → nat_le s t ≡ false
-le_false s t h = grind (arith, nat_tests)
-
-eq_true : (s t : ℕ) → s ≡ t → nat_eq s t ≡ true
-eq_true s t h = grind (arith, nat_tests)
-
-eq_false : (s t : ℕ) → s ≢ t → nat_eq s t ≡ false
-eq_false s t h = grind (arith, nat_tests)
-
-cases_lt : (s t : ℕ) → (s < t) ⊎ (t ≤ s)
-cases_lt s t = grind arith
-
-cases_three : (s t : ℕ) → (t < s) ⊎ ((s ≡ t) ⊎ (s < t))
-cases_three s t = grind arith
-
-cases_below : (s t : ℕ) → s < suc t → (s < t) ⊎ (s ≡ t)
-cases_below s t h = grind arith
+use Rattle.gate_vcd.proofs.Compared.{eq_true, eq_false, le_true, le_false, cases_three, cases_below}
 
 same_not : (v w : Logic) → v ≢ w → same v w ≡ false
 same_not v w h = go (same v w) refl

@@ -10,6 +10,8 @@ mod sink;
 mod stimulus;
 mod timescale;
 mod waves;
+#[cfg(test)]
+mod writer_tests;
 
 pub use codes::code;
 pub use dump::write_vcd;
