@@ -1,4 +1,5 @@
-ghost use Rattle.std.specs.Prelude.{◌≡◌};
+ghost use Rattle.std.specs.Prelude.{◌≡◌, ℕ, IfOk, length};
+ghost use Rattle.gate_vcd.specs.Waves.{wave_of, IsUntil};
 
 use crate::dump::put_moments;
 use crate::{Grow, Sink, Waves, code};
@@ -33,24 +34,28 @@ fn a_growing_sink_takes_all(rt: HostRuntime) -> Result<(), Fail> {
     Ok(())
 }
 
-/// A sink that takes 30 bytes and then fails.
+/// A sink that takes so many bytes as it has room for, and then fails.
 #[derive(Drop)]
-struct Thirty {
-    taken: Vec<u8>,
-    failed: bool,
+pub struct Short {
+    pub taken: Vec<u8>,
+    pub room: usize,
+    pub failed: bool,
 }
 
-impl Sink for Thirty {
+impl Sink for Short {
     ghost held = { λ sink. record { bytes = sink.taken.items; failed = sink.failed } };
 
     fn put(&mut self, bytes: &[u8]) -> Option<usize> {
-        let count = bytes.len().min(30usize.saturating_sub(self.taken.len()));
+        let count = bytes.len().min(self.room);
         if count == 0 {
             self.failed = true;
             return None;
         }
         match self.taken.extend_from_slice(&bytes[..count]) {
-            Ok(()) => Some(count),
+            Ok(()) => {
+                self.room -= count;
+                Some(count)
+            }
             Err(_) => {
                 self.failed = true;
                 None
@@ -64,7 +69,10 @@ impl Sink for Thirty {
 }
 
 /// The waves of an inverter: an input that is 0 at 0 and 1 at 5, and its inverse one time later.
-fn by_net(alloc: Global) -> Result<Waves, Fail> {
+pub fn by_net(alloc: Global) -> Result<Waves, Fail>
+    ensures nets { IfOk result (λ waves. length waves ≡ 2) }
+    ensures until { IfOk result (λ waves. (n : ℕ) → IsUntil 10 (wave_of waves n)) }
+{
     let mut waves = Waves::new(alloc, 2)?;
     waves.push(0, at(0, Logic::Zero))?;
     waves.push(0, at(5, Logic::One))?;
@@ -96,5 +104,32 @@ fn waves_in_either_order(rt: HostRuntime) -> Result<(), Fail> {
         assert!(rt; waves.changes(0) == [at(0, Logic::Zero), at(5, Logic::One)].as_slice());
         assert!(rt; waves.changes(1) == [at(1, Logic::One), at(6, Logic::Zero)].as_slice());
     }
+    Ok(())
+}
+
+/// What the dump of these waves until 10 has after time 0.
+const LATER: &str = "#1\n1\"\n#5\n1!\n#6\n0\"\n#10\n";
+
+#[test]
+fn changes_go_into_a_growing_sink(rt: HostRuntime) -> Result<(), Fail> {
+    let waves = by_net(rt.alloc())?;
+    let mut sink = Grow::new(rt.alloc());
+    let written = put_moments(&mut sink, 0, &waves, 10);
+    assert!(rt; written == LATER.len() as u128);
+    assert!(rt; sink.into_vec().as_slice() == LATER.as_bytes());
+    Ok(())
+}
+
+#[test]
+fn changes_stop_where_the_sink_fails(rt: HostRuntime) -> Result<(), Fail> {
+    let waves = by_net(rt.alloc())?;
+    let mut sink = Short {
+        taken: Vec::new(rt.alloc()),
+        room: 11,
+        failed: false,
+    };
+    let written = put_moments(&mut sink, 0, &waves, 10);
+    assert!(rt; written == 11 && sink.failed());
+    assert!(rt; sink.taken.as_slice() == b"#1\n1\"\n#5\n1!".as_slice());
     Ok(())
 }
