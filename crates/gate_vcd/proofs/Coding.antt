@@ -2,20 +2,12 @@
 use Rattle.std.proofs.Common.{◌≡◌, ℕ, zero, suc, ◌+◌, ◌-◌, ◌*◌, ◌/◌, ◌%◌, ◌<◌, ◌≤◌, ◌⊎◌, inl, inr, Bool, true, false, cond, nat_lt, List, [], ◌∷◌, length, refl, ap, sym, ◌∙◌, arith}
 use Rattle.std.proofs.lemmas.Bool.Decides.{nat_tests}
 use Rattle.gate_vcd.specs.Codes.{code_within, code_of}
+use Rattle.gate_vcd.proofs.Compared.{lt_true, lt_false, cases_lt}
 
 -- how many nets have a code of at most so many bytes
 abbrev room : ℕ → ℕ
 room zero = 0
 room (suc k) = 94 * (room k + 1)
-
-lt_true : (n m : ℕ) → n < m → nat_lt n m ≡ true
-lt_true n m h = grind (arith, nat_tests)
-
-lt_false : (n m : ℕ) → m ≤ n → nat_lt n m ≡ false
-lt_false n m h = grind (arith, nat_tests)
-
-lt_cases : (n m : ℕ) → (n < m) ⊎ (m ≤ n)
-lt_cases n m = grind arith
 
 code_within-short : (k n : ℕ) → n < 94 → code_within (suc k) n ≡ (33 + n) ∷ []
 code_within-short k n h = rw (lt_true n 94 h) refl
@@ -29,14 +21,14 @@ fewer k n h long = omega arith
 -- a byte more changes nothing
 code_within-more : (k n : ℕ) → n < room k → code_within (suc k) n ≡ code_within k n
 code_within-more zero n h = absurd (omega arith)
-code_within-more (suc k) n h = elim (lt_cases n 94) [
+code_within-more (suc k) n h = elim (cases_lt n 94) [
   | inl short ↦ code_within-short (suc k) n short ∙ sym (code_within-short k n short)
   | inr long ↦ code_within-long (suc k) n long ∙ ap (λ rest. (33 + n % 94) ∷ rest) (code_within-more k (n / 94 - 1) (fewer k n h long)) ∙ sym (code_within-long k n long)
 ]
 
 code_within-some : (k n : ℕ) → n < room k → code_within k n ≡ [] → ⊥
 code_within-some zero n h e = omega arith
-code_within-some (suc k) n h e = elim (lt_cases n 94) [
+code_within-some (suc k) n h e = elim (cases_lt n 94) [
   | inl short ↦ (let bad : (33 + n) ∷ [] ≡ [] = sym (code_within-short k n short) ∙ e in cc)
   | inr long ↦ (let bad : (33 + n % 94) ∷ code_within k (n / 94 - 1) ≡ [] = sym (code_within-long k n long) ∙ e in cc)
 ]
@@ -55,12 +47,12 @@ short_or_long k m n short long h e =
 
 code_within-differ : (k m n : ℕ) → m < room k → n < room k → code_within k m ≡ code_within k n → m ≡ n
 code_within-differ zero m n a b e = absurd (omega arith)
-code_within-differ (suc k) m n a b e = elim (lt_cases m 94) [
-  | inl s ↦ elim (lt_cases n 94) [
+code_within-differ (suc k) m n a b e = elim (cases_lt m 94) [
+  | inl s ↦ elim (cases_lt n 94) [
     | inl t ↦ (let both = sym (code_within-short k m s) ∙ e ∙ code_within-short k n t in let heads = same_head _ _ _ _ both in omega arith)
     | inr l ↦ absurd (short_or_long k m n s l b e)
   ]
-  | inr l ↦ elim (lt_cases n 94) [
+  | inr l ↦ elim (cases_lt n 94) [
     | inl t ↦ absurd (short_or_long k n m t l a (sym e))
     | inr r ↦ (let both = sym (code_within-long k m l) ∙ e ∙ code_within-long k n r in
         let heads : 33 + m % 94 ≡ 33 + n % 94 = same_head _ _ _ _ both in

@@ -10,11 +10,7 @@ use Rattle.std.specs.Ordering.{is_eq, ordering_reverse}
 use Rattle.std.specs.declared.cmp.Ordering.{Ordering}
 use Rattle.std.specs.declared.cmp.Ordering.TheVariants.{Less, Equal, Greater}
 use Rattle.std.specs.BTreeMap.{is_at}
-
-is_eq_Equal : (o : Ordering) → is_eq o ≡ true → o ≡ Equal
-is_eq_Equal Less e = cc
-is_eq_Equal Equal e = refl
-is_eq_Equal Greater e = cc
+use Rattle.gate_vcd.proofs.Compared.{is_eq_Equal}
 
 below_all : {K : Type 0} (R : K → K → Ordering) → IsTotalOrder R → (q k : K) (ks : List K) → R q k ≡ Less → AllByRecursion (λ j. R k j ≡ Less) ks → AllByRecursion (λ j. R q j ≡ Less) ks
 below_all R total q k [] h a = tt

@@ -17,24 +17,7 @@ use Rattle.gate_vcd.specs.Dump.{stamp, value_line, has_change, some_change, chan
 use Rattle.gate_vcd.specs.Waves.{by_time}
 use Rattle.gate_vcd.specs.Walk.{Stop, stop_lines, walked, last_stop, tail_line}
 use Rattle.gate_vcd.proofs.Waving.{at_place, at_other, by_time_total, by_time_exact}
-
-eq_true : (s t : ℕ) → s ≡ t → nat_eq s t ≡ true
-eq_true s t h = grind (arith, nat_tests)
-
-eq_false : (s t : ℕ) → s ≢ t → nat_eq s t ≡ false
-eq_false s t h = grind (arith, nat_tests)
-
-lt_true : (s t : ℕ) → s < t → nat_lt s t ≡ true
-lt_true s t h = grind (arith, nat_tests)
-
-lt_false : (s t : ℕ) → t ≤ s → nat_lt s t ≡ false
-lt_false s t h = grind (arith, nat_tests)
-
-cases_lt : (s t : ℕ) → (s < t) ⊎ (t ≤ s)
-cases_lt s t = grind arith
-
-cases_below : (s t : ℕ) → s < suc t → (s < t) ⊎ (s ≡ t)
-cases_below s t h = grind arith
+use Rattle.gate_vcd.proofs.Compared.{eq_true, eq_false, lt_true, lt_false, cases_eq, cases_lt, cases_below}
 
 -- what is written of two lists, one behind the other
 walked-append : (last : ℕ) (xs ys : List Stop) → walked last (xs ++ ys) ≡ walked last xs ++ walked (last_stop last xs) ys
@@ -237,9 +220,6 @@ module _ (value : ℕ → ℕ → Logic) where
         | inl now ↦ subst (λ (u : ℕ). lookup (at_stop s m) (stops_at u nets) ≡ None) now (stops_at-above s m nets h)
         | inr other ↦ stops_at-other s m t nets other
       ]
-    where
-      cases_eq : (a b : ℕ) → (a ≡ b) ⊎ (a ≢ b)
-      cases_eq a b = grind arith
 
   all_stops-here : (nets t s m : ℕ) → s < t → m < nets → lookup (at_stop s m) (all_stops nets t) ≡ change_option (value m) s
   all_stops-here nets zero s m h k = absurd (omega arith)

@@ -8,9 +8,7 @@ use Rattle.gate_vcd.specs.Sink.{Held, Writes}
 use Rattle.gate_vcd.specs.Dump.{stamp, value_line}
 use Rattle.gate_vcd.specs.Walk.{Stop, stop_lines, walked, last_stop, IsWalked}
 use Rattle.gate_vcd.proofs.Writing.{writes_then, writes_none}
-
-eq_false : (s t : ℕ) → (s ≡ t → ⊥) → nat_eq s t ≡ false
-eq_false s t h = grind (arith, nat_tests)
+use Rattle.gate_vcd.proofs.Compared.{eq_false}
 
 -- a change at a later time
 pub stop_lines-later : (last t n : ℕ) (v : Logic) → (t ≡ 0 → ⊥) → (t ≡ last → ⊥) → stop_lines last t n v ≡ stamp t ++ value_line v n

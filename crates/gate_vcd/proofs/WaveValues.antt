@@ -1,5 +1,5 @@
 -- The values that waves give, and the changes of a function as a wave.
-use Rattle.std.proofs.Common.{◌≡◌, ◌≢◌, ℕ, zero, suc, ◌+◌, ◌<◌, ◌≤◌, ◌⊎◌, inl, inr, Bool, true, false, cond, nat_eq, nat_le, Option, Some, None, List, [], ◌∷◌, ◌++◌, length, get_or, refl, ap, sym, ◌∙◌, subst, arith}
+use Rattle.std.proofs.Common.{◌≡◌, ◌≢◌, ℕ, zero, suc, ◌+◌, ◌<◌, ◌≤◌, ◌⊎◌, inl, inr, Bool, true, false, cond, nat_eq, nat_le, Option, Some, None, List, [], ◌∷◌, ◌++◌, length, get_or, take, refl, ap, sym, ◌∙◌, subst, arith}
 use Rattle.std.proofs.lemmas.Bool.Decides.{nat_tests}
 use Rattle.std.proofs.lemmas.List.{append-nil, get_or_past}
 use Rattle.std.specs.BTreeMap.{BTreeMap, get, IsOrdered}
@@ -8,30 +8,10 @@ use Rattle.gate_values.specs.declared.logic.Logic.TheVariants.{X}
 use Rattle.gate_values.specs.declared.logic.Change.{Change}
 use Rattle.gate_values.specs.Changes.{same, just_before, change_at, changes, latest, last_value, pair_at}
 use Rattle.gate_values.proofs.ChangeLists.{change_option, same_refl, same_is, last_value-changes}
-use Rattle.gate_vcd.specs.Waves.{wave_of, wave_value, end_time, IsWaveFrom, IsWave, IsUntil, by_time, IsOrderOf}
+use Rattle.gate_vcd.specs.Waves.{wave_of, wave_value, end_time, Follows, IsWaveFrom, IsWave, IsUntil, by_time, IsOrderOf}
 use Rattle.gate_vcd.proofs.Waving.{pair_at-end, IsWaveFrom-push}
 use Rattle.gate_vcd.proofs.Stops.{all_stops, entries_are}
-
-le_true : (s t : ℕ) → s ≤ t → nat_le s t ≡ true
-le_true s t h = grind (arith, nat_tests)
-
-le_false : (s t : ℕ) → t < s → nat_le s t ≡ false
-le_false s t h = grind (arith, nat_tests)
-
-eq_true : (s t : ℕ) → s ≡ t → nat_eq s t ≡ true
-eq_true s t h = grind (arith, nat_tests)
-
-eq_false : (s t : ℕ) → s ≢ t → nat_eq s t ≡ false
-eq_false s t h = grind (arith, nat_tests)
-
-cases_lt : (s t : ℕ) → (s < t) ⊎ (t ≤ s)
-cases_lt s t = grind arith
-
-cases_three : (s t : ℕ) → (t < s) ⊎ ((s ≡ t) ⊎ (s < t))
-cases_three s t = grind arith
-
-cases_below : (s t : ℕ) → s < suc t → (s < t) ⊎ (s ≡ t)
-cases_below s t h = grind arith
+use Rattle.gate_vcd.proofs.Compared.{eq_true, eq_false, le_true, le_false, cases_three, cases_below}
 
 same_not : (v w : Logic) → v ≢ w → same v w ≡ false
 same_not v w h = go (same v w) refl
@@ -186,3 +166,12 @@ first-now (c ∷ cs) d w h now =
     sym (latest-since X c cs 0 le ∙ latest-early (c.time + 1) c.value c.value cs 0 w.2 (omega arith))
 
 pub ruleset first_values = (first-none, first-later, first-now)
+
+-- each change of a wave follows those before it
+follows-from : (from : ℕ) (before : Logic) (cs : List Change) (i : ℕ) (d : Change) → IsWaveFrom from before cs → i < length cs → (end_time from (take i cs) ≤ (get_or cs i d).time) × ((get_or cs i d).value ≢ last_value before (take i cs))
+follows-from from before [] i d w h = absurd (omega arith)
+follows-from from before (c ∷ cs) zero d w h = (w.0, w.1)
+follows-from from before (c ∷ cs) (suc i) d w h = follows-from (c.time + 1) c.value cs i d w.2 (omega arith)
+
+pub Follows-take : (cs : List Change) (i : ℕ) (d : Change) → IsWave cs → i < length cs → Follows (take i cs) (get_or cs i d)
+Follows-take cs i d w h = follows-from 0 X cs i d w h

@@ -21,15 +21,7 @@ use Rattle.gate_values.specs.declared.logic.Change.{Change}
 use Rattle.gate_values.specs.Changes.{latest, last_value, pair_at}
 use Rattle.gate_vcd.specs.Waves.{wave_of, end_time, Follows, IsWaveFrom, IsWave, by_time, IsOrderOf}
 use Rattle.gate_vcd.specs.HeldWaves.{IsInStep}
-
-eq_true : (s t : ℕ) → s ≡ t → nat_eq s t ≡ true
-eq_true s t h = grind (arith, nat_tests)
-
-eq_false : (s t : ℕ) → s ≢ t → nat_eq s t ≡ false
-eq_false s t h = grind (arith, nat_tests)
-
-eq_cases : (s t : ℕ) → (s ≡ t) ⊎ (s ≢ t)
-eq_cases s t = grind arith
+use Rattle.gate_vcd.proofs.Compared.{eq_true, eq_false, cases_eq, is_eq_Equal}
 
 -- the order by time is a total one, and tells all places apart
 pub by_time_total : IsTotalOrder by_time
@@ -40,11 +32,6 @@ by_time_exact = exact_pairs nat_cmp nat_cmp exact_unsigned exact_unsigned
 
 pub at_place : (t n : ℕ) → is_at (by_time (t, n)) (t, n) ≡ true
 at_place t n = ap is_eq (tied_itself by_time_total (t, n))
-
-is_eq_Equal : (o : Ordering) → is_eq o ≡ true → o ≡ Equal
-is_eq_Equal Less e = cc
-is_eq_Equal Equal e = refl
-is_eq_Equal Greater e = cc
 
 pub at_other : (t n s m : ℕ) → (t ≡ s → n ≡ m → ⊥) → is_at (by_time (t, n)) (s, m) ≡ false
 at_other t n s m h = go (is_at (by_time (t, n)) (s, m)) refl
@@ -97,8 +84,8 @@ module _ (lists : List (List Change)) (old new : BTreeMap (ℕ × ℕ) Logic) (n
   pushed-other n h = grind (arith, common_steps)
 
   order_push : IsOrderOf lists old → Updates by_time old new (c.time, net) (Some c.value) → net < length lists → pair_at (wave_of lists net) c.time ≡ None → IsOrderOf pushed new
-  order_push was updates known free t n = updates.0 (t, n) ∙ elim (eq_cases net n) [
-    | inl same ↦ elim (eq_cases c.time t) [
+  order_push was updates known free t n = updates.0 (t, n) ∙ elim (cases_eq net n) [
+    | inl same ↦ elim (cases_eq c.time t) [
       | inl now ↦ subst (λ (m : ℕ). cond (is_at (by_time (c.time, net)) (t, m)) (Some c.value) (get by_time old (t, m)) ≡ pair_at (wave_of pushed m) t) same
           (subst (λ (u : ℕ). cond (is_at (by_time (c.time, net)) (u, net)) (Some c.value) (get by_time old (u, net)) ≡ pair_at (wave_of pushed net) u) now
             (rw (at_place c.time net, pushed-same known) (sym (pair_at-push (wave_of lists net) c free))))
@@ -109,7 +96,7 @@ module _ (lists : List (List Change)) (old new : BTreeMap (ℕ × ℕ) Logic) (n
   ]
 
   waves_push : ((n : ℕ) → IsWave (wave_of lists n)) → net < length lists → Follows (wave_of lists net) c → (n : ℕ) → IsWave (wave_of pushed n)
-  waves_push was known follows n = elim (eq_cases net n) [
+  waves_push was known follows n = elim (cases_eq net n) [
     | inl same ↦ subst (λ (m : ℕ). IsWave (wave_of pushed m)) same (rw (pushed-same known) (IsWaveFrom-push 0 X (wave_of lists net) c (was net) follows.0 follows.1))
     | inr apart ↦ (let apart_too : n ≢ net = λ e. apart (sym e) in rw (pushed-other n apart_too) (was n))
   ]

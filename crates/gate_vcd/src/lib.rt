@@ -4,16 +4,20 @@
 mod codes;
 mod dump;
 mod fault;
+mod laws;
 mod lines;
 mod put;
 mod sink;
 mod stimulus;
 mod timescale;
 mod waves;
+#[cfg(test)]
+mod writer_tests;
 
-pub use codes::code;
+pub use codes::{code, code_laws};
 pub use dump::write_vcd;
 pub use fault::{StimCause, StimFault, WriteFault};
+pub use laws::dump_laws;
 pub use sink::{Grow, Sink};
 pub use stimulus::Stimulus;
 pub use timescale::{Timescale, Unit};

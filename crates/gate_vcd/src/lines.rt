@@ -1,6 +1,6 @@
 //! The lines of a dump, one at a time.
 
-ghost use Rattle.std.specs.Prelude.{◌≡◌, ◌<◌, ◌≤◌, take};
+ghost use Rattle.std.specs.Prelude.{◌≡◌, ◌<◌, ◌≤◌, take, drop};
 ghost use Rattle.gate_vcd.specs.Sink.{Writes};
 ghost use Rattle.gate_vcd.specs.Dump.{letter, stamp, value_line, var_line, timescale_line, scope_line};
 
@@ -9,6 +9,7 @@ use crate::put::{put_all, put_number, put_text};
 use crate::sink::Sink;
 use crate::timescale::Timescale;
 use gate_values::Logic;
+use itoa::write_digits;
 
 fn letter(value: Logic) -> u8
     ensures { result ≡ letter value }
@@ -42,13 +43,23 @@ pub fn put_value<S: Sink>(sink: &mut S, written: u128, value: Logic, net: u32) -
     put_all(sink, written, &line[..count])
 }
 
+/// The line of a time: the bytes from an index on.
+fn stamp_line(time: u64) -> ([u8; 22], usize)
+    ensures bytes { drop result.1 result.0 ≡ stamp time }
+    ensures within { result.1 ≤ 22 }
+{
+    let mut line = [b'\n'; 22];
+    let digits = write_digits(time, &mut line, 21);
+    line[digits - 1] = b'#';
+    (line, digits - 1)
+}
+
 /// Puts the line of a time.
 pub fn put_stamp<S: Sink>(sink: &mut S, written: u128, time: u64) -> u128
     ensures { Writes (S.held sink.old) (S.held sink.new) written (stamp time) result }
 {
-    let written = put_text(sink, written, "#");
-    let written = put_number(sink, written, time);
-    put_text(sink, written, "\n")
+    let (line, start) = stamp_line(time);
+    put_all(sink, written, &line[start..])
 }
 
 /// Puts the line of a net's code and name.

@@ -61,7 +61,12 @@ impl Grow {
 impl Sink for Grow {
     ghost held = { λ grow. grow };
 
-    fn put(&mut self, bytes: &[u8]) -> Option<usize> {
+    fn put(&mut self, bytes: &[u8]) -> Option<usize>
+        ensures within { IfSome result (λ n. n ≤ length bytes.now) }
+        ensures held { self.new ≡ after_put self.old bytes.now result }
+        // A `put` that doesn't fail takes all of the bytes.
+        ensures whole { IfSome result (λ n. n ≡ length bytes.now) }
+    {
         match self.bytes.extend_from_slice(bytes) {
             Ok(()) => Some(bytes.len()),
             Err(_) => {
