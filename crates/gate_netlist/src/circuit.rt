@@ -1,6 +1,10 @@
-ghost use Rattle.std.specs.Prelude.{◌≡◌, ◌<◌, ◌≤◌, length, option_map, option_copied};
-ghost use Rattle.gate_netlist.specs.Circuit.{nets_of, driver_of, name_of, net_of, delay_of, IsCircuit};
+ghost use Rattle.std.specs.Prelude.{◌≡◌, ◌<◌, ◌≤◌, List, length, option_map, option_copied, count_by};
+ghost use Rattle.gate_netlist.specs.declared.driver.Driver.{Driver};
+ghost use Rattle.gate_netlist.specs.Circuit.{nets_of, driver_of, name_of, net_of, delay_of, is_input, is_gate, is_flop, IsCircuit};
+ghost use Rattle.gate_netlist.specs.Counts.{counts_of};
+ghost use Rattle.gate_netlist.specs.Even.{driven_count};
 
+use crate::counts::Counts;
 use crate::cut::Cut;
 use crate::driver::Driver;
 use indexmap::IndexSet;
@@ -99,4 +103,91 @@ impl Circuit {
     {
         self.outputs.as_slice()
     }
+
+    /// The scope that the settings name; none where any scope will do.
+    pub fn scope(&self) -> Option<&str>
+        ensures { option_map (λ s. s.now) result ≡ self.now.scope }
+    {
+        match &self.scope {
+            Some(scope) => Some(scope.as_str()),
+            None => None,
+        }
+    }
+
+    /// The cut that the settings give.
+    pub fn cut(&self) -> Option<&Cut>
+        ensures { option_map (λ cut. cut.now) result ≡ self.now.cut }
+    {
+        self.cut.as_ref()
+    }
+
+    /// How many nets, inputs, gates, flip-flops, outputs and blocks there are.
+    pub fn counts(&self) -> Counts
+        ensures { result ≡ counts_of self.now }
+    {
+        let blocks = match &self.cut {
+            Some(cut) => cut.blocks(),
+            None => 1,
+        };
+        Counts {
+            nets: self.nets(),
+            inputs: inputs_among(self.drivers.as_slice()) as u32,
+            gates: gates_among(self.drivers.as_slice()) as u32,
+            flops: flops_among(self.drivers.as_slice()) as u32,
+            outputs: self.outputs.len() as u32,
+            blocks,
+        }
+    }
+
+    /// How many nets aren't inputs.
+    pub(crate) fn driven(&self) -> u32
+        ensures count { result ≡ driven_count self.now.drivers }
+        ensures within { result ≤ 1000000 }
+    {
+        driven_among(self.drivers.as_slice()) as u32
+    }
+
+    /// Whether a net is an input.
+    pub(crate) fn is_input(&self, net: u32) -> bool
+        requires { net < nets_of self.now }
+        ensures { result ≡ is_input (driver_of self.now net) }
+    {
+        matches!(self.driver(net), Driver::Input)
+    }
+}
+
+fn inputs_among(drivers: &[Driver]) -> usize
+    ensures { result ≡ count_by is_input drivers.now }
+{
+    drivers
+        .iter()
+        .filter(|driver| matches!(driver, Driver::Input))
+        .count()
+}
+
+fn driven_among(drivers: &[Driver]) -> usize
+    ensures { result ≡ driven_count drivers.now }
+{
+    drivers
+        .iter()
+        .filter(|driver| !matches!(driver, Driver::Input))
+        .count()
+}
+
+fn gates_among(drivers: &[Driver]) -> usize
+    ensures { result ≡ count_by is_gate drivers.now }
+{
+    drivers
+        .iter()
+        .filter(|driver| matches!(driver, Driver::Gate { .. }))
+        .count()
+}
+
+fn flops_among(drivers: &[Driver]) -> usize
+    ensures { result ≡ count_by is_flop drivers.now }
+{
+    drivers
+        .iter()
+        .filter(|driver| matches!(driver, Driver::Flop { .. }))
+        .count()
 }

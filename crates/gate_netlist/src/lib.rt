@@ -3,6 +3,7 @@
 
 mod bench;
 mod circuit;
+mod counts;
 mod cut;
 mod driver;
 mod fault;
@@ -10,6 +11,7 @@ mod nets;
 
 pub use bench::{Bench, Definition};
 pub use circuit::Circuit;
+pub use counts::Counts;
 pub use cut::Cut;
 pub use driver::Driver;
 pub use fault::{BenchCause, BenchFault, SettingsFault};
