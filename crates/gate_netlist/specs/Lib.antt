@@ -1,8 +1,11 @@
 pub mod Circuit
+pub mod Causes
 pub mod Counts
 pub mod Cut
 pub mod Even
 pub mod Held
 pub mod Faults
+pub mod Meaning
 pub mod Netlist
 pub mod HeldBench
+pub mod Settings

@@ -8,6 +8,7 @@ mod cut;
 mod driver;
 mod fault;
 mod nets;
+mod settings;
 
 pub use bench::{Bench, Definition};
 pub use circuit::Circuit;
