@@ -1,3 +1,4 @@
 pub mod Positions
 pub mod EvenCuts
 pub mod Members
+pub mod SettingNets

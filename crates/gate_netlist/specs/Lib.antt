@@ -5,6 +5,7 @@ pub mod Cut
 pub mod Even
 pub mod Held
 pub mod Faults
+pub mod Kinds
 pub mod Meaning
 pub mod Netlist
 pub mod HeldBench

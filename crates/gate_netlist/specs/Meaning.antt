@@ -31,12 +31,13 @@ driver_by clock (line.Flop d) = Flop d clock
 abbrev pub delays_of : Members → List (List ℕ) → List Definition → List ℕ
 delays_of ms names definitions = map (λ (net : List ℕ × Definition). net_delay ms net.0 net.1) (zip names definitions)
 
--- one block more than the greatest given, and each net's block, by its name and definition
+-- each net's block, by its name and definition
+abbrev pub owners_of : Members → List (List ℕ) → List Definition → List (Option ℕ)
+owners_of blocks names definitions = map (λ (net : List ℕ × Definition). net_block blocks net.0 net.1) (zip names definitions)
+
+-- one block more than the greatest given
 abbrev pub cut_of : Members → List (List ℕ) → List Definition → Ownership
-cut_of blocks names definitions = record {
-  blocks = greatest_block blocks + 1;
-  owners = map (λ (net : List ℕ × Definition). net_block blocks net.0 net.1) (zip names definitions);
-}
+cut_of blocks names definitions = record { blocks = greatest_block blocks + 1; owners = owners_of blocks names definitions }
 
 -- the circuit of a netlist that has its clock, by the settings
 abbrev pub clocked_circuit : Members → Netlist → Design

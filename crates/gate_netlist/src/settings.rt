@@ -8,9 +8,9 @@ mod causes;
 mod nets;
 mod values;
 
-pub(crate) use causes::cause_of;
-
-
+pub(crate) use causes::{cause_of, has_flop};
+pub(crate) use nets::{delays_of, greatest_block, owners_of};
+pub(crate) use values::{clock_name, text_at};
 
 use crate::fault::SettingsFault;
 use std::alloc::Global;
