@@ -2,3 +2,5 @@ pub mod Positions
 pub mod EvenCuts
 pub mod Members
 pub mod SettingNets
+pub mod Clocks
+pub mod SettingValues

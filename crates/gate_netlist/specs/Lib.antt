@@ -1,4 +1,5 @@
 pub mod Circuit
+pub mod Clocked
 pub mod Causes
 pub mod Counts
 pub mod Cut
