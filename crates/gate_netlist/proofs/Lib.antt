@@ -4,3 +4,4 @@ pub mod Members
 pub mod SettingNets
 pub mod Clocks
 pub mod SettingValues
+pub mod Circuits
