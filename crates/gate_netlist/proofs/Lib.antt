@@ -5,3 +5,4 @@ pub mod SettingNets
 pub mod Clocks
 pub mod SettingValues
 pub mod Circuits
+pub mod Added

@@ -5,6 +5,7 @@ pub mod Counts
 pub mod Cut
 pub mod Even
 pub mod Held
+pub mod HeldParts
 pub mod Faults
 pub mod Kinds
 pub mod Meaning

@@ -14,12 +14,13 @@ use Rattle.gate_netlist.specs.Circuit.{Design}
 use Rattle.gate_netlist.specs.Settings.{IsDocument, net_delay, net_block, greatest_block, clock_name, text_at}
 use Rattle.gate_netlist.specs.Causes.{number_of, has_flop, cause_of}
 
--- where there is a flip-flop and no net has the clock's name, an input of that name is added as the last net
+-- an input of this name as the last net
+abbrev pub with_input : List ℕ → Netlist → Netlist
+with_input name b = record { names = b.names ++ name ∷ []; definitions = b.definitions ++ line.Input ∷ []; outputs = b.outputs }
+
+-- where there is a flip-flop and no net has the clock's name, an input of that name is added
 abbrev pub with_clock : List ℕ → Netlist → Netlist
-with_clock name b =
-    if has_flop b && is_none (number_of b name)
-    then record { names = b.names ++ name ∷ []; definitions = b.definitions ++ line.Input ∷ []; outputs = b.outputs }
-    else b
+with_clock name b = if has_flop b && is_none (number_of b name) then with_input name b else b
 
 -- a definition as a driver, with the net of the clock
 abbrev pub driver_by : ℕ → Definition → Driver

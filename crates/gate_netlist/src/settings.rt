@@ -6,6 +6,7 @@ ghost use Rattle.gate_netlist.specs.Meaning.{IsRefusal};
 
 mod causes;
 mod nets;
+mod parts;
 mod values;
 
 pub(crate) use causes::{cause_of, has_flop};
