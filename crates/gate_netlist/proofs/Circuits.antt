@@ -1,5 +1,5 @@
 -- The circuit of a netlist with its clock has the law of circuits, and its cut that of cuts.
-use Rattle.std.proofs.Common.{◌≡◌, ◌∙◌, ℕ, ◌+◌, ◌<◌, ◌≤◌, Bool, true, false, not, nat_lt, List, [], ◌∷◌, length, map, get_or, min, Option, Some, None, is_some, IsSome, IfSome, unwrap_or, option_map, option_and_then, refl, ap, sym, arith, inl, inr, codes}
+use Rattle.std.proofs.Common.{◌≡◌, ◌∙◌, ℕ, ◌+◌, ◌<◌, Bool, true, not, nat_lt, List, [], length, map, get_or, Option, Some, None, is_some, IsSome, IfSome, unwrap_or, option_map, option_and_then, refl, ap, arith, inl, inr, codes}
 use Rattle.std.specs.List.{zip, position, position_or_len}
 use Rattle.std.specs.Str.{bytes_eq}
 use Rattle.std.proofs.lemmas.Bool.{cases_Bool, cases_lt, ltb-true}
@@ -7,17 +7,16 @@ use Rattle.std.proofs.lemmas.List.{length-map, get_or-map, get_or_past}
 use Rattle.std.proofs.Math.ListN.{get_or-map as get_or-map_default}
 use Rattle.std.proofs.lemmas.List.Folds.{list_any_at}
 use Rattle.std.proofs.lemmas.Slice.Zip.{length-zip, get_or-zip}
-use Rattle.toml.specs.Data.{Data, Members, get_member, as_table}
+use Rattle.toml.specs.Data.{Members, get_member, as_table}
 use Rattle.gate_netlist.specs.declared.bench.Definition.{Definition}
 use Rattle.gate_netlist.specs.declared.bench.Definition.TheVariants.{Input, Gate, Flop}
-use Rattle.gate_netlist.specs.declared.driver.Driver.TheVariants as driver
 use Rattle.gate_netlist.specs.Netlist.{Netlist, IsDefinition}
-use Rattle.gate_netlist.specs.Cut.{Ownership, owner_of, IsOwnership}
+use Rattle.gate_netlist.specs.Cut.{IsOwnership}
 use Rattle.gate_netlist.specs.Circuit.{Design, IsCircuit, CutFits, IsDriven, IsDelay, driver_of, is_input}
 use Rattle.gate_netlist.specs.Circuit as circuit
-use Rattle.gate_netlist.specs.Settings.{delay_at, block_at, table_at, net_delay, net_block, key_of, greatest_block, clock_name, delay_of_key}
+use Rattle.gate_netlist.specs.Settings.{delay_at, table_at, net_delay, net_block, key_of, greatest_block, clock_name, delay_of_key}
 use Rattle.gate_netlist.specs.Causes.{is_flop_line, number_of, has_flop}
-use Rattle.gate_netlist.specs.Meaning.{driver_by, delays_of, owners_of, cut_of, clocked_circuit}
+use Rattle.gate_netlist.specs.Meaning.{with_clock, driver_by, delays_of, cut_of, clocked_circuit, circuit_of}
 use Rattle.gate_netlist.specs.Clocked.{IsClocked}
 use Rattle.gate_netlist.proofs.SettingValues.{unwrap_or_fits, delay_at-IsDelay, delay_of_key-IsDelay, greatest_block-within, block_at-le}
 
@@ -106,7 +105,7 @@ module _ (ms : Members) (b : Netlist) (h : IsClocked (clock_name ms) b) where
 
   driven_at : (n : ℕ) → n < length b.names → IsDriven (length b.names) (driver_of (clocked_circuit ms b) n) (get_or (delays_of ms b.names b.definitions) n 0)
   driven_at n l = rw (driver_at n, delay_at_net n l)
-    (IsDriven-by ms (length b.names) (unwrap_or clock_net 0) (get_or b.names n []) (get_or b.definitions n Input) (h.defined n l) (λ e. clock_net-below (has_flop-at n l e)))
+      (IsDriven-by ms (length b.names) (unwrap_or clock_net 0) (get_or b.names n []) (get_or b.definitions n Input) (h.defined n l) (λ e. clock_net-below (has_flop-at n l e)))
 
   clock_with_flop : has_flop b ≡ true → (clocked_circuit ms b).clock ≡ Some (unwrap_or clock_net 0)
   clock_with_flop flop = rw flop (known_is clock_net (h.clocked flop))
@@ -125,7 +124,7 @@ module _ (ms : Members) (b : Netlist) (h : IsClocked (clock_name ms) b) where
   cut_fits blocks = record {
     nets = length-by_net (net_block blocks) b.names b.definitions h.definitions;
     owned = λ n l. rw (get_or-by_net (net_block blocks) b.names b.definitions n None l (omega (arith, h.definitions)), driver_at n)
-      (is_some-net_block blocks (unwrap_or clock_net 0) (get_or b.names n []) (get_or b.definitions n Input));
+        (is_some-net_block blocks (unwrap_or clock_net 0) (get_or b.names n []) (get_or b.definitions n Input));
   }
 
   cut_of_table : (o : Option Members) → IfSome (option_map (λ blocks. cut_of blocks b.names b.definitions) o) (CutFits (clocked_circuit ms b))
@@ -144,3 +143,7 @@ module _ (ms : Members) (b : Netlist) (h : IsClocked (clock_name ms) b) where
     marks = h.marks;
     cut = cut_of_table (option_and_then as_table (get_member (codes "block") ms));
   }
+
+pub clocked_circuit-circuit_of : (ms : Members) (name : List ℕ) (more parts b : Netlist) → more ≡ with_clock name parts → name ≡ clock_name ms → parts ≡ b → clocked_circuit ms more ≡ circuit_of b ms
+unfolding circuit_of
+clocked_circuit-circuit_of ms name more parts b added named same = rw (added, named, same)

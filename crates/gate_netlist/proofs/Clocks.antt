@@ -1,8 +1,8 @@
 -- A netlist with its clock among its nets.
-use Rattle.std.proofs.Common.{◌≡◌, ℕ, zero, suc, ◌<◌, ◌≤◌, Bool, true, false, ◌&&◌, List, [], ◌∷◌, ◌++◌, length, get_or, Option, Some, None, is_none, IsSome, IfSome, refl, arith, inl, inr, eq-eqb, lt-ltb}
+use Rattle.std.proofs.Common.{◌≡◌, ℕ, zero, suc, ◌<◌, ◌≤◌, Bool, true, false, ◌&&◌, List, [], ◌∷◌, ◌++◌, length, get_or, Option, Some, None, is_none, IsSome, refl, arith, inl, inr, eq-eqb, lt-ltb}
 use Rattle.std.specs.List.{position, position_or_len}
 use Rattle.std.specs.Str.{bytes_eq}
-use Rattle.std.proofs.lemmas.Bool.{cases_Bool, cases_lt, ltb-true}
+use Rattle.std.proofs.lemmas.Bool.{cases_Bool, cases_lt}
 use Rattle.std.proofs.lemmas.List.{length-append, get_or_past}
 use Rattle.gate_netlist.specs.declared.bench.Definition.{Definition}
 use Rattle.gate_netlist.specs.declared.bench.Definition.TheVariants.{Input, Gate, Flop}
@@ -82,3 +82,9 @@ is_clocked name b h marks =
       | inl added ↦ rw added (clocked_by_one_more name b h marks)
       | inr stays ↦ rw stays (clocked_as_it_is name b h marks stays)
     ]
+
+-- the same, as the code comes to it: by the parts of the bench, and the name that it found
+pub is_clocked_by : (name given : List ℕ) (more parts b : Netlist) → more ≡ with_clock name parts → name ≡ given → parts ≡ b → IsNetlist b → length parts.outputs ≤ length parts.names → IsClocked given more
+is_clocked_by name given more parts b added named same h marks =
+    let law : IsNetlist parts = rw same h in
+    rw (← named, added) (is_clocked name parts law marks)

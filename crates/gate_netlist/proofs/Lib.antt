@@ -6,3 +6,4 @@ pub mod Clocks
 pub mod SettingValues
 pub mod Circuits
 pub mod Added
+pub mod Causes

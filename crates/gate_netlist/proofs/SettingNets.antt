@@ -1,10 +1,10 @@
 -- What the settings give each net, as the code walks over names and definitions.
-use Rattle.std.proofs.Common.{◌≡◌, ◌∙◌, ℕ, List, [], ◌∷◌, map, fold, max, Option, Some, None, unwrap_or, option_map, option_and_then, String, Global, string_bytes, Bor, BTreeMap, refl, ap, sym, arith, codes}
+use Rattle.std.proofs.Common.{◌≡◌, ◌∙◌, ℕ, List, [], ◌∷◌, map, fold, max, Option, Some, None, unwrap_or, option_map, option_and_then, String, Global, string_bytes, Bor, BTreeMap, refl, ap, arith, codes}
 use Rattle.std.specs.List.{zip}
 use Rattle.std.specs.Map.{values_of}
 use Rattle.gate_values.specs.declared.gate.Kind.{Kind}
 use Rattle.gate_values.specs.declared.gate.Kind.TheVariants as kind
-use Rattle.toml.specs.Data.{Data, Members, no_members, get_member, as_table}
+use Rattle.toml.specs.Data.{Members, no_members, get_member, as_table}
 use Rattle.toml.specs.View.{view, members_view, table_view}
 use Rattle.toml.specs.declared.value.Value.{Value}
 use Rattle.toml.proofs.Views.{Entry}

@@ -1,5 +1,5 @@
 -- The delays and blocks of a settings document lie within their limits.
-use Rattle.std.proofs.Common.{◌≡◌, ℕ, ◌+◌, ◌≤◌, pos, Bool, true, false, ◌&&◌, nat_le, if◌then◌else◌, List, Option, Some, None, IfSome, unwrap_or, option_and_then, max, refl, arith, codes, Ordering, Less, Equal, Greater, nat_cmp}
+use Rattle.std.proofs.Common.{◌≡◌, ℕ, ◌≤◌, pos, Bool, true, false, ◌&&◌, nat_le, if◌then◌else◌, List, Option, Some, None, IfSome, unwrap_or, option_and_then, max, refl, arith, codes, Ordering, Less, Equal, Greater, nat_cmp}
 use Rattle.std.specs.Ordering.{match_ordering}
 use Rattle.std.specs.Cmp.Lexicographic.{slice_cmp}
 use Rattle.std.proofs.lemmas.Bool.{and_parts, leb-true}

@@ -1,11 +1,11 @@
 -- Why a settings document is refused.
-use Rattle.std.specs.Prelude.{ℕ, Bool, true, false, ◌&&◌, ◌||◌, not, nat_le, ◌==◌, if◌then◌else◌, List, [], ◌∷◌, length, get_or, codes, Option, Some, None, is_some, is_none, position}
+use Rattle.std.specs.Prelude.{ℕ, Bool, true, false, ◌&&◌, ◌||◌, not, nat_le, ◌==◌, if◌then◌else◌, List, length, get_or, codes, Option, Some, None, is_none, position}
 use Rattle.std.specs.List.{list_any, list_all}
 use Rattle.std.specs.Option.{option_map_or}
 use Rattle.std.specs.Str.{bytes_eq}
 use Rattle.toml.specs.Data.{Data, Members, no_members, member, get_member, as_str, as_table}
 use Rattle.gate_netlist.specs.declared.bench.Definition.{Definition}
-use Rattle.gate_netlist.specs.declared.bench.Definition.TheVariants.{Input, Gate, Flop}
+use Rattle.gate_netlist.specs.declared.bench.Definition.TheVariants.{Input, Flop}
 use Rattle.gate_netlist.specs.declared.fault.SettingsFault.{SettingsFault}
 use Rattle.gate_netlist.specs.declared.fault.SettingsFault.TheVariants.{UnknownKey, UnknownNet, BadDelay, ClockNotInput, BadCut}
 use Rattle.gate_netlist.specs.Netlist.{Netlist}

@@ -1,5 +1,5 @@
 -- The circuit that a bench and a settings text mean.
-use Rattle.std.specs.Prelude.{◌≡◌, ℕ, ◌+◌, Bool, ◌&&◌, if◌then◌else◌, List, [], ◌∷◌, ◌++◌, map, codes, Option, Some, None, is_none, option_map, option_and_then, unwrap_or, Result, Ok, Err}
+use Rattle.std.specs.Prelude.{◌≡◌, ℕ, ◌+◌, ◌&&◌, if◌then◌else◌, List, [], ◌∷◌, ◌++◌, map, codes, Option, Some, None, is_none, option_map, option_and_then, unwrap_or, Result, Ok, Err}
 use Rattle.std.specs.List.{zip}
 use Rattle.toml.specs.Data.{Members, get_member, as_table}
 use Rattle.gate_netlist.specs.declared.bench.Definition.{Definition}

@@ -1,6 +1,5 @@
 -- What a settings text says: a document, and what stands at its keys.
-use Rattle.std.specs.Prelude.{◌≡◌, ℕ, ◌+◌, max, Bool, true, false, ◌&&◌, ◌||◌, not, nat_le, if◌then◌else◌, List, [], ◌∷◌, codes, Option, Some, None, option_and_then, unwrap_or, pos, is_none, IsUtf8}
-use Rattle.std.specs.Str.{bytes_eq}
+use Rattle.std.specs.Prelude.{◌≡◌, ℕ, max, ◌&&◌, nat_le, if◌then◌else◌, List, codes, Option, Some, None, option_and_then, unwrap_or, pos, IsUtf8}
 use Rattle.gate_values.specs.declared.gate.Kind.{Kind}
 use Rattle.gate_values.specs.declared.gate.Kind.TheVariants as kind
 use Rattle.toml.specs.Data.{Data, integer, Members, no_members, member, get_member, as_str, as_table}

@@ -1,13 +1,19 @@
-ghost use Rattle.std.specs.Prelude.{◌≡◌, ◌<◌, ◌≤◌, List, length, option_map, option_copied, count_by};
-ghost use Rattle.gate_netlist.specs.declared.driver.Driver.{Driver};
+ghost use Rattle.std.specs.Prelude.{◌≡◌, ◌<◌, ◌≤◌, length, option_map, option_copied, count_by};
 ghost use Rattle.gate_netlist.specs.Circuit.{nets_of, driver_of, name_of, net_of, delay_of, is_input, is_gate, is_flop, IsCircuit};
 ghost use Rattle.gate_netlist.specs.Counts.{counts_of};
 ghost use Rattle.gate_netlist.specs.Even.{driven_count};
+ghost use Rattle.gate_netlist.specs.Meaning.{IsAnswer};
 
+mod build;
+
+use crate::bench::Bench;
 use crate::counts::Counts;
 use crate::cut::Cut;
 use crate::driver::Driver;
+use crate::fault::SettingsFault;
+use crate::settings;
 use indexmap::IndexSet;
+use std::alloc::Global;
 use std::marker::Model;
 
 /// A circuit: its nets in the order of their defining lines, and what sets each of them.
@@ -35,6 +41,26 @@ impl Model for Circuit {
 }
 
 impl Circuit {
+    /// The circuit of a bench and a settings text: each net's delay is that of its name, else that of its kind,
+    /// else the default, and the flip-flops' clock is the input of the clock's name, which is added as the last
+    /// net where no net has the name. A text is refused for the least cause that applies to it.
+    pub fn of(alloc: Global, bench: Bench, settings: &[u8]) -> Result<Circuit, SettingsFault>
+        ensures { IsAnswer bench settings.now result }
+    {
+        let table = match settings::document(alloc, settings) {
+            Ok(table) => table,
+            Err(fault) => return Err(fault),
+        };
+        match settings::cause_of(&bench, &table) {
+            Some(fault) => return Err(fault),
+            None => {}
+        }
+        match build::build(alloc, bench, &table) {
+            Ok(circuit) => Ok(circuit),
+            Err(_) => Err(SettingsFault::Memory),
+        }
+    }
+
     /// What is true of every circuit.
     pub fn law(&self)
         ensures { IsCircuit self.now }

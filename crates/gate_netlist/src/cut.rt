@@ -1,5 +1,5 @@
 ghost use Rattle.std.specs.Prelude.{◌≡◌, ◌≤◌, ◌↔◌, IsTrue, IfOk};
-ghost use Rattle.gate_netlist.specs.Cut.{owner_of};
+ghost use Rattle.gate_netlist.specs.Cut.{owner_of, IsOwnership};
 ghost use Rattle.gate_netlist.specs.Circuit.{CutFits};
 ghost use Rattle.gate_netlist.specs.Even.{even_cut};
 
@@ -25,6 +25,14 @@ impl Model for Cut {
 }
 
 impl Cut {
+    /// The cut with these owners.
+    pub(crate) fn new(owners: Vec<Option<u32>>, blocks: u32) -> Cut
+        requires { IsOwnership (record { blocks = blocks; owners = owners.items }) }
+        ensures { result ≡ record { blocks = blocks; owners = owners.items } }
+    {
+        Cut { owners, blocks }
+    }
+
     /// The even cut: of the nets that aren't inputs, in net order, each block owns as many as the others, but for one.
     pub fn even(alloc: Global, circuit: &Circuit, blocks: u32) -> Result<Cut, AllocError>
         requires some { 1 ≤ blocks }

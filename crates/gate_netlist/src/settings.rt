@@ -9,13 +9,13 @@ mod nets;
 mod parts;
 mod values;
 
+use crate::fault::SettingsFault;
 pub(crate) use causes::{cause_of, has_flop};
 pub(crate) use nets::{delays_of, greatest_block, owners_of};
-pub(crate) use values::{clock_name, text_at};
-
-use crate::fault::SettingsFault;
+pub(crate) use parts::{Parts, parts_of, with_clock};
 use std::alloc::Global;
 use toml::Table;
+pub(crate) use values::{block_table, clock_name, text_at};
 
 /// Reads the text as a document.
 pub(crate) fn document(alloc: Global, text: &[u8]) -> Result<Table, SettingsFault>

@@ -56,12 +56,7 @@ fn delays_among(
 }
 
 /// The delay of a net; 0 of an input.
-fn net_delay(
-    nets: Option<&Table>,
-    kinds: &KindDelays,
-    name: &str,
-    definition: &Definition,
-) -> u32
+fn net_delay(nets: Option<&Table>, kinds: &KindDelays, name: &str, definition: &Definition) -> u32
     ensures { result ≡ delay_among (members_in nets.entry) kinds.now name.now definition.now }
 {
     match definition {

@@ -43,6 +43,13 @@ pub(super) fn table_at<'a>(table: &'a Table, key: &str) -> Option<&'a Table>
     }
 }
 
+/// The table of blocks.
+pub(crate) fn block_table(table: &Table) -> Option<&Table>
+    ensures { option_map (λ inner. table_view inner.now) result ≡ option_and_then as_table (get_member (codes "block") (table_view table.now)) }
+{
+    table_at(table, "block")
+}
+
 /// The delay at a key, where it is one.
 pub(super) fn delay_at(table: &Table, key: &str) -> Option<u32>
     ensures { result ≡ delay_at key.now (table_view table.now) }
