@@ -1,6 +1,14 @@
 pub mod Circuit
+pub mod Clocked
+pub mod Causes
+pub mod Counts
 pub mod Cut
+pub mod Even
 pub mod Held
+pub mod HeldParts
 pub mod Faults
+pub mod Kinds
+pub mod Meaning
 pub mod Netlist
 pub mod HeldBench
+pub mod Settings

@@ -3,13 +3,16 @@
 
 mod bench;
 mod circuit;
+mod counts;
 mod cut;
 mod driver;
 mod fault;
 mod nets;
+mod settings;
 
 pub use bench::{Bench, Definition};
 pub use circuit::Circuit;
+pub use counts::Counts;
 pub use cut::Cut;
 pub use driver::Driver;
 pub use fault::{BenchCause, BenchFault, SettingsFault};
