@@ -1,10 +1,10 @@
 -- Laws of the text of a dump: one net or one time more; what it depends on; how long it is.
-use Rattle.std.proofs.Common.{◌≡◌, ℕ, zero, suc, ◌+◌, ◌*◌, ◌<◌, ◌≤◌, ◌^◌, Bool, true, false, cond, not, ◌||◌, nat_eq, List, [], ◌∷◌, ◌++◌, length, get_or, refl, ap, sym, ◌∙◌, arith, add-one, length-append}
-use Rattle.std.specs.Prelude.{codes, decimal}
+use Rattle.std.proofs.Common.{◌≡◌, ℕ, zero, suc, ◌+◌, ◌*◌, ◌<◌, ◌≤◌, ◌^◌, Bool, true, false, cond, ◌||◌, nat_eq, List, [], ◌++◌, length, get_or, refl, ap, ◌∙◌, arith, add-one, length-append}
+use Rattle.std.specs.Prelude.{codes}
 use Rattle.std.proofs.lemmas.Fmt.{length-decimal-le}
 use Rattle.gate_values.specs.declared.logic.Logic.{Logic}
 use Rattle.gate_values.specs.declared.logic.Change.{Change}
-use Rattle.gate_values.specs.Changes.{same, just_before, changes}
+use Rattle.gate_values.specs.Changes.{just_before, changes}
 use Rattle.gate_vcd.specs.declared.timescale.Timescale.{Timescale}
 use Rattle.gate_vcd.specs.declared.timescale.Unit.{Unit}
 use Rattle.gate_vcd.specs.declared.timescale.Unit.TheVariants as units

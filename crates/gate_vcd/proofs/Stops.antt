@@ -1,13 +1,11 @@
 -- All changes of some nets up to a time, in the order of time and net; and what is written of them.
-use Rattle.std.proofs.Common.{◌≡◌, ◌≢◌, ℕ, zero, suc, ◌+◌, ◌<◌, ◌≤◌, ◌⊎◌, inl, inr, Bool, true, false, cond, not, ◌||◌, nat_eq, nat_lt, Option, Some, None, List, [], ◌∷◌, ◌++◌, refl, ap, sym, ◌∙◌, subst, arith, append_assoc, length}
+use Rattle.std.proofs.Common.{◌≡◌, ◌≢◌, ℕ, zero, suc, ◌<◌, ◌≤◌, ◌⊎◌, inl, inr, Bool, true, false, cond, not, ◌||◌, nat_eq, nat_lt, Some, None, List, [], ◌∷◌, ◌++◌, refl, ap, sym, ◌∙◌, subst, arith, append_assoc}
 use Rattle.std.proofs.lemmas.List.{append-nil}
-use Rattle.std.proofs.lemmas.Bool.Decides.{nat_tests}
 use Rattle.std.specs.List.{AllByRecursion}
 use Rattle.std.specs.List.Sorted.{IsStrictlySortedBy}
 use Rattle.std.specs.Map.{keys_of, lookup}
-use Rattle.std.specs.Ordering.{nat_cmp}
 use Rattle.std.specs.declared.cmp.Ordering.{Ordering}
-use Rattle.std.specs.declared.cmp.Ordering.TheVariants.{Less, Equal, Greater}
+use Rattle.std.specs.declared.cmp.Ordering.TheVariants.{Less}
 use Rattle.std.specs.BTreeMap.{BTreeMap, get, is_at, IsOrdered}
 use Rattle.gate_vcd.proofs.SameEntries.{same_entries}
 use Rattle.gate_values.specs.declared.logic.Logic.{Logic}
@@ -149,8 +147,12 @@ module _ (value : ℕ → ℕ → Logic) where
   unfolding moments moment
   moments-below nets horizon zero h = sym (walked-first nets)
   moments-below nets horizon (suc t) h =
-      rw (walked-append 0 (all_stops nets (suc t)) (stops_at (suc t) nets), ← moments-below nets horizon t (omega arith),
-          walked-at (last_stop 0 (all_stops nets (suc t))) (suc t) nets (omega (arith, last_stop-all nets t)), early) (go (some_change value (suc t) nets))
+      rw (
+        walked-append 0 (all_stops nets (suc t)) (stops_at (suc t) nets),
+        ← moments-below nets horizon t (omega arith),
+        walked-at (last_stop 0 (all_stops nets (suc t))) (suc t) nets (omega (arith, last_stop-all nets t)),
+        early,
+      ) (go (some_change value (suc t) nets))
     where
       early : nat_eq (suc t) horizon ≡ false
       early = eq_false (suc t) horizon (λ e. omega arith)
@@ -164,8 +166,14 @@ module _ (value : ℕ → ℕ → Logic) where
   unfolding moments moment
   moments-walked nets zero = rw (walked-first nets, lt_false (last_stop 0 (stops_at 0 nets)) 0 (omega arith)) refl
   moments-walked nets (suc t) =
-      rw (walked-append 0 (all_stops nets (suc t)) (stops_at (suc t) nets), last_stop-append 0 (all_stops nets (suc t)) (stops_at (suc t) nets), last_stop-at (last_stop 0 (all_stops nets (suc t))) (suc t) nets,
-          ← moments-below nets (suc t) t (omega arith), walked-at (last_stop 0 (all_stops nets (suc t))) (suc t) nets (omega (arith, last_stop-all nets t)), eq_true (suc t) (suc t) refl)
+      rw (
+        walked-append 0 (all_stops nets (suc t)) (stops_at (suc t) nets),
+        last_stop-append 0 (all_stops nets (suc t)) (stops_at (suc t) nets),
+        last_stop-at (last_stop 0 (all_stops nets (suc t))) (suc t) nets,
+        ← moments-below nets (suc t) t (omega arith),
+        walked-at (last_stop 0 (all_stops nets (suc t))) (suc t) nets (omega (arith, last_stop-all nets t)),
+        eq_true (suc t) (suc t) refl,
+      )
       (go (some_change value (suc t) nets) refl)
     where
       go : (b : Bool) → some_change value (suc t) nets ≡ b →

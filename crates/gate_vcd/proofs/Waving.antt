@@ -1,24 +1,21 @@
 -- Laws of waves, and of their order by time.
-use Rattle.std.proofs.Common.{◌≡◌, ◌≢◌, ℕ, zero, suc, ◌+◌, ◌<◌, ◌≤◌, ◌^◌, ◌⊎◌, inl, inr, Bool, true, false, cond, nat_eq, nat_lt, nat_le, Option, Some, None, List, [], ◌∷◌, ◌++◌, map, length, get_or, refl, ap, sym, ◌∙◌, subst, arith, replicate, Result, Ok, Err}
+use Rattle.std.proofs.Common.{◌≡◌, ◌≢◌, ℕ, zero, suc, ◌+◌, ◌<◌, ◌≤◌, ◌^◌, inl, inr, Bool, true, false, cond, nat_eq, Some, None, List, [], ◌∷◌, ◌++◌, map, length, get_or, refl, ap, sym, ◌∙◌, subst, arith, replicate, Result, Ok, Err}
 use Rattle.std.proofs.Math.ListN.{set, length-set}
 use Rattle.std.proofs.lemmas.List.{length-map, length-replicate, get_or-map, map-set}
 use Rattle.std.proofs.Math.Seq.{map-set_same}
 use Rattle.std.specs.Result.{OnErr}
 use Rattle.std.proofs.lemmas.Grind.{common_steps}
-use Rattle.std.proofs.lemmas.Bool.Decides.{nat_tests}
 use Rattle.std.proofs.lemmas.Cmp.{nat_cmp_total, then_total, on_total, tied_itself}
 use Rattle.std.proofs.lemmas.Map.Lookups.{CmpEqualImpliesEq, exact_unsigned, exact_pairs}
 use Rattle.std.specs.Cmp.{IsTotalOrder}
 use Rattle.std.specs.Ordering.{nat_cmp, is_eq}
-use Rattle.std.specs.declared.cmp.Ordering.{Ordering}
-use Rattle.std.specs.declared.cmp.Ordering.TheVariants.{Less, Equal, Greater}
 use Rattle.std.specs.BTreeMap.{BTreeMap, get, is_at, IsOrdered, Updates}
 use Rattle.std.specs.List.Sorted.{IsStrictlySortedBy}
 use Rattle.std.specs.Map.{keys_of}
 use Rattle.gate_values.specs.declared.logic.Logic.{Logic}
 use Rattle.gate_values.specs.declared.logic.Logic.TheVariants.{X}
 use Rattle.gate_values.specs.declared.logic.Change.{Change}
-use Rattle.gate_values.specs.Changes.{latest, last_value, pair_at}
+use Rattle.gate_values.specs.Changes.{last_value, pair_at}
 use Rattle.gate_vcd.specs.Waves.{wave_of, end_time, Follows, IsWaveFrom, IsWave, by_time, IsOrderOf}
 use Rattle.gate_vcd.specs.HeldWaves.{IsInStep}
 use Rattle.gate_vcd.proofs.Compared.{eq_true, eq_false, cases_eq, is_eq_Equal}
@@ -88,7 +85,7 @@ module _ (lists : List (List Change)) (old new : BTreeMap (ℕ × ℕ) Logic) (n
     | inl same ↦ elim (cases_eq c.time t) [
       | inl now ↦ subst (λ (m : ℕ). cond (is_at (by_time (c.time, net)) (t, m)) (Some c.value) (get by_time old (t, m)) ≡ pair_at (wave_of pushed m) t) same
           (subst (λ (u : ℕ). cond (is_at (by_time (c.time, net)) (u, net)) (Some c.value) (get by_time old (u, net)) ≡ pair_at (wave_of pushed net) u) now
-            (rw (at_place c.time net, pushed-same known) (sym (pair_at-push (wave_of lists net) c free))))
+          (rw (at_place c.time net, pushed-same known) (sym (pair_at-push (wave_of lists net) c free))))
       | inr other ↦ subst (λ (m : ℕ). cond (is_at (by_time (c.time, net)) (t, m)) (Some c.value) (get by_time old (t, m)) ≡ pair_at (wave_of pushed m) t) same
           (rw (at_other c.time net t net (λ e _. other e), pushed-same known, pair_at-push_other (wave_of lists net) c t other) (was t net))
     ]

@@ -91,7 +91,6 @@ writes_then {a} {b} {c} {n} {m} {k} {s} {t} x y = record {
               omega (arith, first, second),
         )
 
-
 -- nothing went in
 pub writes_none : (a : Held) (n : ℕ) → Writes a a n [] n
 writes_none a n = record {

@@ -87,7 +87,11 @@ fn put_header<S: Sink>(
     let written = put_timescale(sink, written, scale);
     let written = put_scope(sink, written, top);
     let written = put_vars(sink, written, circuit);
-    put_text(sink, written, "$upscope $end\n$enddefinitions $end\n#0\n$dumpvars\n")
+    put_text(
+        sink,
+        written,
+        "$upscope $end\n$enddefinitions $end\n#0\n$dumpvars\n",
+    )
 }
 
 /// Puts the code and name of each net.

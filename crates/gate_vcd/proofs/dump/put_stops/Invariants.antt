@@ -1,7 +1,4 @@
-use Rattle.std.proofs.Common.{◌≡◌, ◌<◌, ◌++◌, ℕ, List}
-use Rattle.std.specs.List.{AllByRecursion}
-use Rattle.gate_vcd.specs.Sink.{Writes}
-use Rattle.gate_vcd.specs.Walk.{walked, last_stop, IsWalked}
+use Rattle.gate_vcd.specs.Walk.{IsWalked}
 use Rattle.gate_vcd.proofs.dump.put_stops.Given as goal
 
 -- the changes so far

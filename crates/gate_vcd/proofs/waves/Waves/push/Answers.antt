@@ -1,6 +1,4 @@
-use Rattle.std.proofs.Common.{◌≡◌, ◌∙◌, sym, map, length, List, refl, arith, ap, ◌<◌}
-use Rattle.std.proofs.Math.ListN.{set}
-use Rattle.gate_values.specs.declared.logic.Change.{Change}
+use Rattle.std.proofs.Common.{◌∙◌, map, length, refl, ◌<◌}
 use Rattle.gate_vcd.proofs.Waving.{in_step-kept, in_step-push, lists-kept, lists-push, on_err}
 use Rattle.gate_vcd.proofs.waves.Waves.push.Goals as goal
 
