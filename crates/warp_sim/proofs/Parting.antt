@@ -1,8 +1,8 @@
 -- The first line of a text, and how a text falls into lines from it on.
-use Rattle.std.proofs.Common.{◌≡◌, ◌≢◌, ℕ, zero, suc, ◌+◌, ◌-◌, ◌<◌, ◌≤◌, List, [], ◌∷◌, ◌++◌, Bool, true, false, length, take, drop, get_or, refl, ap, ◌∙◌, sym, inl, inr, arith, add-one, add-zero, rules, ◌==◌, if◌then◌else◌, append_assoc, append-nil, drop-cons, length-drop}
+use Rattle.std.proofs.Common.{◌≡◌, ◌≢◌, ℕ, suc, ◌+◌, ◌-◌, ◌<◌, ◌≤◌, List, [], ◌∷◌, ◌++◌, Bool, true, false, length, take, drop, get_or, refl, ap, ◌∙◌, inl, inr, arith, add-one, ◌==◌, if◌then◌else◌, append_assoc, append-nil, drop-cons, length-drop}
 use Rattle.std.proofs.lemmas.Bool.{eq-eqb}
 use Rattle.std.proofs.lemmas.Bool.Decides.{eqb_tells}
-use Rattle.std.proofs.lemmas.List.{drop_all, take_all, drop-drop, take-append-drop}
+use Rattle.std.proofs.lemmas.List.{drop_all, take_all, drop-drop}
 use Rattle.std.proofs.Math.Seq.{take-add}
 use Rattle.std.specs.List.{concat}
 use Rattle.warp_sim.specs.Joined.{lines, with_front, is_parting, before_parting, after_parting}

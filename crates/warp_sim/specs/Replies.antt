@@ -1,5 +1,5 @@
 -- What a request is answered, over the texts in the order in which they are fetched.
-use Rattle.std.specs.Prelude.{◌≡◌, ℕ, List, [], ◌++◌, Option, None, Some, Result, Ok, Err, Vec, codes, string_bytes, IsOkAnd}
+use Rattle.std.specs.Prelude.{◌≡◌, ℕ, List, [], Option, None, Some, Result, Ok, Err, Vec, codes, string_bytes, IsOkAnd}
 use Rattle.std.specs.Borrow.{Bor}
 use Rattle.std.specs.declared.alloc.Global.{Global}
 use Rattle.warp_sim.specs.Answer.{IsAnswer, IsCounted}
@@ -8,7 +8,6 @@ use Rattle.warp_sim.specs.Joined.{lines, before_parting, after_parting}
 use Rattle.warp_sim.specs.declared.counts.Counts.{Counts}
 use Rattle.warp_sim.specs.declared.failure.Failure.{Failure}
 use Rattle.warp_sim.specs.declared.failure.Failure.TheVariants as failures
-use Rattle.warp_sim.specs.declared.fault.Fault.{Fault}
 use Rattle.warp_sim.specs.declared.fault.Fault.TheVariants as faults
 use Rattle.warp_sim.specs.declared.request.Request.{Request}
 use Rattle.warp_sim.specs.declared.request.Request.TheVariants as requests

@@ -1,4 +1,4 @@
-use Rattle.std.proofs.Common.{◌≡◌, ◌∙◌, ◌+◌, ◌-◌, ◌≤◌, length, sym, arith, length-drop, length-take}
+use Rattle.std.proofs.Common.{◌∙◌, ◌+◌, sym, arith, length-drop}
 use Rattle.warp_sim.proofs.Parting.{passes_line, parts_here, parts_nowhere, rest_of-all, added-less}
 use Rattle.warp_sim.proofs.joined.split_joined.Goals as goal
 
