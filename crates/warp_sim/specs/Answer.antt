@@ -2,7 +2,7 @@
 use Rattle.std.specs.Prelude.{ℕ, List, Result, Ok, Err, Vec}
 use Rattle.std.specs.declared.alloc.Global.{Global}
 use Rattle.warp_sim.specs.declared.fault.Fault.{Fault}
-use Rattle.warp_sim.specs.declared.counts.Counts.{Counts}
+use Rattle.gate_netlist.specs.declared.counts.Counts.{Counts}
 
 -- a stand-in: no text is answered yet
 unfoldable pub IsAnswer : (bench settings stimulus : List ℕ) (until : ℕ) → Result (Vec ℕ Global) Fault → Type 0

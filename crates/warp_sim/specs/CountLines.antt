@@ -1,6 +1,6 @@
 -- How the counts of a circuit are printed.
 use Rattle.std.specs.Prelude.{ℕ, List, [], ◌∷◌, ◌++◌, codes, decimal}
-use Rattle.warp_sim.specs.declared.counts.Counts.{Counts}
+use Rattle.gate_netlist.specs.declared.counts.Counts.{Counts}
 
 -- a word and a number, on a line
 unfoldable pub count_line : List ℕ → ℕ → List ℕ

@@ -5,7 +5,7 @@ use Rattle.std.specs.declared.alloc.Global.{Global}
 use Rattle.warp_sim.specs.Answer.{IsAnswer, IsCounted}
 use Rattle.warp_sim.specs.CountLines.{count_lines}
 use Rattle.warp_sim.specs.Joined.{lines, before_parting, after_parting}
-use Rattle.warp_sim.specs.declared.counts.Counts.{Counts}
+use Rattle.gate_netlist.specs.declared.counts.Counts.{Counts}
 use Rattle.warp_sim.specs.declared.failure.Failure.{Failure}
 use Rattle.warp_sim.specs.declared.failure.Failure.TheVariants as failures
 use Rattle.warp_sim.specs.declared.fault.Fault.TheVariants as faults

@@ -1,19 +1,10 @@
 //! How many parts a circuit has.
-ghost use Rattle.std.specs.Prelude.{◌≡◌, Some};
+ghost use Rattle.std.specs.Prelude.{◌≡◌, Some, IfOk, string_bytes};
 ghost use Rattle.warp_sim.specs.CountLines.{count_line, count_lines};
 
+use gate_netlist::Counts;
+use std::alloc::{AllocError, Global};
 use std::fmt;
-
-/// How many parts a circuit has: nets, by what drives them, outputs, and the blocks of its cut.
-#[derive(Clone, Copy, Debug, PartialEq, Eq)]
-pub struct Counts {
-    pub nets: u32,
-    pub inputs: u32,
-    pub gates: u32,
-    pub flops: u32,
-    pub outputs: u32,
-    pub blocks: u32,
-}
 
 /// A line of the print.
 #[derive(Clone, Copy)]
@@ -40,16 +31,28 @@ fn count_line(word: &'static str, number: u32) -> CountLine
 }
 
 /// A line for each number, with its word before it.
-impl fmt::Display for Counts {
-    ghost output = { λ counts. Some (count_lines counts) };
+#[derive(Clone, Copy)]
+struct CountLines {
+    counts: Counts,
+}
+
+impl fmt::Display for CountLines {
+    ghost output = { λ lines. Some (count_lines lines.counts) };
 
     fn fmt<W: fmt::Write>(&self, f: &mut fmt::Formatter<W>) -> fmt::Result {
-        let nets = count_line("nets", self.nets);
-        let inputs = count_line("inputs", self.inputs);
-        let gates = count_line("gates", self.gates);
-        let flops = count_line("flip-flops", self.flops);
-        let outputs = count_line("outputs", self.outputs);
-        let blocks = count_line("blocks", self.blocks);
+        let nets = count_line("nets", self.counts.nets);
+        let inputs = count_line("inputs", self.counts.inputs);
+        let gates = count_line("gates", self.counts.gates);
+        let flops = count_line("flip-flops", self.counts.flops);
+        let outputs = count_line("outputs", self.counts.outputs);
+        let blocks = count_line("blocks", self.counts.blocks);
         write!(f, "{nets}{inputs}{gates}{flops}{outputs}{blocks}")
     }
+}
+
+/// The six lines that the command `check` prints.
+pub fn count_text(alloc: Global, counts: Counts) -> Result<String, AllocError>
+    ensures { IfOk result (λ text. string_bytes text ≡ count_lines counts) }
+{
+    CountLines { counts }.to_string(alloc)
 }

@@ -18,7 +18,6 @@ mod simulate;
 mod tests;
 mod texts;
 
-pub use counts::Counts;
 pub use failure::Failure;
 pub use fault::Fault;
 pub use joined::split_joined;

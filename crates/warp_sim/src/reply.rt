@@ -13,6 +13,7 @@ ghost use Rattle.warp_sim.specs.Replies.{
   Replies,
 };
 
+use crate::counts::count_text;
 use crate::failure::Failure;
 use crate::fault::Fault;
 use crate::joined::split_joined;
@@ -132,7 +133,7 @@ fn counted<'a>(alloc: Global, bench: &[u8], settings: &[u8]) -> Result<Vec<u8>, 
         Ok(counts) => counts,
         Err(fault) => return Err(Failure::Fault(fault)),
     };
-    match counts.to_string(alloc) {
+    match count_text(alloc, counts) {
         Ok(text) => Ok(text.into_bytes()),
         Err(_) => Err(Failure::Fault(Fault::Memory)),
     }

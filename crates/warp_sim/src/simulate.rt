@@ -2,8 +2,8 @@
 ghost use Rattle.std.specs.Prelude.{◌≤◌};
 ghost use Rattle.warp_sim.specs.Answer.{IsAnswer, IsCounted};
 
-use crate::counts::Counts;
 use crate::fault::Fault;
+use gate_netlist::Counts;
 use std::alloc::Global;
 
 /// The dump of a circuit, up to the time `until`.
