@@ -1,3 +1,4 @@
+pub mod Lines
 pub mod Circuit
 pub mod Cut
 pub mod Held

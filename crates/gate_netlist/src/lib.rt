@@ -6,6 +6,7 @@ mod circuit;
 mod cut;
 mod driver;
 mod fault;
+mod lines;
 mod nets;
 
 pub use bench::{Bench, Definition};
@@ -13,4 +14,5 @@ pub use circuit::Circuit;
 pub use cut::Cut;
 pub use driver::Driver;
 pub use fault::{BenchCause, BenchFault, SettingsFault};
+pub use lines::next_line;
 pub use nets::Nets;
