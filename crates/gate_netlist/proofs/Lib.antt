@@ -1,2 +1,3 @@
 pub mod FirstLine
 pub mod Positions
+pub mod Words

@@ -4,4 +4,6 @@ pub mod Cut
 pub mod Held
 pub mod Faults
 pub mod Netlist
+pub mod Symbols
+pub mod Tokens
 pub mod HeldBench

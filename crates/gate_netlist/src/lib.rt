@@ -8,6 +8,7 @@ mod driver;
 mod fault;
 mod lines;
 mod nets;
+mod token;
 
 pub use bench::{Bench, Definition};
 pub use circuit::Circuit;
