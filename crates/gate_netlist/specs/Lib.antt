@@ -3,7 +3,10 @@ pub mod Circuit
 pub mod Cut
 pub mod Held
 pub mod Faults
+pub mod Gives
 pub mod Netlist
+pub mod Meant
+pub mod Statements
 pub mod Symbols
 pub mod Tokens
 pub mod HeldBench

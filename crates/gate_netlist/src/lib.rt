@@ -8,6 +8,7 @@ mod driver;
 mod fault;
 mod lines;
 mod nets;
+mod statement;
 mod token;
 
 pub use bench::{Bench, Definition};

@@ -1,11 +1,10 @@
-use Rattle.std.proofs.Common.{◌≡◌, ◌==◌, ◌<◌, ◌∷◌, ◌++◌, not, length, option_map, option_to_list, IfOk, true, ℕ, ◌+◌, ◌-◌, ◌*◌, ◌≤◌}
-use Rattle.std.specs.List.{list_all, list_any, prefix_len}
-use Rattle.gate_netlist.specs.Symbols.{Word, code_of, mark_of, is_letter, begins_with_letter, is_allowed, is_end, symbols}
-use Rattle.gate_netlist.specs.Tokens.{symbol_of, symbols_of}
+use Rattle.std.proofs.Common.{◌≡◌, ◌++◌, length}
+use Rattle.gate_netlist.specs.Symbols.{symbols}
+use Rattle.gate_netlist.specs.Tokens.{symbols_of}
 use Rattle.gate_netlist.proofs.token.tokens.Given as goal
 
 abbrev pub invariant-loop-rest : goal.invariant-loop-rest
-invariant-loop-rest l = ?
+invariant-loop-rest l = symbols_of l.tokens.items ++ symbols l.rest ≡ symbols l.code
 
 abbrev pub decreases-loop-rest : goal.decreases-loop-rest
-decreases-loop-rest l = ?
+decreases-loop-rest l = length l.rest
