@@ -7,6 +7,7 @@ pub mod Gives
 pub mod Netlist
 pub mod Meant
 pub mod Statements
+pub mod Splits
 pub mod Symbols
 pub mod Tokens
 pub mod HeldBench

@@ -115,6 +115,7 @@ fn driven<'a>(name: &'a str, word: &str, inputs: Vec<&'a str>) -> Result<Stateme
 }
 
 /// The names up to the closing mark, which nothing follows.
+#[tactic(auto, unfolding(crate::specs::Statements::named))]
 fn arguments<'a>(alloc: Global, tokens: &[Token<'a>]) -> Result<Option<Vec<&'a str>>, AllocError>
     ensures { IfOk result (λ names. option_map (λ ns. names_of ns.items) names ≡ arguments (symbols_of tokens.now)) }
 {
@@ -125,21 +126,24 @@ fn arguments<'a>(alloc: Global, tokens: &[Token<'a>]) -> Result<Option<Vec<&'a s
 }
 
 /// One or more names parted by commas, and the closing mark.
+#[tactic(auto, unfolding(crate::specs::Statements::named))]
 fn named<'a>(alloc: Global, tokens: &[Token<'a>]) -> Result<Option<Vec<&'a str>>, AllocError>
     ensures { IfOk result (λ names. option_map (λ ns. names_of ns.items) names ≡ named (symbols_of tokens.now)) }
 {
     let mut names = Vec::new(alloc);
     let mut rest = tokens;
-    while let [Token::Word(name), Token::Comma, after @ ..] = rest {
-        names.push(*name)?;
-        rest = after;
-    }
-    match rest {
-        [Token::Word(name), Token::Close] => {
-            names.push(*name)?;
-            Ok(Some(names))
+    loop {
+        match rest {
+            [Token::Word(name), Token::Comma, after @ ..] => {
+                names.push(*name)?;
+                rest = after;
+            }
+            [Token::Word(name), Token::Close] => {
+                names.push(*name)?;
+                return Ok(Some(names));
+            }
+            _ => return Ok(None),
         }
-        _ => Ok(None),
     }
 }
 

@@ -1,6 +1,7 @@
 ghost use Rattle.std.specs.Prelude.{◌≡◌, ◌==◌, ◌<◌, ◌∷◌, ◌++◌, not, length, option_map, option_to_list, IfOk, true};
 ghost use Rattle.std.specs.List.{list_all, list_any, prefix_len};
 ghost use Rattle.gate_netlist.specs.Symbols.{Word, code_of, mark_of, is_letter, begins_with_letter, is_allowed, is_end, symbols};
+ghost use Rattle.gate_netlist.specs.Splits.{word_first, after_open, after_comma, after_equals, closes};
 ghost use Rattle.gate_netlist.specs.Tokens.{symbol_of, symbols_of};
 
 use std::alloc::{AllocError, Global};
@@ -119,4 +120,54 @@ pub(crate) fn tokens(alloc: Global, code: &[u8]) -> Result<Vec<Token<'_>>, Alloc
         rest = after;
     }
     Ok(tokens)
+}
+
+/// The word in front, and what follows it.
+pub(crate) fn word_first<'t, 'a>(tokens: &'t [Token<'a>]) -> Option<(&'a str, &'t [Token<'a>])>
+    ensures { option_map (λ found. (found.0.now, symbols_of found.1.now)) result ≡ word_first (symbols_of tokens.now) }
+{
+    match tokens {
+        [Token::Word(word), rest @ ..] => Some((*word, rest)),
+        _ => None,
+    }
+}
+
+/// What follows a `(` in front.
+pub(crate) fn after_open<'t, 'a>(tokens: &'t [Token<'a>]) -> Option<&'t [Token<'a>]>
+    ensures { option_map (λ rest. symbols_of rest.now) result ≡ after_open (symbols_of tokens.now) }
+{
+    match tokens {
+        [Token::Open, rest @ ..] => Some(rest),
+        _ => None,
+    }
+}
+
+/// What follows a `,` in front.
+pub(crate) fn after_comma<'t, 'a>(tokens: &'t [Token<'a>]) -> Option<&'t [Token<'a>]>
+    ensures { option_map (λ rest. symbols_of rest.now) result ≡ after_comma (symbols_of tokens.now) }
+{
+    match tokens {
+        [Token::Comma, rest @ ..] => Some(rest),
+        _ => None,
+    }
+}
+
+/// What follows a `=` in front.
+pub(crate) fn after_equals<'t, 'a>(tokens: &'t [Token<'a>]) -> Option<&'t [Token<'a>]>
+    ensures { option_map (λ rest. symbols_of rest.now) result ≡ after_equals (symbols_of tokens.now) }
+{
+    match tokens {
+        [Token::Equals, rest @ ..] => Some(rest),
+        _ => None,
+    }
+}
+
+/// Whether a `)` stands there and no more.
+pub(crate) fn closes(tokens: &[Token]) -> bool
+    ensures { result ≡ closes (symbols_of tokens.now) }
+{
+    match tokens {
+        [Token::Close] => true,
+        _ => false,
+    }
 }
