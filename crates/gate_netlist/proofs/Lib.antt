@@ -1,3 +1,4 @@
 pub mod FirstLine
 pub mod Positions
+pub mod Splitting
 pub mod Words

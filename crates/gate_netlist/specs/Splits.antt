@@ -7,14 +7,10 @@ abbrev pub word_first : List Symbol → Option (List ℕ × List Symbol)
 word_first (Word w ∷ ss) = Some (w, ss)
 word_first _ = None
 
--- what follows `(`, `,` or `=`
+-- what follows `(` or `=`
 abbrev pub after_open : List Symbol → Option (List Symbol)
 after_open (Open ∷ ss) = Some ss
 after_open _ = None
-
-abbrev pub after_comma : List Symbol → Option (List Symbol)
-after_comma (Comma ∷ ss) = Some ss
-after_comma _ = None
 
 abbrev pub after_equals : List Symbol → Option (List Symbol)
 after_equals (Equals ∷ ss) = Some ss
@@ -24,3 +20,7 @@ after_equals _ = None
 abbrev pub closes : List Symbol → Bool
 closes (Close ∷ []) = true
 closes _ = false
+
+abbrev pub has_comma : List Symbol → Bool
+has_comma (Comma ∷ ss) = true
+has_comma _ = false

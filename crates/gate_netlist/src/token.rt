@@ -1,7 +1,7 @@
 ghost use Rattle.std.specs.Prelude.{◌≡◌, ◌==◌, ◌<◌, ◌∷◌, ◌++◌, not, length, option_map, option_to_list, IfOk, true};
 ghost use Rattle.std.specs.List.{list_all, list_any, prefix_len};
 ghost use Rattle.gate_netlist.specs.Symbols.{Word, code_of, mark_of, is_letter, begins_with_letter, is_allowed, is_end, symbols};
-ghost use Rattle.gate_netlist.specs.Splits.{word_first, after_open, after_comma, after_equals, closes};
+ghost use Rattle.gate_netlist.specs.Splits.{word_first, after_open, has_comma, after_equals, closes};
 ghost use Rattle.gate_netlist.specs.Tokens.{symbol_of, symbols_of};
 
 use std::alloc::{AllocError, Global};
@@ -142,13 +142,13 @@ pub(crate) fn after_open<'t, 'a>(tokens: &'t [Token<'a>]) -> Option<&'t [Token<'
     }
 }
 
-/// What follows a `,` in front.
-pub(crate) fn after_comma<'t, 'a>(tokens: &'t [Token<'a>]) -> Option<&'t [Token<'a>]>
-    ensures { option_map (λ rest. symbols_of rest.now) result ≡ after_comma (symbols_of tokens.now) }
+/// Whether a `,` stands in front.
+pub(crate) fn has_comma(tokens: &[Token]) -> bool
+    ensures { result ≡ has_comma (symbols_of tokens.now) }
 {
     match tokens {
-        [Token::Comma, rest @ ..] => Some(rest),
-        _ => None,
+        [Token::Comma, ..] => true,
+        _ => false,
     }
 }
 
