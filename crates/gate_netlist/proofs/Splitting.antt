@@ -1,13 +1,15 @@
 -- Statements, read from the front.
-use Rattle.std.proofs.Common.{◌≡◌, ℕ, Bool, true, false, cond, List, [], ◌∷◌, ◌++◌, ◌+◌, ◌≤◌, drop, length, append_assoc, sym, ap, ◌∙◌, Option, Some, None, option_map, Result, Ok, Err, refl}
+use Rattle.std.proofs.Common.{◌≡◌, ℕ, Bool, true, false, cond, List, [], ◌∷◌, ◌++◌, ◌+◌, ◌≤◌, drop, length, eqb, map, not, ◌&&◌, ◌||◌, arith, append_assoc, sym, ap, ◌∙◌, Option, Some, None, option_map, Result, Ok, Err, refl}
+use Rattle.std.specs.List.{list_any, list_all}
+use Rattle.std.proofs.lemmas.Bool.{eqb-true}
 use Rattle.std.proofs.lemmas.List.{drop-drop, drop-map, drop_all}
 use Rattle.gate_netlist.specs.declared.fault.BenchCause.{BenchCause}
-use Rattle.gate_netlist.specs.declared.fault.BenchCause.TheVariants.{BadLine}
+use Rattle.gate_netlist.specs.declared.fault.BenchCause.TheVariants.{BadLine, BadName}
 use Rattle.gate_netlist.specs.declared.token.Token.{Token}
 use Rattle.gate_netlist.specs.Tokens.{symbol_of, symbols_of}
-use Rattle.gate_netlist.specs.Symbols.{Symbol, Open, Close, Comma, Equals, Word}
+use Rattle.gate_netlist.specs.Symbols.{Symbol, Open, Close, Comma, Equals, Word, code_of, is_allowed, is_end, symbols}
 use Rattle.gate_netlist.specs.Splits.{word_first, after_open, has_comma, after_equals, closes}
-use Rattle.gate_netlist.specs.Statements.{Name, Statement, Nothing, named, arguments, marked, driven_by, statement_of}
+use Rattle.gate_netlist.specs.Statements.{Name, Statement, Nothing, named, arguments, marked, driven_by, statement_of, meaning_of}
 
 abbrev pub named_from : Option (List ℕ × List Symbol) → Option (List Name)
 named_from None = None
@@ -112,3 +114,24 @@ statement_reads [] = refl
 statement_reads (Word w ∷ Open ∷ ss) = refl
 statement_reads (Word n ∷ Equals ∷ ss) = refl
 statement_reads _ = refl
+
+pub without_tokens : (ts : List Token) → true ≡ eqb (length ts) 0 → statement_of (symbols_of ts) ≡ Ok Nothing
+unfolding statement_of
+without_tokens [] e = refl
+without_tokens (t ∷ ts) e = absurd (omega (arith, eqb-true (length (t ∷ ts)) 0 (sym e)))
+
+pub without_word : (ts : List Token) → false ≡ eqb (length ts) 0 → None ≡ word_first (symbols_of ts) → statement_of (symbols_of ts) ≡ Err BadLine
+without_word [] e f = absurd cc
+without_word (t ∷ ts) e f = statement_reads (symbols_of (t ∷ ts)) ∙ rw (← f) refl
+
+list_any-map : {X Y : Type 0} (p : Y → Bool) (f : X → Y) (xs : List X) → list_any p (map f xs) ≡ list_any (λ x. p (f x)) xs
+list_any-map p f [] = refl
+list_any-map p f (x ∷ xs) = ap (λ b. p (f x) || b) (list_any-map p f xs)
+
+-- a line of allowed bytes, in these tokens
+pub meaning_at : (line : List ℕ) (ts : List Token) (t : Bool) → true ≡ list_all is_allowed (code_of line) → symbols_of ts ≡ symbols (code_of line) → t ≡ list_any (λ x. is_end (symbol_of x)) ts
+    → meaning_of line ≡ cond t (Err BadName) (statement_of (symbols_of ts))
+unfolding meaning_of
+meaning_at line ts t e f g =
+    let ended : list_any is_end (symbols (code_of line)) ≡ t = ap (list_any is_end) (sym f) ∙ list_any-map is_end symbol_of ts ∙ sym g in
+    rw (← e, ended, f) (elim t as (λ b. cond (true && not b) (statement_of (symbols (code_of line))) (Err BadName) ≡ cond b (Err BadName) (statement_of (symbols (code_of line)))) [ true ↦ refl | false ↦ refl ])

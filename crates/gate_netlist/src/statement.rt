@@ -181,10 +181,10 @@ fn defining<'a>(alloc: Global, name: &'a str, tokens: &[Token<'a>]) -> Result<St
 fn statement_of<'a>(alloc: Global, tokens: &[Token<'a>]) -> Result<Statement<'a>, BenchCause>
     ensures { Gives cause.Memory meant result (statement_of (symbols_of tokens.now)) }
 {
+    if tokens.is_empty() {
+        return Ok(Statement::Nothing);
+    }
     let Some((word, rest)) = word_first(tokens) else {
-        if tokens.is_empty() {
-            return Ok(Statement::Nothing);
-        }
         return Err(BenchCause::BadLine);
     };
     if let Some(rest) = after_open(rest) {
