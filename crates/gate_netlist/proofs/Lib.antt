@@ -1,4 +1,5 @@
 pub mod FirstLine
 pub mod Positions
+pub mod Naming
 pub mod Splitting
 pub mod Words

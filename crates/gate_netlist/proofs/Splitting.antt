@@ -124,7 +124,7 @@ pub without_word : (ts : List Token) → false ≡ eqb (length ts) 0 → None �
 without_word [] e f = absurd cc
 without_word (t ∷ ts) e f = statement_reads (symbols_of (t ∷ ts)) ∙ rw (← f) refl
 
-list_any-map : {X Y : Type 0} (p : Y → Bool) (f : X → Y) (xs : List X) → list_any p (map f xs) ≡ list_any (λ x. p (f x)) xs
+pub list_any-map : {X Y : Type 0} (p : Y → Bool) (f : X → Y) (xs : List X) → list_any p (map f xs) ≡ list_any (λ x. p (f x)) xs
 list_any-map p f [] = refl
 list_any-map p f (x ∷ xs) = ap (λ b. p (f x) || b) (list_any-map p f xs)
 

@@ -4,6 +4,8 @@ pub mod Cut
 pub mod Held
 pub mod Faults
 pub mod Gives
+pub mod Bench
+pub mod Keys
 pub mod Netlist
 pub mod Meant
 pub mod Statements

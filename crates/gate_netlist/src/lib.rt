@@ -9,6 +9,7 @@ mod fault;
 mod lines;
 mod nets;
 mod statement;
+mod reading;
 mod token;
 
 pub use bench::{Bench, Definition};
