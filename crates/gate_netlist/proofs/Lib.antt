@@ -1,4 +1,5 @@
 pub mod FirstLine
+pub mod Accepting
 pub mod Positions
 pub mod Naming
 pub mod Splitting

@@ -1,4 +1,4 @@
-ghost use Rattle.std.specs.Prelude.{◌≡◌, ◌+◌, ◌<◌, ◌≤◌, ◌++◌, ◌∷◌, [], length, map, not, position, Some, IfOk, OnOk, OnErr, option_to_list};
+ghost use Rattle.std.specs.Prelude.{◌≡◌, ◌+◌, ◌<◌, ◌≤◌, ◌++◌, ◌∷◌, [], length, map, not, position, Some, IfOk, OnOk, OnErr, option_to_list, option_map};
 ghost use Rattle.std.specs.List.{list_all, filter_map};
 ghost use Rattle.gate_netlist.specs.declared.fault.BenchCause.TheVariants as cause;
 ghost use Rattle.gate_netlist.specs.Faults.{out_of_memory};
@@ -6,7 +6,8 @@ ghost use Rattle.gate_netlist.specs.Gives.{Gives};
 ghost use Rattle.gate_netlist.specs.Lines.{lines_of};
 ghost use Rattle.gate_netlist.specs.Meant.{meant};
 ghost use Rattle.gate_netlist.specs.Keys.{names_in};
-ghost use Rattle.gate_netlist.specs.Bench.{net_of, refusal, unless, stated, is_among, uses_other, number_of, definition_of, output_of, each_once, accepted, bench_of};
+ghost use Rattle.gate_netlist.specs.Faults.{fault_at};
+ghost use Rattle.gate_netlist.specs.Bench.{net_of, nets_of, refusal, unless, stated, is_among, uses_other, number_of, definition_of, output_of, each_once, accepted, bench_of};
 
 use crate::bench::{Bench, Definition};
 use crate::fault::{BenchCause, BenchFault};
@@ -47,4 +48,60 @@ fn number_of(names: &IndexSet<String>, name: &str) -> u32
         Some(number) => number as u32,
         None => names.len() as u32,
     }
+}
+
+fn net_of<'a>(statement: &Statement<'a>) -> Option<&'a str>
+    ensures { option_map (λ name. name.now) result ≡ net_of (meant statement.now) }
+{
+    match statement {
+        Statement::Input(name) => Some(*name),
+        Statement::Gate { name, .. } => Some(*name),
+        Statement::Flop { name, .. } => Some(*name),
+        Statement::Nothing => None,
+        Statement::Output(_) => None,
+    }
+}
+
+/// What a line says, after lines that define these nets. The net that it defines goes last.
+#[tactic(auto, unfolding(crate::specs::Bench::stated))]
+fn stated<'a>(alloc: Global, names: &mut IndexSet<String>, line: &'a [u8]) -> Result<Statement<'a>, BenchCause>
+    ensures gives { Gives cause.Memory meant result (stated (names_in names.old) line.now) }
+    ensures names { IfOk result (λ s. names_in names.new ≡ names_in names.old ++ option_to_list (net_of (meant s))) }
+{
+    let statement = meaning_of(alloc, line)?;
+    match net_of(&statement) {
+        None => Ok(statement),
+        Some(name) => {
+            define(alloc, names, name)?;
+            Ok(statement)
+        }
+    }
+}
+
+fn fault_at(line: u64, cause: BenchCause) -> BenchFault
+    ensures { result ≡ fault_at line cause }
+{
+    match cause {
+        BenchCause::Memory => BenchFault::MEMORY,
+        _ => BenchFault { line, cause },
+    }
+}
+
+/// What the lines of a text say, one statement a line. The nets that they define go last.
+fn statements<'a>(alloc: Global, names: &mut IndexSet<String>, text: &'a [u8]) -> Result<Vec<Statement<'a>>, BenchFault>
+    ensures gives { Gives out_of_memory (λ ss. map meant ss.items) result (accepted (names_in names.old) 1 (lines_of text.now)) }
+    ensures names { IfOk result (λ ss. names_in names.new ≡ names_in names.old ++ nets_of (map meant ss.items)) }
+{
+    let mut statements = Vec::new(alloc);
+    let mut rest = Some(text);
+    while let Some(text) = rest {
+        let (line, after) = next_line(text);
+        let number = statements.len() as u64 + 1;
+        match stated(alloc, names, line) {
+            Ok(statement) => statements.push(statement)?,
+            Err(cause) => return Err(fault_at(number, cause)),
+        }
+        rest = after;
+    }
+    Ok(statements)
 }
