@@ -105,3 +105,95 @@ fn statements<'a>(alloc: Global, names: &mut IndexSet<String>, text: &'a [u8]) -
     }
     Ok(statements)
 }
+
+fn are_defined(names: &IndexSet<String>, nets: &[&str]) -> bool
+    ensures { result ≡ list_all (λ net. is_among (names_in names.now) net.now) nets.now }
+{
+    nets.iter().all(|net| is_defined(names, net))
+}
+
+/// Whether a line uses a net that is none of these.
+fn uses_other(names: &IndexSet<String>, statement: &Statement) -> bool
+    ensures { result ≡ uses_other (names_in names.now) (meant statement.now) }
+{
+    match statement {
+        Statement::Output(net) => !is_defined(names, net),
+        Statement::Gate { inputs, .. } => !are_defined(names, inputs),
+        Statement::Flop { d, .. } => !is_defined(names, d),
+        Statement::Nothing => false,
+        Statement::Input(_) => false,
+    }
+}
+
+/// The first line, from 0 on, that uses a net which is none of these.
+fn undriven(names: &IndexSet<String>, statements: &[Statement]) -> Option<usize>
+    ensures { result ≡ position (λ s. uses_other (names_in names.now) (meant s)) statements.now }
+{
+    statements.iter().position(|statement| uses_other(names, statement))
+}
+
+fn numbers_of(alloc: Global, names: &IndexSet<String>, nets: &[&str]) -> Result<Vec<u32>, AllocError>
+    requires { length (names_in names.now) ≤ 999999 }
+    ensures { IfOk result (λ numbers. numbers.items ≡ map (λ net. number_of (names_in names.now) net.now) nets.now) }
+{
+    nets.iter().map(|net| number_of(names, net)).collect(alloc)
+}
+
+/// What a line makes of the net that it defines.
+fn definition_of(
+    alloc: Global,
+    names: &IndexSet<String>,
+    statement: &Statement,
+) -> Result<Option<Definition>, AllocError>
+    requires { length (names_in names.now) ≤ 999999 }
+    ensures { IfOk result (λ found. found ≡ definition_of (names_in names.now) (meant statement.now)) }
+{
+    match statement {
+        Statement::Input(_) => Ok(Some(Definition::Input)),
+        Statement::Gate { kind, inputs, .. } => {
+            let inputs = Nets::new(numbers_of(alloc, names, inputs)?);
+            Ok(Some(Definition::Gate { kind: *kind, inputs }))
+        }
+        Statement::Flop { d, .. } => Ok(Some(Definition::Flop {
+            d: number_of(names, d),
+        })),
+        Statement::Nothing => Ok(None),
+        Statement::Output(_) => Ok(None),
+    }
+}
+
+/// What the lines make of the nets that they define.
+fn definitions(
+    alloc: Global,
+    names: &IndexSet<String>,
+    statements: &[Statement],
+) -> Result<Vec<Definition>, AllocError>
+    requires { length (names_in names.now) ≤ 999999 }
+    ensures { IfOk result (λ found. found.items ≡ filter_map (definition_of (names_in names.now)) (map meant statements.now)) }
+{
+    let mut definitions = Vec::new(alloc);
+    for statement in statements {
+        if let Some(definition) = definition_of(alloc, names, statement)? {
+            definitions.push(definition)?;
+        }
+    }
+    Ok(definitions)
+}
+
+/// The nets that lines mark as outputs, each once, by the first line that marks it.
+fn outputs(
+    alloc: Global,
+    names: &IndexSet<String>,
+    statements: &[Statement],
+) -> Result<Vec<u32>, AllocError>
+    requires { length (names_in names.now) ≤ 999999 }
+    ensures { IfOk result (λ found. found.items ≡ each_once (filter_map (output_of (names_in names.now)) (map meant statements.now))) }
+{
+    let mut marked: IndexSet<u32> = IndexSet::new(alloc);
+    for statement in statements {
+        if let Statement::Output(net) = statement {
+            marked.insert(number_of(names, net))?;
+        }
+    }
+    Vec::from_slice(alloc, marked.as_slice())
+}
