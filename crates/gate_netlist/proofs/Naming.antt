@@ -1,7 +1,7 @@
 -- Names as a set of texts keeps them.
-use Rattle.std.proofs.Common.{◌≡◌, ℕ, ◌<◌, ◌≤◌, Bool, true, false, not, cond, ltb, List, [], ◌∷◌, ◌++◌, length, map, Option, Some, None, Result, Ok, Err, refl, ap, sym, ◌∙◌, inl, inr, string_bytes, Global, arith}
+use Rattle.std.proofs.Common.{◌≡◌, ℕ, ◌<◌, ◌≤◌, Bool, true, false, not, ◌&&◌, cond, ltb, List, [], ◌∷◌, ◌++◌, length, map, Option, Some, None, Result, Ok, Err, refl, ap, sym, ◌∙◌, inl, inr, string_bytes, Global, arith}
 use Rattle.std.specs.Prelude.{String}
-use Rattle.std.specs.List.{list_any, position, position_or_len}
+use Rattle.std.specs.List.{list_any, list_all, position, position_or_len}
 use Rattle.std.specs.Str.{bytes_eq}
 use Rattle.std.proofs.lemmas.Bool.{cases_lt, lt-ltb, le-ltb}
 use Rattle.std.proofs.lemmas.List.{map-append, length-map}
@@ -53,3 +53,7 @@ added key n ks new is absent inserted =
     let none : list_any (has_bytes (string_bytes key)) ks ≡ false = rw is absent in
     let last : new ≡ ks ++ key ∷ [] = inserted ∙ rw none refl in
     rw last (map-append string_bytes ks (key ∷ []) ∙ ap (λ n. map string_bytes ks ++ n ∷ []) is)
+
+pub list_all-map : {X Y : Type 0} (p : Y → Bool) (f : X → Y) (xs : List X) → list_all p (map f xs) ≡ list_all (λ x. p (f x)) xs
+list_all-map p f [] = refl
+list_all-map p f (x ∷ xs) = ap (λ b. p (f x) && b) (list_all-map p f xs)

@@ -162,6 +162,26 @@ fn definition_of(
     }
 }
 
+/// Adds what a line makes of the net that it defines.
+fn push_definition(
+    alloc: Global,
+    names: &IndexSet<String>,
+    statement: &Statement,
+    definitions: &mut Vec<Definition>,
+) -> Result<(), AllocError>
+    requires { length (names_in names.now) ≤ 999999 }
+    ensures { OnOk result (definitions.new.items
+        ≡ definitions.old.items ++ option_to_list (definition_of (names_in names.now) (meant statement.now))) }
+{
+    match definition_of(alloc, names, statement)? {
+        None => Ok(()),
+        Some(definition) => {
+            definitions.push(definition)?;
+            Ok(())
+        }
+    }
+}
+
 /// What the lines make of the nets that they define.
 fn definitions(
     alloc: Global,
@@ -169,31 +189,47 @@ fn definitions(
     statements: &[Statement],
 ) -> Result<Vec<Definition>, AllocError>
     requires { length (names_in names.now) ≤ 999999 }
-    ensures { IfOk result (λ found. found.items ≡ filter_map (definition_of (names_in names.now)) (map meant statements.now)) }
+    ensures { IfOk result (λ found. found.items
+        ≡ filter_map (λ s. definition_of (names_in names.now) (meant s)) statements.now) }
 {
     let mut definitions = Vec::new(alloc);
     for statement in statements {
-        if let Some(definition) = definition_of(alloc, names, statement)? {
-            definitions.push(definition)?;
-        }
+        push_definition(alloc, names, statement, &mut definitions)?;
     }
     Ok(definitions)
 }
 
-/// The nets that lines mark as outputs, each once, by the first line that marks it.
-fn outputs(
+/// The net that a line marks.
+fn output_of(names: &IndexSet<String>, statement: &Statement) -> Option<u32>
+    requires { length (names_in names.now) ≤ 999999 }
+    ensures { result ≡ output_of (names_in names.now) (meant statement.now) }
+{
+    match statement {
+        Statement::Output(net) => Some(number_of(names, net)),
+        _ => None,
+    }
+}
+
+/// The nets that lines mark as outputs, line by line.
+fn marked(
     alloc: Global,
     names: &IndexSet<String>,
     statements: &[Statement],
 ) -> Result<Vec<u32>, AllocError>
     requires { length (names_in names.now) ≤ 999999 }
-    ensures { IfOk result (λ found. found.items ≡ each_once (filter_map (output_of (names_in names.now)) (map meant statements.now))) }
+    ensures { IfOk result (λ found. found.items
+        ≡ filter_map (λ s. output_of (names_in names.now) (meant s)) statements.now) }
 {
-    let mut marked: IndexSet<u32> = IndexSet::new(alloc);
-    for statement in statements {
-        if let Statement::Output(net) = statement {
-            marked.insert(number_of(names, net))?;
-        }
+    statements.iter().filter_map(|statement| output_of(names, statement)).collect(alloc)
+}
+
+/// Each number once, where it first stands.
+fn each_once(alloc: Global, numbers: &[u32]) -> Result<Vec<u32>, AllocError>
+    ensures { IfOk result (λ found. found.items ≡ each_once numbers.now) }
+{
+    let mut found: IndexSet<u32> = IndexSet::new(alloc);
+    for number in numbers {
+        found.insert(*number)?;
     }
-    Vec::from_slice(alloc, marked.as_slice())
+    Vec::from_slice(alloc, found.as_slice())
 }
