@@ -19,3 +19,4 @@ pub use driver::Driver;
 pub use fault::{BenchCause, BenchFault, SettingsFault};
 pub use lines::next_line;
 pub use nets::Nets;
+pub use reading::read_bench;

@@ -233,3 +233,28 @@ fn each_once(alloc: Global, numbers: &[u32]) -> Result<Vec<u32>, AllocError>
     }
     Vec::from_slice(alloc, found.as_slice())
 }
+
+/// What a bench text says: its nets in the order of their defining lines, and the nets marked as outputs.
+///
+/// A refused text gives the first fault: the first faulty line's, with the line's number from 1 on, or else that of the
+/// first line that uses a net which no line defines. Want of memory is answered as soon as a growth is refused, with line 0.
+#[tactic(auto, unfolding(crate::specs::Bench::bench_of))]
+pub fn read_bench(alloc: Global, text: &[u8]) -> Result<Bench, BenchFault>
+    ensures { Gives out_of_memory (λ bench. bench) result (bench_of text.now) }
+{
+    let mut names = IndexSet::new(alloc);
+    let statements = statements(alloc, &mut names, text)?;
+    if let Some(line) = undriven(&names, &statements) {
+        return Err(BenchFault {
+            line: line as u64 + 1,
+            cause: BenchCause::Undriven,
+        });
+    }
+    let definitions = definitions(alloc, &names, &statements)?;
+    let outputs = each_once(alloc, &marked(alloc, &names, &statements)?)?;
+    Ok(Bench {
+        names,
+        definitions,
+        outputs,
+    })
+}
