@@ -1,6 +1,7 @@
 pub mod FirstLine
 pub mod Accepting
 pub mod Positions
+pub mod Resolving
 pub mod Naming
 pub mod Splitting
 pub mod Words
