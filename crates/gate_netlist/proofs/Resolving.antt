@@ -17,7 +17,12 @@ use Rattle.gate_netlist.specs.declared.statement.GateWord.TheVariants as word
 use Rattle.gate_netlist.specs.Netlist.{Netlist, IsDefinition, IsNetlist}
 use Rattle.gate_netlist.specs.Symbols.{Symbol, Open, Close, Comma, Equals, Word, code_of, symbols, is_clean}
 use Rattle.gate_netlist.specs.Statements.{Name, Statement, Nothing, Input, Output, Gate, Flop, says, gate_of, arguments, takes, marked, driven, driven_by, statement_of, meaning_of}
-use Rattle.gate_netlist.specs.Bench.{◌>>=◌, net_of, is_among, refusal, unless, stated, at_line, accepted, nets_of, uses, uses_other, number_of, definition_of, output_of, with_last, each_once, netlist_of}
+use Rattle.gate_netlist.specs.Bench.{◌>>=◌, net_of, is_among, refusal, unless, stated, at_line, accepted, nets_of, uses, uses_other, number_of, definition_of, output_of, with_last, each_once, netlist_of, bench_of}
+use Rattle.gate_netlist.specs.declared.fault.BenchCause.TheVariants.{Undriven}
+use Rattle.gate_netlist.specs.declared.statement.Statement.{Statement as Written}
+use Rattle.gate_netlist.specs.Lines.{lines_of}
+use Rattle.gate_netlist.specs.Meant.{meant}
+use Rattle.gate_netlist.proofs.Positions.{position-map}
 use Rattle.gate_netlist.proofs.Naming.{place_none}
 
 -- ---- what a line says has inputs enough
@@ -237,3 +242,24 @@ is_netlist ss a e =
       defined = λ n lt. at-place (length (nets_of ss)) (filter_map (definition_of (nets_of ss)) ss) n defined;
       outputs = All-from_recursion (λ i. i < length (nets_of ss)) (each_once (filter_map (output_of (nets_of ss)) ss)) (once-below (length (nets_of ss)) [] (filter_map (output_of (nets_of ss)) ss) tt (outputs-below (nets_of ss) ss driven));
     }
+
+-- ---- by the statements as they were written
+
+pub undriven_is : (written : List Written) (nets : List Name) (found : Option ℕ) → nets ≡ nets_of (map meant written) → found ≡ position (λ s. uses_other nets (meant s)) written → position (uses_other (nets_of (map meant written))) (map meant written) ≡ found
+undriven_is written nets found e f = rw (← e) (position-map (uses_other nets) meant written ∙ sym f)
+
+filter_map-map : {X Y Z : Type 0} (f : Y → Option Z) (g : X → Y) (xs : List X) → filter_map f (map g xs) ≡ filter_map (λ x. f (g x)) xs
+filter_map-map f g [] = refl
+filter_map-map f g (x ∷ xs) = ap (cons_option (f (g x))) (filter_map-map f g xs)
+
+pub netlist_is : (written : List Written) (nets : List Name) (ds : List Definition) (os : List ℕ) → nets ≡ nets_of (map meant written) → ds ≡ filter_map (λ s. definition_of nets (meant s)) written → os ≡ each_once (filter_map (λ s. output_of nets (meant s)) written)
+    → netlist_of (map meant written) ≡ record { names = nets; definitions = ds; outputs = os }
+netlist_is written nets ds os e f g = rw (f, g, ← filter_map-map (definition_of nets) meant written, ← filter_map-map (output_of nets) meant written, e) refl
+
+pub bench-undriven : (text : List ℕ) (ss : List Statement) (i : ℕ) → accepted [] 1 (lines_of text) ≡ Ok ss → position (uses_other (nets_of ss)) ss ≡ Some i → bench_of text ≡ Err (record { line = i + 1; cause = Undriven })
+unfolding bench_of
+bench-undriven text ss i e f = rw (e, f) refl
+
+pub bench-driven : (text : List ℕ) (ss : List Statement) → accepted [] 1 (lines_of text) ≡ Ok ss → position (uses_other (nets_of ss)) ss ≡ None → bench_of text ≡ Ok (netlist_of ss)
+unfolding bench_of
+bench-driven text ss e f = rw (e, f) refl
