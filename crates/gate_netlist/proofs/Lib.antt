@@ -1,3 +1,5 @@
+pub mod FirstLine
+pub mod Accepting
 pub mod Positions
 pub mod EvenCuts
 pub mod Members
@@ -7,3 +9,7 @@ pub mod SettingValues
 pub mod Circuits
 pub mod Added
 pub mod Causes
+pub mod Resolving
+pub mod Naming
+pub mod Splitting
+pub mod Words

@@ -1,3 +1,4 @@
+pub mod Lines
 pub mod Circuit
 pub mod Clocked
 pub mod Causes
@@ -9,6 +10,14 @@ pub mod HeldParts
 pub mod Faults
 pub mod Kinds
 pub mod Meaning
+pub mod Gives
+pub mod Bench
+pub mod Keys
 pub mod Netlist
+pub mod Meant
+pub mod Statements
+pub mod Splits
+pub mod Symbols
+pub mod Tokens
 pub mod HeldBench
 pub mod Settings
