@@ -1,10 +1,24 @@
 //! From three texts to a dump.
-ghost use Rattle.std.specs.Prelude.{◌≤◌};
-ghost use Rattle.warp_sim.specs.Answer.{IsAnswer, IsCounted};
+ghost use Rattle.std.specs.Prelude.{◌≡◌, ◌≤◌};
+ghost use Rattle.warp_sim.specs.Answer.{IsCircuitAnswer, IsAnswer, IsCounted};
 
 use crate::fault::Fault;
-use gate_netlist::Counts;
+use gate_netlist::{Circuit, Counts, read_bench};
 use std::alloc::Global;
+
+/// The circuit of a bench text and a settings text.
+fn circuit_of(alloc: Global, bench: &[u8], settings: &[u8]) -> Result<Circuit, Fault>
+    ensures { IsCircuitAnswer bench.now settings.now result }
+{
+    let bench = match read_bench(alloc, bench) {
+        Ok(bench) => bench,
+        Err(fault) => return Err(Fault::from(fault)),
+    };
+    match Circuit::of(alloc, bench, settings) {
+        Ok(circuit) => Ok(circuit),
+        Err(fault) => Err(Fault::from(fault)),
+    }
+}
 
 /// The dump of a circuit, up to the time `until`.
 pub fn simulate_text(
@@ -21,8 +35,12 @@ pub fn simulate_text(
 }
 
 /// How many parts a circuit has.
+#[tactic(auto, unfolding(crate::specs::Answer::IsCounted))]
 pub fn counts_text(alloc: Global, bench: &[u8], settings: &[u8]) -> Result<Counts, Fault>
     ensures { IsCounted bench.now settings.now result }
 {
-    Err(Fault::Memory)
+    match circuit_of(alloc, bench, settings) {
+        Ok(circuit) => Ok(circuit.counts()),
+        Err(fault) => Err(fault),
+    }
 }
