@@ -10,6 +10,8 @@ use Rattle.gate_netlist.specs.Bench.{bench_of}
 use Rattle.gate_netlist.specs.Meaning.{IsAnswer as IsSettled}
 use Rattle.gate_netlist.specs.Circuit.{Design, source_of}
 use Rattle.gate_netlist.specs.Counts.{counts_of}
+use Rattle.gate_vcd.specs.Stimulus.{Reading, reading_of, signal}
+use Rattle.gate_vcd.specs.Dump.{dump_text}
 use Rattle.warp_sim.specs.declared.fault.Fault.{Fault}
 use Rattle.warp_sim.specs.declared.fault.Fault.TheVariants as faults
 
@@ -34,7 +36,16 @@ unfoldable pub IsCounted : (bench settings : List ℕ) → Result Counts Fault �
 IsCounted bench text (Ok counts) = (d : Design) × IsCircuitOf bench text d × (counts ≡ counts_of d)
 IsCounted bench text (Err fault) = IsNoCircuit bench text fault
 
--- a stand-in: no text is answered yet
+-- the value of a net of a circuit at a time, where the inputs have these signals: by the definition of gates,
+-- flip-flops and delays
+abbrev pub circuit_value : Design → (ℕ → ℕ → Logic) → ℕ → ℕ → Logic
+circuit_value d signals n t = value (source_of d) (λ time net. signals net time) n t
+
+-- The dump is the one text of the values of the circuit that the first two texts mean, under the signals of the
+-- third. A fault is that of the bench text, else of the settings, else of the stimulus; or want of memory.
 unfoldable pub IsAnswer : (bench settings stimulus : List ℕ) (until : ℕ) → Result (Vec ℕ Global) Fault → Type 0
-IsAnswer bench text stimulus until (Ok dump) = ⊥
-IsAnswer bench text stimulus until (Err fault) = Unit {0}
+IsAnswer bench text stimulus until (Ok dump) =
+    (d : Design) × IsCircuitOf bench text d × (r : Reading) × (reading_of stimulus d ≡ Ok r)
+    × (dump.items ≡ dump_text (codes "top") d.names r.timescale (circuit_value d (signal r)) until)
+IsAnswer bench text stimulus until (Err (faults.Stimulus f)) = (d : Design) × IsCircuitOf bench text d × (reading_of stimulus d ≡ Err f)
+IsAnswer bench text stimulus until (Err fault) = IsNoCircuit bench text fault
