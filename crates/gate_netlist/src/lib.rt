@@ -8,8 +8,8 @@ mod driver;
 mod fault;
 mod lines;
 mod nets;
-mod statement;
 mod reading;
+mod statement;
 mod token;
 
 pub use bench::{Bench, Definition};
@@ -20,3 +20,6 @@ pub use fault::{BenchCause, BenchFault, SettingsFault};
 pub use lines::next_line;
 pub use nets::Nets;
 pub use reading::read_bench;
+
+#[cfg(test)]
+mod bench_tests;
