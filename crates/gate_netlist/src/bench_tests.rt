@@ -199,27 +199,31 @@ fn reads_s27(rt: HostRuntime) -> Result<(), Fail> {
     Ok(())
 }
 
-/// So many lines that define an input each.
-fn inputs(alloc: Global, count: u32) -> Result<String, AllocError> {
-    let mut text = String::new(alloc);
-    for number in 0..count {
-        text.push_str(format!(in alloc; "INPUT(n{number})\n")?.as_str())?;
+/// The next number, in decimal digits.
+fn count(digits: &mut [u8; 6]) {
+    for digit in digits.iter_mut().rev() {
+        if *digit < b'9' {
+            *digit += 1;
+            return;
+        }
+        *digit = b'0';
     }
-    Ok(text)
 }
 
 #[test]
 fn reads_at_most_999_999_nets(rt: HostRuntime) -> Result<(), Fail> {
-    let most = inputs(rt.alloc(), 999_999)?;
-    assert_eq!(rt;
-        read_bench(rt.alloc(), most.as_bytes())?.names.len(),
-        999_999
-    );
-    let more = inputs(rt.alloc(), 1_000_000)?;
+    let mut text = Vec::with_capacity(rt.alloc(), 14_000_000)?;
+    let mut digits = *b"000000";
+    for _ in 0..1_000_000 {
+        text.extend_from_slice(b"INPUT(")?;
+        text.extend_from_slice(&digits)?;
+        text.extend_from_slice(b")\n")?;
+        count(&mut digits);
+    }
     let fault = BenchFault {
         line: 1_000_000,
         cause: BenchCause::TooManyNets,
     };
-    assert_eq!(rt; read_bench(rt.alloc(), more.as_bytes()).err(), Some(fault));
+    assert_eq!(rt; read_bench(rt.alloc(), &text).err(), Some(fault));
     Ok(())
 }
