@@ -22,15 +22,15 @@ among_keys ks n = list_any-map (λ other. bytes_eq n other) string_bytes ks
 
 place_at : (n len i : ℕ) → cond (ltb n len) (Some n) None ≡ Some i → i ≡ n
 place_at n len i e = elim (cases_lt n len) [
-    | inl less ↦ (let some : cond (ltb n len) (Some n) None ≡ Some n = rw (lt-ltb _ _ less) refl in cc)
-    | inr more ↦ (let none : cond (ltb n len) (Some n) None ≡ None = rw (le-ltb _ _ more) refl in absurd cc)
-  ]
+  | inl less ↦ (let some : cond (ltb n len) (Some n) None ≡ Some n = rw (lt-ltb _ _ less) refl in cc)
+  | inr more ↦ (let none : cond (ltb n len) (Some n) None ≡ None = rw (le-ltb _ _ more) refl in absurd cc)
+]
 
 place_past : (n len : ℕ) → cond (ltb n len) (Some n) None ≡ None → len ≤ n
 place_past n len e = elim (cases_lt n len) [
-    | inl less ↦ (let some : cond (ltb n len) (Some n) None ≡ Some n = rw (lt-ltb _ _ less) refl in absurd cc)
-    | inr more ↦ more
-  ]
+  | inl less ↦ (let some : cond (ltb n len) (Some n) None ≡ Some n = rw (lt-ltb _ _ less) refl in absurd cc)
+  | inr more ↦ more
+]
 
 pub place_some : {X : Type 0} (p : X → Bool) (xs : List X) (i : ℕ) → position p xs ≡ Some i → i ≡ position_or_len p xs
 place_some p xs i e = place_at (position_or_len p xs) (length xs) i e

@@ -23,3 +23,6 @@ pub use fault::{BenchCause, BenchFault, SettingsFault};
 pub use lines::next_line;
 pub use nets::Nets;
 pub use reading::read_bench;
+
+#[cfg(test)]
+mod bench_tests;

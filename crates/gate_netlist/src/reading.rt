@@ -64,7 +64,11 @@ fn net_of<'a>(statement: &Statement<'a>) -> Option<&'a str>
 
 /// What a line says, after lines that define these nets. The net that it defines goes last.
 #[tactic(auto, unfolding(crate::specs::Bench::stated))]
-fn stated<'a>(alloc: Global, names: &mut IndexSet<String>, line: &'a [u8]) -> Result<Statement<'a>, BenchCause>
+fn stated<'a>(
+    alloc: Global,
+    names: &mut IndexSet<String>,
+    line: &'a [u8],
+) -> Result<Statement<'a>, BenchCause>
     ensures gives { Gives cause.Memory meant result (stated (names_in names.old) line.now) }
     ensures names { IfOk result (λ s. names_in names.new ≡ names_in names.old ++ option_to_list (net_of (meant s))) }
 {
@@ -88,7 +92,11 @@ fn fault_at(line: u64, cause: BenchCause) -> BenchFault
 }
 
 /// What the lines of a text say, one statement a line. The nets that they define go last.
-fn statements<'a>(alloc: Global, names: &mut IndexSet<String>, text: &'a [u8]) -> Result<Vec<Statement<'a>>, BenchFault>
+fn statements<'a>(
+    alloc: Global,
+    names: &mut IndexSet<String>,
+    text: &'a [u8],
+) -> Result<Vec<Statement<'a>>, BenchFault>
     ensures gives { Gives out_of_memory (λ ss. map meant ss.items) result (accepted (names_in names.old) 1 (lines_of text.now)) }
     ensures names { IfOk result (λ ss. names_in names.new ≡ names_in names.old ++ nets_of (map meant ss.items)) }
 {
@@ -129,10 +137,16 @@ fn uses_other(names: &IndexSet<String>, statement: &Statement) -> bool
 fn undriven(names: &IndexSet<String>, statements: &[Statement]) -> Option<usize>
     ensures { result ≡ position (λ s. uses_other (names_in names.now) (meant s)) statements.now }
 {
-    statements.iter().position(|statement| uses_other(names, statement))
+    statements
+        .iter()
+        .position(|statement| uses_other(names, statement))
 }
 
-fn numbers_of(alloc: Global, names: &IndexSet<String>, nets: &[&str]) -> Result<Vec<u32>, AllocError>
+fn numbers_of(
+    alloc: Global,
+    names: &IndexSet<String>,
+    nets: &[&str],
+) -> Result<Vec<u32>, AllocError>
     requires { length (names_in names.now) ≤ 999999 }
     ensures { IfOk result (λ numbers. numbers.items ≡ map (λ net. number_of (names_in names.now) net.now) nets.now) }
 {
@@ -152,7 +166,10 @@ fn definition_of(
         Statement::Input(_) => Ok(Some(Definition::Input)),
         Statement::Gate { kind, inputs, .. } => {
             let inputs = Nets::new(numbers_of(alloc, names, inputs)?);
-            Ok(Some(Definition::Gate { kind: *kind, inputs }))
+            Ok(Some(Definition::Gate {
+                kind: *kind,
+                inputs,
+            }))
         }
         Statement::Flop { d, .. } => Ok(Some(Definition::Flop {
             d: number_of(names, d),
@@ -220,7 +237,10 @@ fn marked(
     ensures { IfOk result (λ found. found.items
         ≡ filter_map (λ s. output_of (names_in names.now) (meant s)) statements.now) }
 {
-    statements.iter().filter_map(|statement| output_of(names, statement)).collect(alloc)
+    statements
+        .iter()
+        .filter_map(|statement| output_of(names, statement))
+        .collect(alloc)
 }
 
 /// Each number once, where it first stands.

@@ -8,7 +8,10 @@ ghost use Rattle.gate_netlist.specs.Symbols.{Word, Open, Equals};
 ghost use Rattle.gate_netlist.specs.Tokens.{symbols_of};
 
 use crate::fault::BenchCause;
-use crate::token::{Token, has_comma, after_equals, after_open, closes, code_of, has_end, is_allowed, tokens, word_first};
+use crate::token::{
+    Token, after_equals, after_open, closes, code_of, has_comma, has_end, is_allowed, tokens,
+    word_first,
+};
 use gate_values::Kind;
 use std::alloc::{AllocError, Global};
 
@@ -161,7 +164,11 @@ fn marking<'a>(word: &str, tokens: &[Token<'a>]) -> Result<Statement<'a>, BenchC
 
 /// `name = word ( names )`, from behind the `=`.
 #[tactic(auto, using(crate::proofs::Splitting::defining_reads))]
-fn defining<'a>(alloc: Global, name: &'a str, tokens: &[Token<'a>]) -> Result<Statement<'a>, BenchCause>
+fn defining<'a>(
+    alloc: Global,
+    name: &'a str,
+    tokens: &[Token<'a>],
+) -> Result<Statement<'a>, BenchCause>
     ensures { Gives cause.Memory meant result (statement_of (Word name.now ∷ Equals ∷ symbols_of tokens.now)) }
 {
     let Some((word, rest)) = word_first(tokens) else {

@@ -51,8 +51,10 @@ fn is_letter(byte: u8) -> bool
 pub(crate) fn is_allowed(code: &[u8]) -> bool
     ensures { result ≡ list_all is_allowed code.now }
 {
-    code.iter()
-        .all(|byte| is_letter(*byte) || mark_of(*byte).is_some() || *byte == b' ' || *byte == b'\t')
+    code.iter().all(|byte| is_letter(*byte)
+        || mark_of(*byte).is_some()
+        || *byte == b' '
+        || *byte == b'\t')
 }
 
 /// Whether one of the words is `$end`, which is no name.

@@ -10,4 +10,4 @@ use Rattle.gate_netlist.proofs.reading.definitions.Goals as goal
 pub loop-statement-preserved : goal.loop-statement-preserved
 loop-statement-preserved c =
     c.in_ok-push_definition.ensures ∙ ap (λ (ds : List Definition). ds ++ option_to_list (definition_of (names_in c.args.names.now) (meant c.statement-item.result))) c.loop-statement.invariant
-        ∙ sym (filter_map_more (λ s. definition_of (names_in c.args.names.now) (meant s)) c.args.statements.now c.loop-statement.statement-index c.statement-item.result c.loop-statement-test.true c.statement-item.is)
+    ∙ sym (filter_map_more (λ s. definition_of (names_in c.args.names.now) (meant s)) c.args.statements.now c.loop-statement.statement-index c.statement-item.result c.loop-statement-test.true c.statement-item.is)

@@ -21,7 +21,7 @@ loop-rest-preserved c =
     let nets : names_in c.stated.new.names ≡ names_in c.loop-rest.names ++ option_to_list (net_of s) = c.in-Ok.ensures.names in
     record {
       names = nets ∙ ap (λ (ns : List Name). ns ++ option_to_list (net_of s)) c.loop-rest.invariant.names ∙ append_assoc (names_in c.args.names.now) (nets_of before) (option_to_list (net_of s))
-        ∙ ap (λ (ns : List Name). names_in c.args.names.now ++ ns) (sym (filter_map_push net_of before s) ∙ ap nets_of (sym now));
+          ∙ ap (λ (ns : List Name). names_in c.args.names.now ++ ns) (sym (filter_map_push net_of before s) ∙ ap nets_of (sym now));
       so_far = rw (now, c.in_ok-push-in-Ok.ensures.len, nets) (one_more before _ _ c.next_line.result.0.now (lines_after c.next_line.result.1) s _ c.in-Ok.ensures.gives (rw (c.in-Some.is, c.next_line.ensures.lines) at c.loop-rest.invariant.so_far));
     }
 
