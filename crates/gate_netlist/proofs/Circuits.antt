@@ -12,12 +12,11 @@ use Rattle.gate_netlist.specs.declared.bench.Definition.{Definition}
 use Rattle.gate_netlist.specs.declared.bench.Definition.TheVariants.{Input, Gate, Flop}
 use Rattle.gate_netlist.specs.Netlist.{Netlist, IsDefinition}
 use Rattle.gate_netlist.specs.Cut.{IsOwnership}
-use Rattle.gate_netlist.specs.Circuit.{Design, IsCircuit, CutFits, IsDriven, IsDelay, driver_of, is_input}
-use Rattle.gate_netlist.specs.Circuit as circuit
+use Rattle.gate_netlist.specs.Circuit.{Design, IsCircuit, IsClockedBy, CutFits, IsDriven, IsDelay, driver_of, is_input}
 use Rattle.gate_netlist.specs.Settings.{delay_at, table_at, net_delay, net_block, key_of, greatest_block, clock_name, delay_of_key}
 use Rattle.gate_netlist.specs.Causes.{is_flop_line, number_of, has_flop}
 use Rattle.gate_netlist.specs.Meaning.{with_clock, driver_by, delays_of, cut_of, clocked_circuit, circuit_of}
-use Rattle.gate_netlist.specs.Clocked.{IsClocked}
+use Rattle.gate_netlist.specs.Clocked.{HasClock}
 use Rattle.gate_netlist.proofs.SettingValues.{unwrap_or_fits, delay_at-IsDelay, delay_of_key-IsDelay, greatest_block-within, block_at-le}
 
 -- ---- a list over names and definitions
@@ -58,10 +57,10 @@ IsDriven-by ms nets clock name (Gate kind inputs) h c =
 IsDriven-by ms nets clock name (Flop d) h c =
     (h, c refl, unwrap_or_fits IsDelay (delay_at name (table_at (codes "net") ms)) (delay_of_key ms (codes "DFF")) (delay_at-IsDelay name (table_at (codes "net") ms)) (delay_of_key-IsDelay ms (codes "DFF")))
 
-IsClocked-by : (of : Option ℕ) (clock : ℕ) (d : Definition) → (is_flop_line d ≡ true → of ≡ Some clock) → circuit.IsClocked of (driver_by clock d)
-IsClocked-by of clock Input h = tt
-IsClocked-by of clock (Gate kind inputs) h = tt
-IsClocked-by of clock (Flop d) h = h refl
+IsClockedBy-driver : (of : Option ℕ) (clock : ℕ) (d : Definition) → (is_flop_line d ≡ true → of ≡ Some clock) → IsClockedBy of (driver_by clock d)
+IsClockedBy-driver of clock Input h = tt
+IsClockedBy-driver of clock (Gate kind inputs) h = tt
+IsClockedBy-driver of clock (Flop d) h = h refl
 
 -- ---- the cut
 
@@ -87,7 +86,7 @@ cut_is_ownership blocks names ds e = record {
 
 -- ---- the circuit
 
-module _ (ms : Members) (b : Netlist) (h : IsClocked (clock_name ms) b) where
+module _ (ms : Members) (b : Netlist) (h : HasClock (clock_name ms) b) where
   abbrev clock_net : Option ℕ
   clock_net = number_of b (clock_name ms)
 
@@ -110,8 +109,8 @@ module _ (ms : Members) (b : Netlist) (h : IsClocked (clock_name ms) b) where
   clock_with_flop : has_flop b ≡ true → (clocked_circuit ms b).clock ≡ Some (unwrap_or clock_net 0)
   clock_with_flop flop = rw flop (known_is clock_net (h.clocked flop))
 
-  clocked_at : (n : ℕ) → n < length b.names → circuit.IsClocked (clocked_circuit ms b).clock (driver_of (clocked_circuit ms b) n)
-  clocked_at n l = rw (driver_at n) (IsClocked-by _ _ (get_or b.definitions n Input) (λ e. clock_with_flop (has_flop-at n l e)))
+  clocked_at : (n : ℕ) → n < length b.names → IsClockedBy (clocked_circuit ms b).clock (driver_of (clocked_circuit ms b) n)
+  clocked_at n l = rw (driver_at n) (IsClockedBy-driver _ _ (get_or b.definitions n Input) (λ e. clock_with_flop (has_flop-at n l e)))
 
   clock_below : IfSome (clocked_circuit ms b).clock (λ n. n < length b.names)
   clock_below =

@@ -9,7 +9,7 @@ use Rattle.gate_netlist.specs.declared.bench.Definition.TheVariants.{Input, Gate
 use Rattle.gate_netlist.specs.Netlist.{Netlist, IsNetlist, IsDefinition}
 use Rattle.gate_netlist.specs.Causes.{number_of, has_flop}
 use Rattle.gate_netlist.specs.Meaning.{with_clock}
-use Rattle.gate_netlist.specs.Clocked.{IsClocked}
+use Rattle.gate_netlist.specs.Clocked.{HasClock}
 
 -- ---- places in a list
 
@@ -55,7 +55,7 @@ found_unless true (Some x) e t = refl
 found_unless true None e t = absurd cc
 found_unless false o e t = absurd cc
 
-clocked_as_it_is : (name : List ℕ) (b : Netlist) → IsNetlist b → length b.outputs ≤ length b.names → (has_flop b && is_none (number_of b name)) ≡ false → IsClocked name b
+clocked_as_it_is : (name : List ℕ) (b : Netlist) → IsNetlist b → length b.outputs ≤ length b.names → (has_flop b && is_none (number_of b name)) ≡ false → HasClock name b
 clocked_as_it_is name b h marks e = record {
   within = omega (arith, h.within);
   definitions = h.definitions;
@@ -66,7 +66,7 @@ clocked_as_it_is name b h marks e = record {
 }
 
 clocked_by_one_more : (name : List ℕ) (b : Netlist) → IsNetlist b → length b.outputs ≤ length b.names
-    → IsClocked name (record { names = b.names ++ name ∷ []; definitions = b.definitions ++ Input ∷ []; outputs = b.outputs })
+    → HasClock name (record { names = b.names ++ name ∷ []; definitions = b.definitions ++ Input ∷ []; outputs = b.outputs })
 clocked_by_one_more name b h marks = record {
   within = omega (arith, h.within, length-append b.names (name ∷ []));
   definitions = omega (arith, h.definitions, length-append b.names (name ∷ []), length-append b.definitions (Input ∷ []));
@@ -76,15 +76,15 @@ clocked_by_one_more name b h marks = record {
   clocked = λ f. position-last (λ other. bytes_eq name other) b.names name (bytes_eq-itself name);
 }
 
-pub is_clocked : (name : List ℕ) (b : Netlist) → IsNetlist b → length b.outputs ≤ length b.names → IsClocked name (with_clock name b)
-is_clocked name b h marks =
+pub has_clock : (name : List ℕ) (b : Netlist) → IsNetlist b → length b.outputs ≤ length b.names → HasClock name (with_clock name b)
+has_clock name b h marks =
     elim (cases_Bool (has_flop b && is_none (number_of b name))) [
       | inl added ↦ rw added (clocked_by_one_more name b h marks)
       | inr stays ↦ rw stays (clocked_as_it_is name b h marks stays)
     ]
 
 -- the same, as the code comes to it: by the parts of the bench, and the name that it found
-pub is_clocked_by : (name given : List ℕ) (more parts b : Netlist) → more ≡ with_clock name parts → name ≡ given → parts ≡ b → IsNetlist b → length parts.outputs ≤ length parts.names → IsClocked given more
-is_clocked_by name given more parts b added named same h marks =
+pub has_clock_by : (name given : List ℕ) (more parts b : Netlist) → more ≡ with_clock name parts → name ≡ given → parts ≡ b → IsNetlist b → length parts.outputs ≤ length parts.names → HasClock given more
+has_clock_by name given more parts b added named same h marks =
     let law : IsNetlist parts = rw same h in
-    rw (← named, added) (is_clocked name parts law marks)
+    rw (← named, added) (has_clock name parts law marks)

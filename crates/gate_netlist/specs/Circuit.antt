@@ -73,9 +73,9 @@ IsDriven nets (Gate kind inputs) delay = HasInputs kind (length inputs) × All (
 IsDriven nets (Flop d clock) delay = (d < nets) × (clock < nets) × IsDelay delay
 
 -- a flip-flop's clock is the circuit's clock
-abbrev pub IsClocked : Option ℕ → Driver → Type 0
-IsClocked circuit (Flop d clock) = circuit ≡ Some clock
-IsClocked circuit _ = Unit {0}
+abbrev pub IsClockedBy : Option ℕ → Driver → Type 0
+IsClockedBy circuit (Flop d clock) = circuit ≡ Some clock
+IsClockedBy circuit _ = Unit {0}
 
 -- the cut is of as many nets, and just those that aren't inputs have an owner
 pub record CutFits (d : Design) (cut : Ownership) : Type 0 where
@@ -90,6 +90,6 @@ pub record IsCircuit (d : Design) : Type 0 where
   pub driven : (n : ℕ) → n < nets_of d → IsDriven (nets_of d) (driver_of d n) (get_or d.delays n 0)
   pub outputs : All (λ n. n < nets_of d) d.outputs
   pub clock : IfSome d.clock (λ c. c < nets_of d)
-  pub clocked : (n : ℕ) → n < nets_of d → IsClocked d.clock (driver_of d n)
+  pub clocked : (n : ℕ) → n < nets_of d → IsClockedBy d.clock (driver_of d n)
   pub marks : length d.outputs ≤ nets_of d
   pub cut : IfSome d.cut (CutFits d)

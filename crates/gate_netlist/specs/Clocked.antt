@@ -5,8 +5,8 @@ use Rattle.gate_netlist.specs.declared.bench.Definition.TheVariants.{Input}
 use Rattle.gate_netlist.specs.Netlist.{Netlist, IsDefinition}
 use Rattle.gate_netlist.specs.Causes.{number_of, has_flop}
 
--- where there is a flip-flop, some net has the clock's name
-pub record IsClocked (name : List ℕ) (b : Netlist) : Type 0 where
+-- what a netlist keeps of its law when the clock is added, and where there is a flip-flop, some net has the clock's name
+pub record HasClock (name : List ℕ) (b : Netlist) : Type 0 where
   pub within : length b.names ≤ 1000000
   pub definitions : length b.definitions ≡ length b.names
   pub defined : (n : ℕ) → n < length b.names → IsDefinition (length b.names) (get_or b.definitions n Input)

@@ -33,7 +33,15 @@ impl Cut {
         Cut { owners, blocks }
     }
 
-    /// The even cut: of the nets that aren't inputs, in net order, each block owns as many as the others, but for one.
+    /// What is true of every cut.
+    pub fn law(&self)
+        ensures { IsOwnership self.now }
+    {
+        let _ = &self.owners;
+    }
+
+    /// The even cut: of the g nets that aren't inputs, in net order, number j goes to block j * blocks / g, rounded
+    /// down. There may be 1 to 1024 blocks; where there are more of them than such nets some are empty.
     pub fn even(alloc: Global, circuit: &Circuit, blocks: u32) -> Result<Cut, AllocError>
         requires some { 1 ≤ blocks }
         requires within { blocks ≤ 1024 }

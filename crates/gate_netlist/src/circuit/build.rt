@@ -6,7 +6,7 @@ ghost use Rattle.toml.specs.Data.{get_member, as_table};
 ghost use Rattle.toml.specs.View.{table_view};
 ghost use Rattle.gate_netlist.specs.Netlist.{IsNetlist};
 ghost use Rattle.gate_netlist.specs.Settings.{clock_name, text_at};
-ghost use Rattle.gate_netlist.specs.Clocked.{IsClocked};
+ghost use Rattle.gate_netlist.specs.Clocked.{HasClock};
 ghost use Rattle.gate_netlist.specs.HeldParts.{parts_netlist};
 ghost use Rattle.gate_netlist.specs.Meaning.{driver_by, cut_of, clocked_circuit, circuit_of};
 
@@ -38,7 +38,7 @@ pub(super) fn build(alloc: Global, bench: Bench, table: &Table) -> Result<Circui
 
 /// The circuit of a netlist that has its clock.
 fn circuit_of_parts(alloc: Global, parts: Parts, table: &Table) -> Result<Circuit, AllocError>
-    requires { IsClocked (clock_name (table_view table.now)) (parts_netlist parts) }
+    requires { HasClock (clock_name (table_view table.now)) (parts_netlist parts) }
     ensures { IfOk result (λ circuit. circuit ≡ clocked_circuit (table_view table.now) (parts_netlist parts)) }
 {
     let Parts {
