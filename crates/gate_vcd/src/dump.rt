@@ -53,6 +53,7 @@ pub fn write_vcd<S: Sink>(
     Ok(())
 }
 
+/// Puts the whole text, and counts it from 0.
 fn put_dump<S: Sink>(
     sink: &mut S,
     top: &str,
