@@ -99,4 +99,15 @@ impl Circuit {
     {
         self.outputs.as_slice()
     }
+
+    /// The scope whose variables alone count in a stimulus, its names joined by dots; any scope where
+    /// there is none.
+    pub fn scope(&self) -> Option<&str>
+        ensures { option_map (λ s. s.now) result ≡ self.now.scope }
+    {
+        match &self.scope {
+            Some(scope) => Some(scope.as_str()),
+            None => None,
+        }
+    }
 }

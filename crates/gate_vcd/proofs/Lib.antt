@@ -1,1 +1,3 @@
 pub mod Latest
+pub mod Places
+pub mod TokenLaws

@@ -4,6 +4,7 @@
 mod fault;
 mod stimulus;
 mod timescale;
+mod words;
 
 pub use fault::{StimCause, StimFault, WriteFault};
 pub use stimulus::Stimulus;

@@ -1,0 +1,16 @@
+-- What contracts see of a text that is read word by word.
+use Rattle.std.specs.Prelude.{ℕ, ◌+◌, ◌<◌, ◌^◌, List, length}
+use Rattle.gate_vcd.specs.declared.words.Words.TheInside.{Inside}
+use Rattle.gate_vcd.specs.declared.words.Word.{Word}
+use Rattle.gate_vcd.specs.Tokens.{Token, tokens_from}
+
+abbrev pub token_of : Word → Token
+token_of w = record { at = w.at; text = w.text.now }
+
+-- the tokens that are left
+abbrev pub tokens_left : Inside → List Token
+tokens_left w = tokens_from w.at w.rest.now
+
+-- no offset passes the machine's numbers
+abbrev pub IsWithin : Inside → Type 0
+IsWithin w = w.at + length w.rest.now < 2 ^ 64
