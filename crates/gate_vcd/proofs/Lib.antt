@@ -1,3 +1,5 @@
 pub mod Latest
 pub mod Places
 pub mod TokenLaws
+pub mod NumberLaws
+pub mod ScopeLaws

@@ -5,3 +5,6 @@ pub mod Held
 pub mod Tokens
 pub mod Reading
 pub mod Words
+pub mod Numbers
+pub mod Declarations
+pub mod Scopes

@@ -1,5 +1,5 @@
 -- Numbers in decimal digits.
-use Rattle.std.specs.Prelude.{ℕ, ◌+◌, ◌-◌, ◌*◌, Bool, true, false, ◌&&◌, nat_le, if◌then◌else◌, List, [], ◌∷◌, Option, Some, None}
+use Rattle.std.specs.Prelude.{ℕ, ◌+◌, ◌-◌, ◌*◌, Bool, not, ◌&&◌, nat_le, nat_eq, length, if◌then◌else◌, List, [], ◌∷◌, Option, Some, None}
 use Rattle.std.specs.List.{list_all}
 
 abbrev pub is_digit : ℕ → Bool
@@ -7,8 +7,7 @@ is_digit b = nat_le 48 b && nat_le b 57
 
 -- one or more decimal digits
 abbrev pub is_numeral : List ℕ → Bool
-is_numeral [] = false
-is_numeral (b ∷ bs) = list_all is_digit (b ∷ bs)
+is_numeral text = not (nat_eq (length text) 0) && list_all is_digit text
 
 -- the number that these digits make after one that was read
 unfoldable pub number_after : ℕ → List ℕ → ℕ

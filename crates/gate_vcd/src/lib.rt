@@ -2,6 +2,9 @@
 #![tactic(auto)]
 
 mod fault;
+mod keyword;
+mod numbers;
+mod scopes;
 mod stimulus;
 mod timescale;
 mod words;
