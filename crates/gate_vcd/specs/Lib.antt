@@ -8,3 +8,4 @@ pub mod Words
 pub mod Numbers
 pub mod Declarations
 pub mod Scopes
+pub mod Commands

@@ -1,5 +1,6 @@
 -- What contracts see of a text that is read word by word.
-use Rattle.std.specs.Prelude.{ℕ, ◌+◌, ◌<◌, ◌^◌, List, length}
+use Rattle.std.specs.Prelude.{ℕ, ◌+◌, ◌<◌, ◌^◌, List, length, map}
+use Rattle.std.specs.Borrow.{Bor}
 use Rattle.gate_vcd.specs.declared.words.Words.TheInside.{Inside}
 use Rattle.gate_vcd.specs.declared.words.Word.{Word}
 use Rattle.gate_vcd.specs.Tokens.{Token, tokens_from}
@@ -14,3 +15,7 @@ tokens_left w = tokens_from w.at w.rest.now
 -- no offset passes the machine's numbers
 abbrev pub IsWithin : Inside → Type 0
 IsWithin w = w.at + length w.rest.now < 2 ^ 64
+
+-- what the bytes are that these slices lend
+abbrev pub texts : List (Bor (List ℕ)) → List (List ℕ)
+texts parts = map (λ (part : Bor (List ℕ)). part.now) parts

@@ -7,6 +7,7 @@ mod numbers;
 mod scopes;
 mod stimulus;
 mod timescale;
+mod variable;
 mod words;
 
 pub use fault::{StimCause, StimFault, WriteFault};

@@ -33,6 +33,18 @@ impl<'a> Model for Words<'a> {
     ghost invariant = { IsWithin };
 }
 
+impl<'a> Word<'a> {
+    /// A refusal at this word.
+    pub fn fault(&self, cause: StimCause) -> StimFault
+        ensures { result ≡ fault_at (token_of self.now) cause }
+    {
+        StimFault {
+            at: self.at as u64,
+            cause,
+        }
+    }
+}
+
 fn is_space(byte: u8) -> bool
     ensures { result ≡ is_space byte }
 {
