@@ -9,3 +9,4 @@ pub mod Numbers
 pub mod Declarations
 pub mod Scopes
 pub mod Commands
+pub mod Headers
