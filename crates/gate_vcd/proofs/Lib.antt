@@ -3,3 +3,4 @@ pub mod Places
 pub mod TokenLaws
 pub mod NumberLaws
 pub mod ScopeLaws
+pub mod DeclarationLaws
