@@ -72,3 +72,8 @@ module _ (asked : Option (List ℕ)) (h : Header) (t : Token) (ts : List Token) 
       → declared asked h (record { first = t; body = body }) (keyword_of t.text) ≡ Ok next
       → declaring asked h None (t ∷ ts) ≡ (if ends_declarations (keyword_of t.text) then Ok (next, rest) else declaring asked next None rest)
   command_goes_on next body rest o r d = rw (declaring-command asked h t ts o, r, d) refl
+
+-- no token is left between two commands
+pub declaring-end : (asked asked' : Option (List ℕ)) (h start : Header) (ts rest first : List Token) → asked ≡ asked' → ts ≡ [] → rest ≡ [] → declaring asked h None ts ≡ declaring asked start None first → declaring asked' start None first ≡ Ok (h, rest)
+unfolding declaring
+declaring-end asked asked' h start ts rest first a e r d = rw (← a, r) (sym d ∙ rw e refl)

@@ -10,3 +10,5 @@ pub mod Declarations
 pub mod Scopes
 pub mod Commands
 pub mod Headers
+pub mod Changes
+pub mod Items

@@ -3,9 +3,11 @@
 
 mod declarations;
 mod fault;
+mod items;
 mod keyword;
 mod numbers;
 mod scopes;
+mod sort;
 mod stimulus;
 mod timescale;
 mod variable;
