@@ -4,3 +4,5 @@ pub mod TokenLaws
 pub mod NumberLaws
 pub mod ScopeLaws
 pub mod DeclarationLaws
+pub mod Settling
+pub mod Keeping

@@ -1,5 +1,6 @@
 -- What a reader of changes answers, and what it keeps.
-use Rattle.std.specs.Prelude.{◌≡◌, ◌⊎◌, ℕ, ◌+◌, ◌<◌, ◌≤◌, Bool, true, false, List, [], ◌∷◌, ◌++◌, length, map, get_or, position, Option, Some, None, Result, Ok, Err, Vec}
+use Rattle.std.specs.Prelude.{◌≡◌, ◌⊎◌, ℕ, ◌+◌, ◌-◌, ◌≤◌, Bool, true, false, nat_eq, if◌then◌else◌, List, [], ◌∷◌, ◌++◌, length, map, take, get_or, slice_get, position, Option, Some, None, Result, Ok, Err, Vec}
+use Rattle.std.specs.Option.{option_map_or}
 use Rattle.std.specs.Borrow.{Bor}
 use Rattle.std.specs.List.{list_any, AllByRecursion}
 use Rattle.std.specs.Str.{bytes_eq}
@@ -8,15 +9,17 @@ use Rattle.std.specs.declared.hash.FoldHasher.{FoldHasher}
 use Rattle.std.specs.declared.hash.BuildHasherDefault.{BuildHasherDefault}
 use Rattle.indexmap.specs.IndexSet.{IndexSet}
 use Rattle.gate_values.specs.declared.logic.Logic.{Logic}
+use Rattle.gate_values.specs.declared.logic.Logic.TheVariants as logic
 use Rattle.gate_values.specs.declared.logic.Change.{Change}
-use Rattle.gate_values.specs.Changes.{changes}
+use Rattle.gate_values.specs.Changes.{changes, same}
 use Rattle.gate_vcd.specs.declared.fault.StimFault.{StimFault}
-use Rattle.gate_vcd.specs.declared.fault.StimCause.{StimCause}
+use Rattle.gate_vcd.specs.declared.fault.StimCause.TheVariants as causes
+use Rattle.gate_vcd.specs.Faults.{out_of_memory}
 use Rattle.gate_vcd.specs.declared.items.Item.{Item as Read}
 use Rattle.gate_vcd.specs.declared.items.Item.TheVariants as read
 use Rattle.gate_vcd.specs.Tokens.{Token, fault_at}
 use Rattle.gate_vcd.specs.Words.{token_of}
-use Rattle.gate_vcd.specs.Changes.{Item, stamp, change, wrong, nothing, items, Event, value_with, last_stamp}
+use Rattle.gate_vcd.specs.Changes.{Item, stamp, change, wrong, nothing, items, Event, event_at, value_with, last_stamp}
 
 -- an item, without where it lies in memory
 abbrev pub item_of : Read → Item
@@ -38,3 +41,49 @@ IsNext rest (Err e) is = fault_of is ≡ Some e
 abbrev pub IsPassed : List Token → Result (Unit {0}) StimFault → List Item → Type 0
 IsPassed rest (Ok _) is = is ≡ items nothing rest
 IsPassed rest (Err e) is = fault_of is ≡ Some e
+
+-- codes with numbers
+abbrev pub Codes : Type 0
+Codes = IndexSet (Bor (List ℕ)) (BuildHasherDefault FoldHasher)
+
+abbrev pub is_known : Codes → List ℕ → Bool
+is_known codes code = list_any (λ (k : Bor (List ℕ)). bytes_eq code k.now) codes.keys
+
+abbrev pub number_of : Codes → List ℕ → Option ℕ
+number_of codes code = position (λ (k : Bor (List ℕ)). bytes_eq code k.now) codes.keys
+
+-- the value before a further change
+abbrev pub value_after : List Change → Logic
+value_after cs = option_map_or (λ (c : Change). c.value) (slice_get cs (length cs - 1)) logic.X
+
+abbrev pub ends_at : ℕ → Option Change → Bool
+ends_at time None = false
+ends_at time (Some c) = nat_eq c.time time
+
+-- without the change at this time, the last one if there is one
+abbrev pub undone : ℕ → List Change → List Change
+undone time cs = if ends_at time (slice_get cs (length cs - 1)) then take (length cs - 1) cs else cs
+
+-- a change after others that aren't later: the last one at a time counts, where it changes the value
+abbrev pub settled : List Change → Change → List Change
+settled cs c = undone c.time cs ++ (if same c.value (value_after (undone c.time cs)) then [] else c ∷ [])
+
+-- For each number of a code there is a list of the changes that its values make, as far as these are read.
+pub record AreKept (codes : Codes) (now : ℕ) (es : List Event) (lists : List (List Change)) : Type 0 where
+  pub count : length lists ≡ length codes.keys
+  pub past : AllByRecursion (λ (e : Event). e.time ≤ now) es
+  pub within : now ≤ last_stamp
+  pub changes : (code : List ℕ) (k : ℕ) → number_of codes code ≡ Some k → get_or lists k [] ≡ changes (value_with code es) (last_stamp + 1)
+
+-- what these vectors hold
+abbrev pub lists_in : List (Vec Change Global) → List (List Change)
+lists_in vs = map (λ (v : Vec Change Global). v.items) vs
+
+-- a change of a code is taken in, or its code isn't known
+abbrev pub IsTaken : Codes → ℕ → Token → List ℕ → Option Logic → List Event → List (List Change) → Result (Unit {0}) StimFault → Type 0
+IsTaken codes now first code value es new (Ok _) = (is_known codes code ≡ true) × AreKept codes now (es ++ event_at now code value) new
+IsTaken codes now first code value es new (Err e) = (e ≡ out_of_memory) ⊎ ((is_known codes code ≡ false) × (e ≡ fault_at first causes.UnknownCode))
+
+-- the changes that were read are kept
+abbrev pub AreTaken : Codes → List (List Change) → Result (List Event) StimFault → Type 0
+AreTaken codes lists reading = (es : List Event) × (now : ℕ) × (reading ≡ Ok es) × AreKept codes now es lists

@@ -1,6 +1,7 @@
 //! Value change dumps: the stimulus as read, waves, and the dump as written.
 #![tactic(auto)]
 
+mod changes;
 mod declarations;
 mod fault;
 mod items;
