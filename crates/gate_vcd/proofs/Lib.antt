@@ -6,3 +6,4 @@ pub mod ScopeLaws
 pub mod DeclarationLaws
 pub mod Settling
 pub mod Keeping
+pub mod ItemLaws

@@ -15,11 +15,12 @@ use Rattle.gate_values.specs.Changes.{changes, same}
 use Rattle.gate_vcd.specs.declared.fault.StimFault.{StimFault}
 use Rattle.gate_vcd.specs.declared.fault.StimCause.TheVariants as causes
 use Rattle.gate_vcd.specs.Faults.{out_of_memory}
+use Rattle.gate_vcd.specs.Reading.{◌>>=◌, Fails}
 use Rattle.gate_vcd.specs.declared.items.Item.{Item as Read}
 use Rattle.gate_vcd.specs.declared.items.Item.TheVariants as read
 use Rattle.gate_vcd.specs.Tokens.{Token, fault_at}
 use Rattle.gate_vcd.specs.Words.{token_of}
-use Rattle.gate_vcd.specs.Changes.{Item, stamp, change, wrong, nothing, items, Event, event_at, value_with, last_stamp}
+use Rattle.gate_vcd.specs.Changes.{Item, stamp, change, wrong, nothing, items, Event, event_at, events_from, value_with, last_stamp}
 
 -- an item, without where it lies in memory
 abbrev pub item_of : Read → Item
@@ -87,3 +88,10 @@ IsTaken codes now first code value es new (Err e) = (e ≡ out_of_memory) ⊎ ((
 -- the changes that were read are kept
 abbrev pub AreTaken : Codes → List (List Change) → Result (List Event) StimFault → Type 0
 AreTaken codes lists reading = (es : List Event) × (now : ℕ) × (reading ≡ Ok es) × AreKept codes now es lists
+
+-- An item is taken in: the changes that it makes, and the time after it, from which the other items go on.
+abbrev pub TakesItem : Codes → ℕ → Item → List Item → List Event → List (List Change) → Result ℕ StimFault → Type 0
+TakesItem codes now item others es new (Ok next) =
+    (more : List Event) × AreKept codes next (es ++ more) new
+    × (events_from (is_known codes) now (item ∷ others) ≡ (events_from (is_known codes) next others >>= λ later. Ok (more ++ later)))
+TakesItem codes now item others es new (Err e) = Fails e (events_from (is_known codes) now (item ∷ others))

@@ -1,8 +1,8 @@
 ghost use Rattle.std.specs.Prelude.{◌≡◌, ◌<◌, ◌≤◌, ◌-◌, ℕ, List, [], length, slice_get, replicate, IfErr, IfOk, MatchResult, OnOk};
 ghost use Rattle.gate_values.specs.Changes.{same};
-ghost use Rattle.gate_vcd.specs.Changes.{Event, events_from, items, nothing, stamped, last_stamp};
+ghost use Rattle.gate_vcd.specs.Changes.{Event, Item as TextItem, events_from, items, nothing, stamped, last_stamp};
 ghost use Rattle.gate_vcd.specs.Faults.{out_of_memory};
-ghost use Rattle.gate_vcd.specs.Items.{AreKept, AreTaken, IsTaken, ends_at, is_known, lists_in, settled, undone, value_after};
+ghost use Rattle.gate_vcd.specs.Items.{AreKept, AreTaken, IsTaken, TakesItem, ends_at, is_known, item_of, lists_in, settled, undone, value_after};
 ghost use Rattle.gate_vcd.specs.Reading.{Fails, Gives};
 ghost use Rattle.gate_vcd.specs.Words.{token_of};
 
@@ -118,6 +118,25 @@ fn take_change(
     }
 }
 
+/// Takes in an item after a time, and answers the time after it.
+fn take_item(
+    codes: &IndexSet<&[u8]>,
+    lists: &mut Vec<Vec<Change>>,
+    now: u64,
+    item: Item,
+) -> Result<u64, StimFault>
+    requires { length lists.old.items ≡ length codes.now.keys }
+    ensures { (es : List Event) (others : List TextItem) → AreKept codes.now now es (lists_in lists.old.items) → TakesItem codes.now now (item_of item.entry) others es (lists_in lists.new.items) result }
+{
+    match item {
+        Item::Stamp(word) => next_stamp(now, word),
+        Item::Change { first, code, value } => {
+            take_change(codes, lists, now, first, code, value)?;
+            Ok(now)
+        }
+    }
+}
+
 /// Reads the changes of a stimulus: for each number of a code the list of its changes.
 pub fn read_changes<'a>(
     alloc: Global,
@@ -129,12 +148,7 @@ pub fn read_changes<'a>(
     let mut lists = empty_lists(alloc, codes.len())?;
     let mut now = 0;
     while let Some(item) = next_item(words)? {
-        match item {
-            Item::Stamp(word) => now = next_stamp(now, word)?,
-            Item::Change { first, code, value } => {
-                take_change(codes, &mut lists, now, first, code, value)?;
-            }
-        }
+        now = take_item(codes, &mut lists, now, item)?;
     }
     Ok(lists)
 }

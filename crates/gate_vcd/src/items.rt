@@ -1,4 +1,4 @@
-ghost use Rattle.std.specs.Prelude.{◌≡◌, ◌≤◌, length};
+ghost use Rattle.std.specs.Prelude.{◌≡◌, ◌<◌, ◌≤◌, length, IfOk, IfSome};
 ghost use Rattle.gate_vcd.specs.Changes.{items, nothing, end_of, code_of};
 ghost use Rattle.gate_vcd.specs.Items.{IsNext, IsPassed};
 ghost use Rattle.gate_vcd.specs.Words.{token_of};
@@ -60,7 +60,7 @@ fn change_of<'a>(
 #[tactic(auto, unfolding(crate::specs::Changes::items))]
 pub fn next_item<'a>(words: &mut Words<'a>) -> Result<Option<Item<'a>>, StimFault>
     ensures items { IsNext words.new result (items nothing words.old) }
-    ensures shorter { length words.new ≤ length words.old }
+    ensures progress { IfOk result (λ item. IfSome item (λ _. length words.new < length words.old)) }
 {
     while let Some(word) = words.next() {
         match sort_of(word.text) {
