@@ -7,3 +7,4 @@ pub mod DeclarationLaws
 pub mod Settling
 pub mod Keeping
 pub mod ItemLaws
+pub mod InputLaws

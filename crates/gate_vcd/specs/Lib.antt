@@ -12,3 +12,5 @@ pub mod Commands
 pub mod Headers
 pub mod Changes
 pub mod Items
+pub mod Inputs
+pub mod Scalars

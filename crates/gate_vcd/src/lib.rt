@@ -4,6 +4,7 @@
 mod changes;
 mod declarations;
 mod fault;
+mod inputs;
 mod items;
 mod keyword;
 mod numbers;
