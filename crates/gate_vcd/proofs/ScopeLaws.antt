@@ -8,7 +8,7 @@ use Rattle.gate_vcd.specs.Declarations.{begins, path_of, inner_path, is_counted}
 use Rattle.gate_vcd.specs.Scopes.{along, AreAlong, end_in, next_end, is_asked}
 
 -- a text that begins with two texts in a row
-begins-append : (p q t : List ℕ) → begins (p ++ q) t ≡ (begins p t && begins q (drop (length p) t))
+pub begins-append : (p q t : List ℕ) → begins (p ++ q) t ≡ (begins p t && begins q (drop (length p) t))
 begins-append [] q t = refl
 begins-append (a ∷ p) q [] = refl
 begins-append (a ∷ p) q (b ∷ t) = elim (nat_eq b a) as (λ s. (s && begins (p ++ q) t) ≡ ((s && begins p t) && begins q (drop (length p) t))) [ true ↦ begins-append p q t | false ↦ refl ]

@@ -1,5 +1,6 @@
 -- What a reader keeps of the variables: the codes with their numbers, and the scalars by their names.
-use Rattle.std.specs.Prelude.{◌≡◌, ℕ, Bool, if◌then◌else◌, List, Option, Some, None, option_map, option_and_then, map, Result, Ok, Err}
+use Rattle.std.specs.Prelude.{◌≡◌, ℕ, ◌-◌, Bool, nat_eq, if◌then◌else◌, List, length, take, codes, Option, Some, None, option_map, option_and_then, map, Result, Ok}
+use Rattle.std.specs.List.{ends_with}
 use Rattle.std.specs.Borrow.{Bor}
 use Rattle.std.specs.Str.{bytes_eq}
 use Rattle.std.specs.declared.hash.FoldHasher.{FoldHasher}
@@ -39,3 +40,16 @@ AreNumbers codes numbers reading = (found : List (Option (List ℕ))) × (readin
 
 abbrev pub IsNumber : Codes → Option ℕ → Result (Option (List ℕ)) StimFault → Type 0
 IsNumber codes number reading = (found : Option (List ℕ)) × (reading ≡ Ok found) × (number ≡ option_and_then (number_of codes) found)
+
+-- the text before an index of 0 of 0, where it ends with one
+abbrev pub without_index : List ℕ → Option (List ℕ)
+without_index text = if ends_with nat_eq text (codes "[0:0]") then Some (take (length text - 5) text) else None
+
+-- the code, where the names are the same
+abbrev pub code_if : Bool → List ℕ → Option (List ℕ)
+code_if b code = if b then Some code else None
+
+-- the code of a variable under the name of a net: first by its whole reference text, then by that without an index
+abbrev pub code_noted : Option (List ℕ) → List ℕ → Option (List ℕ) → List ℕ → List ℕ → Option (List ℕ)
+code_noted old reference None code name = or_else old (code_if (bytes_eq name reference) code)
+code_noted old reference (Some short) code name = or_else (or_else old (code_if (bytes_eq name reference) code)) (code_if (bytes_eq name short) code)
