@@ -14,7 +14,8 @@ use Rattle.gate_vcd.specs.Tokens.{Token, fault_at}
 use Rattle.gate_vcd.specs.Numbers.{number}
 use Rattle.gate_vcd.specs.Reading.{◌>>=◌, Fails, Gives}
 use Rattle.gate_vcd.specs.Changes.{Item, stamp, change, wrong, Event, events_from, event_at, stamped, last_stamp}
-use Rattle.gate_vcd.specs.Items.{Codes, AreKept, IsTaken, TakesItem, is_known, fault_of, lists_in}
+use Rattle.gate_vcd.specs.Items.{Codes, AreKept, IsTaken, TakesItem, is_known, fault_of}
+use Rattle.gate_vcd.specs.Lists.{lists_in}
 use Rattle.gate_vcd.proofs.DeclarationLaws.{fails_then}
 use Rattle.gate_vcd.proofs.Keeping.{past-later, kept-none}
 

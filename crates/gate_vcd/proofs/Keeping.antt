@@ -15,7 +15,8 @@ use Rattle.gate_values.specs.declared.logic.Logic.TheVariants.{X}
 use Rattle.gate_values.specs.declared.logic.Change.{Change}
 use Rattle.gate_values.specs.Changes.{changes, latest}
 use Rattle.gate_vcd.specs.Changes.{Event, changes_with, change_of, value_with, last_stamp}
-use Rattle.gate_vcd.specs.Items.{Codes, AreKept, lists_in, number_of, is_known, settled}
+use Rattle.gate_vcd.specs.Items.{Codes, AreKept, number_of, is_known, settled}
+use Rattle.gate_vcd.specs.Lists.{lists_in}
 use Rattle.gate_vcd.proofs.Settling.{AreUpTo, settled-changes}
 
 append-nil : (xs : List Change) → xs ++ [] ≡ xs

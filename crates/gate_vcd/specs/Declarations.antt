@@ -138,7 +138,3 @@ declaring asked h (Some c) (t ∷ ts) =
 
 abbrev pub no_header : Header
 no_header = record { timescale = default_timescale; scopes = []; variables = [] }
-
--- the timescale, the variables, and the tokens after the declarations
-unfoldable pub declarations : Option (List ℕ) → List Token → Result (Timescale × List Variable × List Token) StimFault
-declarations asked ts = declaring asked no_header None ts >>= λ x. Ok (x.0.timescale, x.0.variables, x.1)

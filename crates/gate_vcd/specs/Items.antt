@@ -76,10 +76,6 @@ pub record AreKept (codes : Codes) (now : ℕ) (es : List Event) (lists : List (
   pub within : now ≤ last_stamp
   pub changes : (code : List ℕ) (k : ℕ) → number_of codes code ≡ Some k → get_or lists k [] ≡ changes (value_with code es) (last_stamp + 1)
 
--- what these vectors hold
-abbrev pub lists_in : List (Vec Change Global) → List (List Change)
-lists_in vs = map (λ (v : Vec Change Global). v.items) vs
-
 -- a change of a code is taken in, or its code isn't known
 abbrev pub IsTaken : Codes → ℕ → Token → List ℕ → Option Logic → List Event → List (List Change) → Result (Unit {0}) StimFault → Type 0
 IsTaken codes now first code value es new (Ok _) = (is_known codes code ≡ true) × AreKept codes now (es ++ event_at now code value) new

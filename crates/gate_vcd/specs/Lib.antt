@@ -1,6 +1,7 @@
 pub mod Faults
 pub mod Timescales
 pub mod Given
+pub mod Lists
 pub mod Held
 pub mod Tokens
 pub mod Reading
@@ -14,3 +15,4 @@ pub mod Changes
 pub mod Items
 pub mod Inputs
 pub mod Scalars
+pub mod Stimulus

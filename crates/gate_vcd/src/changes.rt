@@ -2,7 +2,8 @@ ghost use Rattle.std.specs.Prelude.{◌≡◌, ◌<◌, ◌≤◌, ◌-◌, ℕ,
 ghost use Rattle.gate_values.specs.Changes.{same};
 ghost use Rattle.gate_vcd.specs.Changes.{Event, Item as TextItem, events_from, items, nothing, stamped, last_stamp};
 ghost use Rattle.gate_vcd.specs.Faults.{out_of_memory};
-ghost use Rattle.gate_vcd.specs.Items.{AreKept, AreTaken, IsTaken, TakesItem, ends_at, is_known, item_of, lists_in, settled, undone, value_after};
+ghost use Rattle.gate_vcd.specs.Items.{AreKept, AreTaken, IsTaken, TakesItem, ends_at, is_known, item_of, settled, undone, value_after};
+ghost use Rattle.gate_vcd.specs.Lists.{lists_in};
 ghost use Rattle.gate_vcd.specs.Reading.{Fails, Gives};
 ghost use Rattle.gate_vcd.specs.Words.{token_of};
 

@@ -1,5 +1,5 @@
-ghost use Rattle.std.specs.Prelude.{◌≡◌};
-ghost use Rattle.gate_vcd.specs.Given.{changes_of, value_at};
+ghost use Rattle.std.specs.Prelude.{◌≡◌, ◌↔◌, IsTrue};
+ghost use Rattle.gate_vcd.specs.Given.{changes_of, value_at, Fits};
 
 use crate::timescale::Timescale;
 use gate_values::{Change, Logic};
@@ -9,7 +9,7 @@ use std::marker::Model;
 #[derive(Drop)]
 pub struct Stimulus {
     lists: Vec<Vec<Change>>,
-    list_of: Vec<Option<u32>>,
+    list_of: Vec<Option<usize>>,
     timescale: Timescale,
 }
 
@@ -26,6 +26,24 @@ impl Model for Stimulus {
 }
 
 impl Stimulus {
+    ghost use Rattle.gate_vcd.specs.Held.{given_by, AreLaidOut};
+
+    /// Lists of changes, and which of them each input has.
+    pub(crate) fn new(
+        timescale: Timescale,
+        lists: Vec<Vec<Change>>,
+        list_of: Vec<Option<usize>>,
+    ) -> Stimulus
+        requires { AreLaidOut lists.items list_of.items }
+        ensures { result ≡ given_by timescale lists.items list_of.items }
+    {
+        Stimulus {
+            lists,
+            list_of,
+            timescale,
+        }
+    }
+
     /// The timescale of the text, `1 ns` where it has none.
     pub fn timescale(&self) -> Timescale
         ensures { result ≡ self.now.timescale }
@@ -38,21 +56,8 @@ impl Stimulus {
         ensures { result.now ≡ changes_of self.now net }
     {
         match self.list_of.get(net as usize) {
-            Some(Some(list)) => self.lists[*list as usize].as_slice(),
+            Some(Some(list)) => self.lists[*list].as_slice(),
             _ => &[],
         }
-    }
-
-    /// The value of an input at a time; `X` for a number that is no input.
-    pub fn at(&self, net: u32, time: u64) -> Logic
-        ensures { result ≡ value_at self.now net time }
-    {
-        let mut value = Logic::X;
-        for change in self.changes(net) {
-            if change.time <= time {
-                value = change.value;
-            }
-        }
-        value
     }
 }

@@ -1,6 +1,7 @@
 use Rattle.std.proofs.Common.{length}
 use Rattle.gate_vcd.specs.Changes.{events_from, items, nothing}
-use Rattle.gate_vcd.specs.Items.{is_known, lists_in}
+use Rattle.gate_vcd.specs.Items.{is_known}
+use Rattle.gate_vcd.specs.Lists.{lists_in}
 use Rattle.gate_vcd.proofs.ItemLaws.{GoesOn}
 use Rattle.gate_vcd.proofs.changes.read_changes.Given as goal
 

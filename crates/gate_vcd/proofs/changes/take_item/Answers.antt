@@ -1,7 +1,7 @@
 use Rattle.std.proofs.Common.{◌≡◌}
 use Rattle.std.proofs.lemmas.Result.{err_from_is_err_and}
 use Rattle.gate_vcd.specs.Words.{token_of}
-use Rattle.gate_vcd.specs.Items.{lists_in}
+use Rattle.gate_vcd.specs.Lists.{lists_in}
 use Rattle.gate_vcd.proofs.ItemLaws.{takes-stamp, takes-change, refuses-change}
 use Rattle.gate_vcd.proofs.changes.take_item.Goals as goal
 
