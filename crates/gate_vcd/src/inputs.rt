@@ -141,7 +141,8 @@ fn code_of_input<'a>(
     }
 }
 
-fn is_input(circuit: &Circuit, net: u32) -> bool
+/// Whether a net of the circuit is an input.
+pub fn is_input(circuit: &Circuit, net: u32) -> bool
     requires { net < nets_of circuit.now }
     ensures { result ≡ is_input (driver_of circuit.now net) }
 {

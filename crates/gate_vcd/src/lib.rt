@@ -8,6 +8,7 @@ mod inputs;
 mod items;
 mod keyword;
 mod numbers;
+mod reading;
 mod scopes;
 mod sort;
 mod stimulus;
@@ -16,5 +17,6 @@ mod variable;
 mod words;
 
 pub use fault::{StimCause, StimFault, WriteFault};
+pub use reading::read_stimulus;
 pub use stimulus::Stimulus;
 pub use timescale::{Timescale, Unit};

@@ -1,7 +1,12 @@
-ghost use Rattle.std.specs.Prelude.{◌≡◌, ◌↔◌, IsTrue};
+ghost use Rattle.std.specs.Prelude.{◌≡◌, ◌≤◌, ◌↔◌, IsTrue, true, false, is_some, length, map, nat_le};
+ghost use Rattle.std.specs.List.Sorted.{IsPartitionPoint};
+ghost use Rattle.gate_netlist.specs.Circuit.{is_input};
 ghost use Rattle.gate_vcd.specs.Given.{changes_of, value_at, Fits};
+ghost use Rattle.gate_vcd.specs.Lists.{IsRising};
 
+use crate::inputs::is_input;
 use crate::timescale::Timescale;
+use gate_netlist::Circuit;
 use gate_values::{Change, Logic};
 use std::marker::Model;
 
@@ -51,13 +56,65 @@ impl Stimulus {
         self.timescale
     }
 
-    /// The changes of an input; none for a number that is no input.
-    pub fn changes(&self, net: u32) -> &[Change]
-        ensures { result.now ≡ changes_of self.now net }
+    fn rising_changes(&self, net: u32) -> &[Change]
+        ensures list { result.now ≡ changes_of self.now net }
+        ensures rising { IsRising result.now }
     {
         match self.list_of.get(net as usize) {
             Some(Some(list)) => self.lists[*list].as_slice(),
             _ => &[],
         }
     }
+
+    /// The changes of an input, at rising times; none for a number that is no input.
+    pub fn changes(&self, net: u32) -> &[Change]
+        ensures { result.now ≡ changes_of self.now net }
+    {
+        self.rising_changes(net)
+    }
+
+    /// The value of an input at a time; `X` for a number that is no input.
+    pub fn at(&self, net: u32, time: u64) -> Logic
+        ensures { result ≡ value_at self.now net time }
+    {
+        let changes = self.rising_changes(net);
+        let count = count_until(changes, time);
+        if count == 0 {
+            Logic::X
+        } else {
+            changes[count - 1].value
+        }
+    }
+
+    /// Whether the stimulus is for circuits with these nets and inputs.
+    pub fn fits(&self, circuit: &Circuit) -> bool
+        ensures { IsTrue result ↔ Fits self.now circuit.now }
+    {
+        fit(self.list_of.as_slice(), circuit)
+    }
+}
+
+/// How many of the changes aren't later than a time.
+fn count_until(changes: &[Change], time: u64) -> usize
+    requires { IsRising changes.now }
+    ensures within { result ≤ length changes.now }
+    ensures until { IsPartitionPoint (λ c. nat_le c.time time ≡ true) (λ c. nat_le c.time time ≡ false) changes.now result }
+{
+    changes.partition_point(|change| change.time <= time)
+}
+
+/// Whether just the inputs of the circuit have a list.
+fn fit(list_of: &[Option<usize>], circuit: &Circuit) -> bool
+    ensures { IsTrue result ↔ (map is_some list_of.now ≡ map is_input circuit.now.drivers) }
+{
+    circuit.law();
+    if list_of.len() != circuit.nets() as usize {
+        return false;
+    }
+    for (net, list) in list_of.iter().enumerate() {
+        if list.is_some() != is_input(circuit, net as u32) {
+            return false;
+        }
+    }
+    true
 }
