@@ -58,7 +58,7 @@ more_changes : (code other : List ℕ) (es : List Event) (e : Event) → e.code 
 more_changes code other es e h = rw (filter-append (λ (x : Event). bytes_eq code x.code) es (e ∷ []), map-append change_of (filter (λ (x : Event). bytes_eq code x.code) es) (filter (λ (x : Event). bytes_eq code x.code) (e ∷ [])), ← h)
     (ap (λ cs. changes_with code es ++ cs) (elim (bytes_eq code e.code) as (λ b. map change_of (cond b (e ∷ []) []) ≡ cond b (change_of e ∷ []) []) [ true ↦ refl | false ↦ refl ]))
 
-up_to_with : (now : ℕ) (code : List ℕ) (es : List Event) → AllByRecursion (λ (e : Event). e.time ≤ now) es → AreUpTo now (changes_with code es)
+pub up_to_with : (now : ℕ) (code : List ℕ) (es : List Event) → AllByRecursion (λ (e : Event). e.time ≤ now) es → AreUpTo now (changes_with code es)
 up_to_with now code [] h = tt
 up_to_with now code (e ∷ es) h =
     elim (bytes_eq code e.code) as (λ b. AreUpTo now (map change_of (cond b (e ∷ filter (λ (x : Event). bytes_eq code x.code) es) (filter (λ (x : Event). bytes_eq code x.code) es))))
@@ -79,7 +79,7 @@ same_code codes a b i ea eb =
     let fb = position-some (λ (k : Bor (List ℕ)). bytes_eq b k.now) codes.keys i no_key eb in
     same_bytes a (get_or codes.keys i no_key).now fa.1 ∙ sym (same_bytes b (get_or codes.keys i no_key).now fb.1)
 
-number_within : (codes : Codes) (code : List ℕ) (i : ℕ) → number_of codes code ≡ Some i → i < length codes.keys
+pub number_within : (codes : Codes) (code : List ℕ) (i : ℕ) → number_of codes code ≡ Some i → i < length codes.keys
 number_within codes code i e = (position-some (λ (k : Bor (List ℕ)). bytes_eq code k.now) codes.keys i (record { now = []; ref_ptr = (0, 0) }) e).0
 
 other_code : (codes : Codes) (a b : List ℕ) (i k : ℕ) → number_of codes a ≡ Some k → number_of codes b ≡ Some i → k ≢ i → bytes_eq a b ≡ false
@@ -133,11 +133,11 @@ vectors-more codes now i code v es vs old new at kept within eo en =
     let read : old.items ≡ get_or (lists_in vs) i [] = ap (λ (w : Vec Change Global). w.items) eo ∙ sym (get_or-map (λ (w : Vec Change Global). w.items) vs i old [] within) in
     rw (map-set (λ (w : Vec Change Global). w.items) vs i new, en, read) (kept-more codes now i code v es (lists_in vs) at kept)
 
-latest-none : (t : ℕ) → latest X [] t ≡ X
+pub latest-none : (t : ℕ) → latest X [] t ≡ X
 unfolding latest
 latest-none t = refl
 
-changes-none : (f : ℕ → Logic) (b : ℕ) → ((t : ℕ) → f t ≡ X) → changes f b ≡ []
+pub changes-none : (f : ℕ → Logic) (b : ℕ) → ((t : ℕ) → f t ≡ X) → changes f b ≡ []
 unfolding changes
 changes-none f zero h = refl
 changes-none f (suc zero) h = rw (h 0) refl

@@ -26,7 +26,7 @@ rising-partitioned cs t rising i j d h l e = elim (cases_eq i j) [
       grind (arith, nat_tests, early))
   ]
 
-latest-split : (v : Logic) (xs ys : List Change) (t : ℕ) → latest v (xs ++ ys) t ≡ latest (latest v xs t) ys t
+pub latest-split : (v : Logic) (xs ys : List Change) (t : ℕ) → latest v (xs ++ ys) t ≡ latest (latest v xs t) ys t
 unfolding latest
 latest-split v [] ys t = refl
 latest-split v (x ∷ xs) ys t = latest-split (cond (nat_le x.time t) x.value v) xs ys t

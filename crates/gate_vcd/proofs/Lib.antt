@@ -8,3 +8,4 @@ pub mod Settling
 pub mod Keeping
 pub mod ItemLaws
 pub mod InputLaws
+pub mod Meaning

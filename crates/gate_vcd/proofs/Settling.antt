@@ -14,7 +14,7 @@ use Rattle.gate_vcd.specs.Items.{value_after, ends_at, undone, settled}
 abbrev pub AreUpTo : ℕ → List Change → Type 0
 AreUpTo t cs = AllByRecursion (λ (c : Change). c.time ≤ t) cs
 
-abbrev AreBelow : ℕ → List Change → Type 0
+abbrev pub AreBelow : ℕ → List Change → Type 0
 AreBelow t cs = AllByRecursion (λ (c : Change). c.time < t) cs
 
 append-nil : (xs : List Change) → xs ++ [] ≡ xs
@@ -32,7 +32,7 @@ latest-append v [] c t = refl
 latest-append v (d ∷ cs) c t = latest-append (cond (nat_le d.time t) d.value v) cs c t
 
 -- nothing changes after the last change
-latest-flat : (v : Logic) (cs : List Change) (t u : ℕ) → AreUpTo t cs → t ≤ u → latest v cs u ≡ latest v cs t
+pub latest-flat : (v : Logic) (cs : List Change) (t u : ℕ) → AreUpTo t cs → t ≤ u → latest v cs u ≡ latest v cs t
 unfolding latest
 latest-flat v [] t u a h = refl
 latest-flat v (c ∷ cs) t u a h =
@@ -60,7 +60,7 @@ below-append : (b : ℕ) (cs ds : List Change) → AreBelow b cs → AreBelow b 
 below-append b [] ds x y = y
 below-append b (c ∷ cs) ds x y = (x.0, below-append b cs ds x.1 y)
 
-changes-below : (f : ℕ → Logic) (b : ℕ) → AreBelow b (changes f b)
+pub changes-below : (f : ℕ → Logic) (b : ℕ) → AreBelow b (changes f b)
 unfolding changes
 changes-below f zero = tt
 changes-below f (suc t) = below-append (suc t) (changes f t) (change_at f t) (below_more t (suc t) (changes f t) (omega arith) (changes-below f t))
