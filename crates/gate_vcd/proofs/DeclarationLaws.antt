@@ -39,9 +39,10 @@ unfolding declaring
 in_command asked h first body [] = refl
 in_command asked h first body (t ∷ ts) =
     elim (is_end t.text) as (λ b. cond b (after_command asked h first body ts) (declaring asked h (Some (record { first = first; body = body ++ t.text ∷ [] })) ts)
-        ≡ (or_fault (cond b (Some (the_end ts)) (option_map (with_first t.text) (until_end ts))) first causes.UnclosedCommand >>= λ x. after_command asked h first (body ++ x.0) x.1))
-    [ true ↦ ap (λ xs. after_command asked h first xs ts) (sym (append-nil body))
-    | false ↦ in_command asked h first (body ++ t.text ∷ []) ts ∙ rest_after asked h first body t.text (until_end ts) ]
+    ≡ (or_fault (cond b (Some (the_end ts)) (option_map (with_first t.text) (until_end ts))) first causes.UnclosedCommand >>= λ x. after_command asked h first (body ++ x.0) x.1)) [
+      | true ↦ ap (λ xs. after_command asked h first xs ts) (sym (append-nil body))
+      | false ↦ in_command asked h first (body ++ t.text ∷ []) ts ∙ rest_after asked h first body t.text (until_end ts)
+    ]
 
 -- a command is read whole
 pub declaring-command : (asked : Option (List ℕ)) (h : Header) (t : Token) (ts : List Token) → opens_command t.text ≡ true → declaring asked h None (t ∷ ts) ≡ (rest_of_command t ts >>= λ x. after_command asked h t x.0 x.1)

@@ -48,6 +48,7 @@ noted name other code old new absent en = rw (en, turned other name) (go (bytes_
     no_code : (o : Option (Bor (List ℕ))) → is_some o ≡ false → o ≡ None
     no_code None e = refl
     no_code (Some x) e = cc
+
     go : (b : Bool) → bytes_eq name other ≡ b → option_map (λ (c : Bor (List ℕ)). c.now) (cond b (Some code) (old other)) ≡ or_else (option_map (λ (c : Bor (List ℕ)). c.now) (old other)) (cond b (Some code.now) None)
     go false e = elim (old other) as (λ o. option_map (λ (c : Bor (List ℕ)). c.now) o ≡ or_else (option_map (λ (c : Bor (List ℕ)). c.now) o) None) [ None ↦ refl | Some x ↦ refl ]
     go true e = rw (← same_bytes name other e, no_code (old name) absent) refl

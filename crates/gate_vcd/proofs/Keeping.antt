@@ -100,7 +100,7 @@ kept_at : (codes : Codes) (now i : ℕ) (code : List ℕ) (v : Logic) (es : List
     → (other : List ℕ) (k : ℕ) → number_of codes other ≡ Some k
     → get_or (set lists i (settled (get_or lists i []) (record { time = now; value = v }))) k [] ≡ changes (value_with other (es ++ record { time = now; code = code; value = v } ∷ [])) (last_stamp + 1)
 kept_at codes now i code v es lists at kept other k ko = elim (cases_eq k i) [
-    | inl e ↦ (
+  | inl e ↦ (
       let c : Change = record { time = now; value = v } in
       let ev : Event = record { time = now; code = code; value = v } in
       let within : i < length lists = rw kept.count (number_within codes code i at) in
@@ -108,12 +108,12 @@ kept_at codes now i code v es lists at kept other k ko = elim (cases_eq k i) [
       let listed : changes_with other (es ++ ev ∷ []) ≡ changes_with code es ++ c ∷ [] = more_changes other code es ev refl ∙ rw (codes_same, own_code code) refl in
       rw (e, get_or-set_same lists i (settled (get_or lists i []) c) [] within, kept.changes code i at)
       (settled-changes (changes_with code es) c (last_stamp + 1) (up_to_with now code es kept.past) (omega (arith, kept.within)) ∙ ap (λ cs. changes (λ t. latest X cs t) (last_stamp + 1)) (sym listed)))
-    | inr n ↦ (
+  | inr n ↦ (
       let c : Change = record { time = now; value = v } in
       let ev : Event = record { time = now; code = code; value = v } in
       let listed : changes_with other (es ++ ev ∷ []) ≡ changes_with other es = more_changes other code es ev refl ∙ rw (other_code codes other code i k ko at n) (append-nil (changes_with other es)) in
       rw (get_or-set_other lists i k (settled (get_or lists i []) c) [] n, kept.changes other k ko) (ap (λ cs. changes (λ t. latest X cs t) (last_stamp + 1)) (sym listed)))
-  ]
+]
 
 -- a change of a code with a number is taken in
 pub kept-more : (codes : Codes) (now i : ℕ) (code : List ℕ) (v : Logic) (es : List Event) (lists : List (List Change)) → number_of codes code ≡ Some i → AreKept codes now es lists

@@ -19,12 +19,12 @@ use Rattle.gate_vcd.specs.Lists.{IsRising}
 -- those that aren't later come first
 pub rising-partitioned : (cs : List Change) (t : ℕ) → IsRising cs → IsPartitionedBy (λ (c : Change). nat_le c.time t) cs
 rising-partitioned cs t rising i j d h l e = elim (cases_eq i j) [
-    | inl same ↦ rw same e
-    | inr other ↦ (let before : (get_or cs i d).time < (get_or cs j d).time = rising i j d (omega arith) l in
+  | inl same ↦ rw same e
+  | inr other ↦ (let before : (get_or cs i d).time < (get_or cs j d).time = rising i j d (omega arith) l in
       let late : (get_or cs j d).time ≤ t = grind (arith, nat_tests, e) in
       let early : (get_or cs i d).time ≤ t = omega arith in
       grind (arith, nat_tests, early))
-  ]
+]
 
 pub latest-split : (v : Logic) (xs ys : List Change) (t : ℕ) → latest v (xs ++ ys) t ≡ latest (latest v xs t) ys t
 unfolding latest

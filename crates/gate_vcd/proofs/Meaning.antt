@@ -21,6 +21,8 @@ use Rattle.gate_vcd.specs.Reading.{◌>>=◌, Fails}
 use Rattle.gate_vcd.specs.Declarations.{Header, Variable, no_header, declaring}
 use Rattle.gate_vcd.specs.Changes.{Item, stamp, change, wrong, Event, items, nothing, events_from, event_at, stamped, changes_with, value_with, last_stamp}
 use Rattle.gate_vcd.specs.Items.{Codes, AreKept, number_of, is_known}
+use Rattle.gate_vcd.specs.declared.variable.Variable.{Variable as Held}
+use Rattle.gate_vcd.specs.Commands.{variables}
 use Rattle.gate_vcd.specs.Inputs.{codes_below, code_of_net, code_or_fault, scalar_code, is_scalar_of}
 use Rattle.gate_vcd.specs.Lists.{lists_in, IsRising}
 use Rattle.gate_vcd.specs.Given.{Given, Fits, changes_of, value_at}
@@ -93,11 +95,11 @@ module _ (f : ℕ → Logic) where
   unfolding changes
   latest-changes zero t h = absurd (omega arith)
   latest-changes (suc b) t h = elim (cases_eq t b) [
-      | inl e ↦ (let own : nat_le b b ≡ true = grind (arith, nat_tests) in
+    | inl e ↦ (let own : nat_le b b ≡ true = grind (arith, nat_tests) in
         rw e (latest-split X (changes f b) (change_at f b) b ∙ one-change (latest X (changes f b) b) b b (past-changes b b (omega arith)) ∙ rw own refl))
-      | inr n ↦ (let l : t < b = omega arith in
+    | inr n ↦ (let l : t < b = omega arith in
         latest-split X (changes f b) (change_at f b) t ∙ later-change (latest X (changes f b) t) b t l ∙ latest-changes b t l)
-    ]
+  ]
 
   -- also past the end, where the function stays from the last time before it on
   pub latest-all : (b t : ℕ) → ((u : ℕ) → b ≤ u → f u ≡ f b) → latest X (changes f (b + 1)) t ≡ f t
@@ -116,11 +118,11 @@ below-at b (c ∷ cs) (suc i) d a h = below-at b cs i d a.1 (omega arith)
 
 rising-push : (cs : List Change) (c : Change) → IsRising cs → AreBelow c.time cs → IsRising (cs ++ c ∷ [])
 rising-push cs c rising below i j d h l = elim (cases_eq j (length cs)) [
-    | inl e ↦ (let front : i < length cs = omega arith in
+  | inl e ↦ (let front : i < length cs = omega arith in
       rw (e, get_or-append_seam cs c [] d, get_or-append cs (c ∷ []) d i front) (below-at c.time cs i d below front))
-    | inr n ↦ (let lj : j < length cs = omega (arith, length-append cs (c ∷ [])) in let li : i < length cs = omega arith in
+  | inr n ↦ (let lj : j < length cs = omega (arith, length-append cs (c ∷ [])) in let li : i < length cs = omega arith in
       rw (get_or-append cs (c ∷ []) d i li, get_or-append cs (c ∷ []) d j lj) (rising i j d h lj))
-  ]
+]
 
 append-nil : (cs : List Change) → cs ++ [] ≡ cs
 append-nil cs = grind (arith, common_steps)
@@ -161,7 +163,7 @@ module _ (d : Design) (vs : List Variable) where
       elim (cases_eq n m) [
         | inl same_net ↦ ap (code_of_net d vs) same_net ∙ c ∙ ap (λ o. Ok o) (sym (last-code before code found n is (same_net ∙ sym (found-length m before r))))
         | inr other ↦ (let l : n < m = omega arith in
-          found-at m n before r l ∙ ap (λ o. Ok o) (sym (front-code before code found n is (omega (arith, found-length m before r)))))
+            found-at m n before r l ∙ ap (λ o. Ok o) (sym (front-code before code found n is (omega (arith, found-length m before r)))))
       ]
 
 found-known : (vs : List Variable) (name code : List ℕ) → scalar_code vs name ≡ Some code → has_code vs code ≡ true
@@ -211,9 +213,67 @@ module _ (d : Design) (h : Header) (codes : Codes) (lists : List (Vec Change Glo
 
   known-at : (n : ℕ) (code : List ℕ) → get_or found n None ≡ Some code → (k : ℕ) × (number_of codes code ≡ Some k)
   known-at n code e = elim (lt_or_not n (nets_of d)) [
-      | inl l ↦ number-some codes code (known code ∙ (coded n l).1 code e)
-      | inr g ↦ absurd (none_some (sym (get_or_past found n None (omega (arith, found-length d h.variables (nets_of d) found read))) ∙ e))
-    ]
+    | inl l ↦ number-some codes code (known code ∙ (coded n l).1 code e)
+    | inr g ↦ absurd (none_some (sym (get_or_past found n None (omega (arith, found-length d h.variables (nets_of d) found read))) ∙ e))
+  ]
 
   number-at : (n : ℕ) → get_or list_of n None ≡ option_and_then (number_of codes) (get_or found n None)
   number-at n = rw numbers (map-at (option_and_then (number_of codes)) found n None)
+
+  abbrev given : Given
+  given = given_by h.timescale lists list_of
+
+  wave_of : (o : Option (List ℕ)) → ((code : List ℕ) → o ≡ Some code → (k : ℕ) × (number_of codes code ≡ Some k)) → unwrap_or (option_map (λ k. get_or (lists_in lists) k []) (option_and_then (number_of codes) o)) [] ≡ changes (value_of_code es o) (last_stamp + 1)
+  wave_of None has = sym (changes-none (value_of_code es None) (last_stamp + 1) (λ t. refl))
+  wave_of (Some code) has = let (k, e) = has code refl in rw e (kept.changes code k e)
+
+  wave-at : (n : ℕ) → changes_of given n ≡ changes (value_of_code es (get_or found n None)) (last_stamp + 1)
+  wave-at n = ap (λ o. unwrap_or o []) (map-at (option_map (λ k. get_or (lists_in lists) k [])) list_of n None) ∙ rw (number-at n) (wave_of (get_or found n None) (known-at n))
+
+  flat-code : (o : Option (List ℕ)) (u : ℕ) → last_stamp ≤ u → value_of_code es o u ≡ value_of_code es o last_stamp
+  flat-code None u l = refl
+  flat-code (Some code) u l = latest-flat X (changes_with code es) last_stamp u (up_to_with last_stamp code es (past-later now last_stamp es kept.within kept.past)) l
+
+  value-is : (n t : ℕ) → value_at given n t ≡ value_of_code es (get_or found n None) t
+  value-is n t = ap (λ cs. latest X cs t) (wave-at n) ∙ latest-all (value_of_code es (get_or found n None)) last_stamp t (flat-code (get_or found n None))
+
+  some-number : (o : Option (List ℕ)) → ((code : List ℕ) → o ≡ Some code → (k : ℕ) × (number_of codes code ≡ Some k)) → is_some (option_and_then (number_of codes) o) ≡ is_some o
+  some-number None has = refl
+  some-number (Some code) has = let (k, e) = has code refl in rw e refl
+
+  lengths : length list_of ≡ nets_of d
+  lengths = ap length numbers ∙ length-map found (option_and_then (number_of codes)) ∙ found-length d h.variables (nets_of d) found read
+
+  fits-circuit : Fits given d
+  fits-circuit = some-mapped (λ k. get_or (lists_in lists) k []) list_of ∙ fits-all list_of d.drivers (lengths ∙ sym drivers)
+      (λ n l. (let below : n < nets_of d = omega (arith, lengths) in ap is_some (number-at n) ∙ some-number (get_or found n None) (known-at n) ∙ (coded n below).0))
+
+  pub means : Means d (record { timescale = h.timescale; events = es; codes = found }) given
+  means = record { timescale = refl; fits = fits-circuit; values = value-is; changes = wave-at }
+
+  laid-by : (o : Option ℕ) (code : Option (List ℕ)) → o ≡ option_and_then (number_of codes) code → IfSome o (λ k. (k < length lists) × IsRising (get_or (lists_in lists) k []))
+  laid-by None code e = tt
+  laid-by (Some k) None e = absurd (none_some (sym e))
+  laid-by (Some k) (Some code) e =
+      let at : number_of codes code ≡ Some k = sym e in
+      (omega (arith, number_within codes code k at, kept.count, length-map lists (λ (v : Vec Change Global). v.items)), rw (kept.changes code k at) (changes-rising (value_with code es) (last_stamp + 1)))
+
+  pub laid : AreLaidOut lists list_of
+  laid n o l = laid-by (get_or list_of n o) (get_or found n None) (get_or_default list_of n o None l ∙ number-at n)
+
+-- from what the readers of the parts answered
+pub declared-read : (d : Design) (text : List ℕ) (asked : Option (List ℕ)) (ts : List Token) (P : Result (Header × List Token) StimFault → Type 0) → asked ≡ d.scope → ts ≡ tokens_of text
+    → P (declaring asked no_header None ts) → P (declaring d.scope no_header None (tokens_of text))
+declared-read d text asked ts P ea et p = subst (λ (s : Option (List ℕ)). P (declaring s no_header None (tokens_of text))) ea (subst (λ (xs : List Token). P (declaring asked no_header None xs)) et p)
+
+pub known-codes : (codes : Codes) (all held : List Held) (vs : List Variable) → all ≡ held → variables held ≡ vs → ((code : List ℕ) → is_known codes code ≡ has_code (variables all) code) → (code : List ℕ) → is_known codes code ≡ has_code vs code
+known-codes codes all held vs ea ev h code = h code ∙ ap (λ xs. has_code xs code) (ap variables ea ∙ ev)
+
+pub events-fail : (p q : List ℕ → Bool) (is : List Item) (e : StimFault) → ((code : List ℕ) → p code ≡ q code) → Fails e (events_from p 0 is) → Fails e (events_from q 0 is)
+events-fail p q is e h f = rw (← events-same p q h 0 is) f
+
+pub events-read : (p q : List ℕ → Bool) (is : List Item) (es : List Event) → ((code : List ℕ) → p code ≡ q code) → events_from p 0 is ≡ Ok es → events_from q 0 is ≡ Ok es
+events-read p q is es h r = sym (events-same p q h 0 is) ∙ r
+
+pub below-same : (d : Design) (all held : List Held) (vs : List Variable) → all ≡ held → variables held ≡ vs → codes_below d (variables all) (nets_of d) ≡ codes_below d vs (nets_of d)
+below-same d all held vs ea ev = ap (λ xs. codes_below d xs (nets_of d)) (ap variables ea ∙ ev)

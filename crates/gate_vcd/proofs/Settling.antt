@@ -122,9 +122,10 @@ module _ (cs : List Change) (c : Change) (b : ℕ) (up : AreUpTo c.time cs) (in_
   undone-f : undone c.time (changes f (suc c.time)) ≡ changes f c.time
   unfolding changes
   undone-f =
-      elim (same (f c.time) (just_before f c.time)) as (λ s. undone c.time (changes f c.time ++ cond s [] (record { time = c.time; value = f c.time } ∷ [])) ≡ changes f c.time)
-      [ true ↦ rw (append-nil (changes f c.time)) (undone-below c.time (changes f c.time) (changes-below f c.time))
-      | false ↦ undone-last (changes f c.time) (record { time = c.time; value = f c.time }) ]
+      elim (same (f c.time) (just_before f c.time)) as (λ s. undone c.time (changes f c.time ++ cond s [] (record { time = c.time; value = f c.time } ∷ [])) ≡ changes f c.time) [
+        | true ↦ rw (append-nil (changes f c.time)) (undone-below c.time (changes f c.time) (changes-below f c.time))
+        | false ↦ undone-last (changes f c.time) (record { time = c.time; value = f c.time })
+      ]
 
   before-same : (t : ℕ) → t ≤ c.time → just_before g t ≡ just_before f t
   before-same zero h = refl

@@ -18,10 +18,7 @@ use indexmap::{IndexMap, IndexSet};
 use std::alloc::Global;
 
 /// The codes of variables, each with a number.
-pub fn codes_of<'a>(
-    alloc: Global,
-    all: &[Variable<'a>],
-) -> Result<IndexSet<&'a [u8]>, StimFault>
+pub fn codes_of<'a>(alloc: Global, all: &[Variable<'a>]) -> Result<IndexSet<&'a [u8]>, StimFault>
     ensures ok { (code : List ℕ) → IfOk result (λ codes. is_known codes code ≡ list_any (λ v. bytes_eq code v.code) (variables all.now)) }
     ensures err { IfErr result (λ e. e ≡ out_of_memory) }
 {

@@ -14,11 +14,7 @@ use std::alloc::Global;
 ///
 /// A refusal tells the first fault of the text by its offset, or else the first input that the text doesn't
 /// give by its net. Times are in units of the text's timescale.
-pub fn read_stimulus(
-    alloc: Global,
-    text: &[u8],
-    circuit: &Circuit,
-) -> Result<Stimulus, StimFault>
+pub fn read_stimulus(alloc: Global, text: &[u8], circuit: &Circuit) -> Result<Stimulus, StimFault>
     ensures { IsAnswer text.now circuit.now result }
 {
     circuit.law();

@@ -15,9 +15,11 @@ returns-in_ok-declared-in-Timescale-clause-header c h i =
 
 pub returns-in_ok-open-in-Scope-clause-header : goal.returns-in_ok-open-in-Scope-clause-header
 returns-in_ok-open-in-Scope-clause-header c h i =
-    let k : keyword_of c.args.first.text.now ≡ words.Scope = sym c.keyword_of.ensures ∙ c.in-Scope.is in
-    (record h { scopes = h.scopes ++ inner_path h.scopes (get_or (texts c.args.body.now) 1 []) ∷ [] }, rw k refl,
-    record { timescale = i.timescale; scopes = rw (c.in_ok-open-in-Scope.ensures.asked, ← c.scope_name.ensures) (c.in_ok-open-in-Scope.ensures.ok h.scopes i.scopes); variables = i.variables })
+    let k : keyword_of c.args.first.text.now ≡ words.Scope = sym c.keyword_of.ensures ∙ c.in-Scope.is in (
+      record h { scopes = h.scopes ++ inner_path h.scopes (get_or (texts c.args.body.now) 1 []) ∷ [] },
+      rw k refl,
+      record { timescale = i.timescale; scopes = rw (c.in_ok-open-in-Scope.ensures.asked, ← c.scope_name.ensures) (c.in_ok-open-in-Scope.ensures.ok h.scopes i.scopes); variables = i.variables },
+    )
 
 pub returns-in-Upscope-clause-header : goal.returns-in-Upscope-clause-header
 returns-in-Upscope-clause-header c h i =
@@ -27,6 +29,8 @@ returns-in-Upscope-clause-header c h i =
 pub returns-in_ok-push-in-Var-clause-header : goal.returns-in_ok-push-in-Var-clause-header
 returns-in_ok-push-in-Var-clause-header c h i =
     let k : keyword_of c.args.first.text.now ≡ words.Var = sym c.keyword_of.ensures ∙ c.in-Var.is in
-    let v = variable c.in_ok-variable-in-Var.variable in
-    (record h { variables = h.variables ++ v ∷ [] }, rw (k, ← c.are_counted-counted.ensures h.scopes i.scopes, c.in_ok-variable-in-Var.ensures) refl,
-    record { timescale = i.timescale; scopes = i.scopes; variables = rw (c.in_ok-push-in-Var.ensures.items, ← i.variables) (map-append variable c.args.declared.now.variables.items (c.in_ok-variable-in-Var.variable ∷ [])) })
+    let v = variable c.in_ok-variable-in-Var.variable in (
+      record h { variables = h.variables ++ v ∷ [] },
+      rw (k, ← c.are_counted-counted.ensures h.scopes i.scopes, c.in_ok-variable-in-Var.ensures) refl,
+      record { timescale = i.timescale; scopes = i.scopes; variables = rw (c.in_ok-push-in-Var.ensures.items, ← i.variables) (map-append variable c.args.declared.now.variables.items (c.in_ok-variable-in-Var.variable ∷ [])) },
+    )
