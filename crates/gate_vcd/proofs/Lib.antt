@@ -11,3 +11,13 @@ pub mod Arrays
 pub mod Coding
 pub mod Waving
 pub mod Following
+pub mod Places
+pub mod TokenLaws
+pub mod NumberLaws
+pub mod ScopeLaws
+pub mod DeclarationLaws
+pub mod Settling
+pub mod Keeping
+pub mod ItemLaws
+pub mod InputLaws
+pub mod Meaning

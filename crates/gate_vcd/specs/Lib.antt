@@ -1,6 +1,7 @@
 pub mod Faults
 pub mod Timescales
 pub mod Given
+pub mod Lists
 pub mod Held
 pub mod Sink
 pub mod Grown
@@ -9,3 +10,16 @@ pub mod Waves
 pub mod HeldWaves
 pub mod Dump
 pub mod Walk
+pub mod Tokens
+pub mod Reading
+pub mod Words
+pub mod Numbers
+pub mod Declarations
+pub mod Scopes
+pub mod Commands
+pub mod Headers
+pub mod Changes
+pub mod Items
+pub mod Inputs
+pub mod Scalars
+pub mod Stimulus

@@ -1,7 +1,12 @@
-ghost use Rattle.std.specs.Prelude.{◌≡◌};
-ghost use Rattle.gate_vcd.specs.Given.{changes_of, value_at};
+ghost use Rattle.std.specs.Prelude.{◌≡◌, ◌≤◌, ◌↔◌, IsTrue, true, false, is_some, length, map, nat_le};
+ghost use Rattle.std.specs.List.Sorted.{IsPartitionPoint};
+ghost use Rattle.gate_netlist.specs.Circuit.{is_input};
+ghost use Rattle.gate_vcd.specs.Given.{changes_of, value_at, Fits};
+ghost use Rattle.gate_vcd.specs.Lists.{IsRising};
 
+use crate::inputs::is_input;
 use crate::timescale::Timescale;
+use gate_netlist::Circuit;
 use gate_values::{Change, Logic};
 use std::marker::Model;
 
@@ -9,7 +14,7 @@ use std::marker::Model;
 #[derive(Drop)]
 pub struct Stimulus {
     lists: Vec<Vec<Change>>,
-    list_of: Vec<Option<u32>>,
+    list_of: Vec<Option<usize>>,
     timescale: Timescale,
 }
 
@@ -26,6 +31,24 @@ impl Model for Stimulus {
 }
 
 impl Stimulus {
+    ghost use Rattle.gate_vcd.specs.Held.{given_by, AreLaidOut};
+
+    /// Lists of changes, and which of them each input has.
+    pub(crate) fn new(
+        timescale: Timescale,
+        lists: Vec<Vec<Change>>,
+        list_of: Vec<Option<usize>>,
+    ) -> Stimulus
+        requires { AreLaidOut lists.items list_of.items }
+        ensures { result ≡ given_by timescale lists.items list_of.items }
+    {
+        Stimulus {
+            lists,
+            list_of,
+            timescale,
+        }
+    }
+
     /// The timescale of the text, `1 ns` where it has none.
     pub fn timescale(&self) -> Timescale
         ensures { result ≡ self.now.timescale }
@@ -33,26 +56,65 @@ impl Stimulus {
         self.timescale
     }
 
-    /// The changes of an input; none for a number that is no input.
+    fn rising_changes(&self, net: u32) -> &[Change]
+        ensures list { result.now ≡ changes_of self.now net }
+        ensures rising { IsRising result.now }
+    {
+        match self.list_of.get(net as usize) {
+            Some(Some(list)) => self.lists[*list].as_slice(),
+            _ => &[],
+        }
+    }
+
+    /// The changes of an input, at rising times; none for a number that is no input.
     pub fn changes(&self, net: u32) -> &[Change]
         ensures { result.now ≡ changes_of self.now net }
     {
-        match self.list_of.get(net as usize) {
-            Some(Some(list)) => self.lists[*list as usize].as_slice(),
-            _ => &[],
-        }
+        self.rising_changes(net)
     }
 
     /// The value of an input at a time; `X` for a number that is no input.
     pub fn at(&self, net: u32, time: u64) -> Logic
         ensures { result ≡ value_at self.now net time }
     {
-        let mut value = Logic::X;
-        for change in self.changes(net) {
-            if change.time <= time {
-                value = change.value;
-            }
+        let changes = self.rising_changes(net);
+        let count = count_until(changes, time);
+        if count == 0 {
+            Logic::X
+        } else {
+            changes[count - 1].value
         }
-        value
     }
+
+    /// Whether the stimulus is for circuits with these nets and inputs.
+    pub fn fits(&self, circuit: &Circuit) -> bool
+        ensures { IsTrue result ↔ Fits self.now circuit.now }
+    {
+        fit(self.list_of.as_slice(), circuit)
+    }
+}
+
+/// How many of the changes aren't later than a time.
+fn count_until(changes: &[Change], time: u64) -> usize
+    requires { IsRising changes.now }
+    ensures within { result ≤ length changes.now }
+    ensures until { IsPartitionPoint (λ c. nat_le c.time time ≡ true) (λ c. nat_le c.time time ≡ false) changes.now result }
+{
+    changes.partition_point(|change| change.time <= time)
+}
+
+/// Whether just the inputs of the circuit have a list.
+fn fit(list_of: &[Option<usize>], circuit: &Circuit) -> bool
+    ensures { IsTrue result ↔ (map is_some list_of.now ≡ map is_input circuit.now.drivers) }
+{
+    circuit.law();
+    if list_of.len() != circuit.nets() as usize {
+        return false;
+    }
+    for (net, list) in list_of.iter().enumerate() {
+        if list.is_some() != is_input(circuit, net as u32) {
+            return false;
+        }
+    }
+    true
 }

@@ -1,0 +1,95 @@
+-- The changes of a stimulus, an item at a time.
+use Rattle.std.proofs.Common.{◌≡◌, ◌⊎◌, inl, inr, ℕ, ◌<◌, ◌≤◌, Bool, true, false, cond, nat_lt, List, [], ◌∷◌, ◌++◌, length, drop, replicate, Option, Some, None, Result, Ok, Err, Vec, Global, refl, ap, sym, ◌∙◌, subst, arith}
+use Rattle.std.specs.List.{AllByRecursion}
+use Rattle.std.proofs.lemmas.Bool.Decides.{nat_tests}
+use Rattle.std.proofs.lemmas.Grind.{common_steps}
+use Rattle.std.proofs.lemmas.List.{append_assoc}
+use Rattle.std.proofs.lemmas.Option.{same_Some}
+use Rattle.gate_values.specs.declared.logic.Logic.{Logic}
+use Rattle.gate_values.specs.declared.logic.Change.{Change}
+use Rattle.gate_vcd.specs.declared.fault.StimFault.{StimFault}
+use Rattle.gate_vcd.specs.declared.fault.StimCause.TheVariants as causes
+use Rattle.gate_vcd.specs.Faults.{out_of_memory}
+use Rattle.gate_vcd.specs.Tokens.{Token, fault_at}
+use Rattle.gate_vcd.specs.Numbers.{number}
+use Rattle.gate_vcd.specs.Reading.{◌>>=◌, Fails, Gives}
+use Rattle.gate_vcd.specs.Changes.{Item, stamp, change, wrong, Event, events_from, event_at, stamped, last_stamp}
+use Rattle.gate_vcd.specs.Items.{Codes, AreKept, IsTaken, TakesItem, is_known, fault_of}
+use Rattle.gate_vcd.specs.Lists.{lists_in}
+use Rattle.gate_vcd.proofs.DeclarationLaws.{fails_then}
+use Rattle.gate_vcd.proofs.Keeping.{past-later, kept-none}
+
+events-nil : (es : List Event) → es ++ [] ≡ es
+events-nil es = grind (arith, common_steps)
+
+abbrev chosen : Bool → Bool → ℕ → StimFault → StimFault → Result ℕ StimFault
+chosen a b n large falls = cond a (Err large) (cond b (Err falls) (Ok n))
+
+stamp_by : (a b : Bool) (n now next : ℕ) (large falls : StimFault) → nat_lt last_stamp n ≡ a → nat_lt n now ≡ b → chosen a b n large falls ≡ Ok next → (now ≤ next) × (next ≤ last_stamp)
+stamp_by true b n now next large falls x y e = cc
+stamp_by false true n now next large falls x y e = cc
+stamp_by false false n now next large falls x y e =
+    let is : n ≡ next = cc in
+    let low : now ≤ n = grind (arith, nat_tests, y) in
+    let high : n ≤ last_stamp = grind (arith, nat_tests, x) in
+    (omega arith, omega arith)
+
+stamp_after : (n now next : ℕ) (large falls : StimFault) → chosen (nat_lt last_stamp n) (nat_lt n now) n large falls ≡ Ok next → (now ≤ next) × (next ≤ last_stamp)
+stamp_after n now next large falls e = stamp_by (nat_lt last_stamp n) (nat_lt n now) n now next large falls refl refl e
+
+bind-unit : (r : Result (List Event) StimFault) → r ≡ (r >>= λ later. Ok later)
+bind-unit (Ok x) = refl
+bind-unit (Err e) = refl
+
+bind-more : (es more : List Event) (r : Result (List Event) StimFault) → ((r >>= λ later. Ok (more ++ later)) >>= λ later. Ok (es ++ later)) ≡ (r >>= λ later. Ok ((es ++ more) ++ later))
+bind-more es more (Ok x) = ap (λ ys. Ok ys) (sym (append_assoc es more x))
+bind-more es more (Err e) = refl
+
+-- a stamp
+pub takes-stamp : (codes : Codes) (now : ℕ) (t : Token) (others : List Item) (es : List Event) (lists : List (List Change)) (r : Result ℕ StimFault) → Gives (λ n. n) r (stamped t now) → AreKept codes now es lists → TakesItem codes now (stamp t) others es lists r
+unfolding events_from
+takes-stamp codes now t others es lists (Ok next) g kept =
+    let after = stamp_after (number (drop 1 t.text)) now next (fault_at t causes.StampTooLarge) (fault_at t causes.StampFalls) g in
+    ([], record { count = kept.count; past = rw (events-nil es) (past-later now next es after.0 kept.past); within = after.1; changes = rw (events-nil es) kept.changes }, rw g (bind-unit (events_from (is_known codes) next others)))
+takes-stamp codes now t others es lists (Err e) g kept = fails_then e (stamped t now) (λ next. events_from (is_known codes) next others) g
+
+-- a change
+pub takes-change : (codes : Codes) (now : ℕ) (t : Token) (code : List ℕ) (value : Option Logic) (others : List Item) (es : List Event) (lists : List (List Change)) → IsTaken codes now t code value es lists (Ok tt)
+    → TakesItem codes now (change t code value) others es lists (Ok now)
+unfolding events_from
+takes-change codes now t code value others es lists (known, kept) = (event_at now code value, kept, rw known refl)
+
+pub refuses-change : (codes : Codes) (now : ℕ) (t : Token) (code : List ℕ) (value : Option Logic) (others : List Item) (es : List Event) (lists : List (List Change)) (e : StimFault) → IsTaken codes now t code value es lists (Err e)
+    → TakesItem codes now (change t code value) others es lists (Err e)
+unfolding events_from
+refuses-change codes now t code value others es lists e (inl m) = inl m
+refuses-change codes now t code value others es lists e (inr (unknown, is)) = inr (rw (unknown, is) refl)
+
+-- The changes so far are kept, and the others are those of these items.
+abbrev pub GoesOn : Codes → ℕ → List (List Change) → List Item → Result (List Event) StimFault → Type 0
+GoesOn codes now lists is reading = (es : List Event) × AreKept codes now es lists × (reading ≡ (events_from (is_known codes) now is >>= λ later. Ok (es ++ later)))
+
+pub goes-start : (codes : Codes) (n : ℕ) (lists : List (List Change)) (is : List Item) → n ≡ length codes.keys → lists ≡ replicate {A = List Change} n [] → GoesOn codes 0 lists is (events_from (is_known codes) 0 is)
+goes-start codes n lists is e el = ([], rw el (kept-none codes n e), bind-unit (events_from (is_known codes) 0 is))
+
+pub goes-on : (codes : Codes) (now next : ℕ) (lists new : List (List Change)) (item : Item) (is others : List Item) (reading : Result (List Event) StimFault) → is ≡ item ∷ others
+    → GoesOn codes now lists is reading → ((es : List Event) → AreKept codes now es lists → TakesItem codes now item others es new (Ok next)) → GoesOn codes next new others reading
+goes-on codes now next lists new item is others reading e (es, kept, read) take =
+    let (more, now_kept, makes) = take es kept in
+    (es ++ more, now_kept, read ∙ rw (e, makes) (bind-more es more (events_from (is_known codes) next others)))
+
+pub goes-wrong : (codes : Codes) (now : ℕ) (lists : List (List Change)) (is : List Item) (e : StimFault) (reading : Result (List Event) StimFault) → fault_of is ≡ Some e → GoesOn codes now lists is reading → Fails e reading
+unfolding events_from
+goes-wrong codes now lists [] e reading h g = cc
+goes-wrong codes now lists (stamp t ∷ is) e reading h g = cc
+goes-wrong codes now lists (change t code value ∷ is) e reading h g = cc
+goes-wrong codes now lists (wrong t cause ∷ is) e reading h (es, kept, read) = let is_e : fault_at t cause ≡ e = same_Some _ _ h in inr (read ∙ ap Err is_e)
+
+pub goes-refused : (codes : Codes) (now : ℕ) (lists new : List (List Change)) (item : Item) (is others : List Item) (e : StimFault) (reading : Result (List Event) StimFault) → is ≡ item ∷ others
+    → GoesOn codes now lists is reading → ((es : List Event) → AreKept codes now es lists → TakesItem codes now item others es new (Err e)) → Fails e reading
+goes-refused codes now lists new item is others e reading ei (es, kept, read) take =
+    rw (read, ei) (fails_then e (events_from (is_known codes) now (item ∷ others)) (λ later. Ok (es ++ later)) (take es kept))
+
+pub goes-out : (codes : Codes) (now : ℕ) (lists : List (List Change)) (is : List Item) (reading : Result (List Event) StimFault) → is ≡ [] → GoesOn codes now lists is reading → (es : List Event) × (last : ℕ) × (reading ≡ Ok es) × AreKept codes last es lists
+unfolding events_from
+goes-out codes now lists is reading e (es, kept, read) = (es, now, read ∙ rw (e, events-nil es) refl, kept)

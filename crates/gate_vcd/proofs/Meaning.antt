@@ -1,0 +1,279 @@
+-- What is kept of a stimulus text means what the text does.
+use Rattle.std.proofs.Common.{◌≡◌, ◌≢◌, ◌⊎◌, inl, inr, ℕ, zero, suc, ◌+◌, ◌-◌, ◌<◌, ◌≤◌, Bool, true, false, not, cond, ◌||◌, ◌&&◌, nat_le, nat_lt, List, [], ◌∷◌, ◌++◌, length, map, get_or, Option, Some, None, IfSome, option_map, option_and_then, unwrap_or, is_some, Result, Ok, Err, Vec, Global, Bor, refl, ap, sym, ◌∙◌, subst, arith, length-append, add-one}
+use Rattle.std.specs.List.{All, AllByRecursion, list_any, find, position, prefix_len}
+use Rattle.std.specs.Str.{bytes_eq}
+use Rattle.std.proofs.lemmas.Bool.{cases_eq}
+use Rattle.std.proofs.lemmas.Bool.Decides.{nat_tests}
+use Rattle.std.proofs.lemmas.Grind.{common_steps}
+use Rattle.std.proofs.lemmas.List.{length-map, get_or_past, get_or_default}
+use Rattle.std.proofs.lemmas.Option.{same_Some}
+use Rattle.gate_values.specs.declared.logic.Logic.{Logic}
+use Rattle.gate_values.specs.declared.logic.Logic.TheVariants.{X}
+use Rattle.gate_values.specs.declared.logic.Change.{Change}
+use Rattle.gate_values.specs.Changes.{changes, change_at, just_before, latest, last_value, same}
+use Rattle.gate_values.proofs.ChangeLists.{same_is}
+use Rattle.gate_netlist.specs.Circuit.{Design, nets_of, driver_of, name_of, is_input}
+use Rattle.gate_vcd.specs.declared.fault.StimFault.{StimFault}
+use Rattle.gate_vcd.specs.declared.fault.StimCause.{StimCause}
+use Rattle.std.proofs.lemmas.Slice.Eq.{bytes_eq-Decides}
+use Rattle.gate_vcd.specs.Tokens.{Token, tokens_of}
+use Rattle.gate_vcd.specs.Reading.{◌>>=◌, Fails}
+use Rattle.gate_vcd.specs.Declarations.{Header, Variable, no_header, declaring}
+use Rattle.gate_vcd.specs.Changes.{Item, stamp, change, wrong, Event, items, nothing, events_from, event_at, stamped, changes_with, value_with, last_stamp}
+use Rattle.gate_vcd.specs.Items.{Codes, AreKept, number_of, is_known}
+use Rattle.gate_vcd.specs.declared.variable.Variable.{Variable as Held}
+use Rattle.gate_vcd.specs.Commands.{variables}
+use Rattle.gate_vcd.specs.Inputs.{codes_below, code_of_net, code_or_fault, scalar_code, is_scalar_of}
+use Rattle.gate_vcd.specs.Lists.{lists_in, IsRising}
+use Rattle.gate_vcd.specs.Given.{Given, Fits, changes_of, value_at}
+use Rattle.gate_vcd.specs.Held.{given_by, AreLaidOut}
+use Rattle.gate_vcd.specs.Scalars.{numbers_of}
+use Rattle.gate_vcd.specs.Stimulus.{Reading, reading_of, has_code, signal, value_of_code, Means}
+use Rattle.gate_vcd.proofs.DeclarationLaws.{fails_then}
+use Rattle.gate_vcd.proofs.Settling.{AreUpTo, AreBelow, latest-flat, changes-below}
+use Rattle.gate_vcd.proofs.Keeping.{up_to_with, past-later, number_within, changes-none, latest-none}
+use Rattle.gate_vcd.proofs.Latest.{latest-split, fits-all, some-mapped}
+use Rattle.std.proofs.Math.Seq.{get_or-append_seam}
+use Rattle.std.proofs.Math.ListN.{get_or-append, get_or-map as map-at}
+
+-- the known codes alone matter to the changes
+bind-same : (r : Result ℕ StimFault) (f g : ℕ → Result (List Event) StimFault) → ((n : ℕ) → f n ≡ g n) → (r >>= f) ≡ (r >>= g)
+bind-same (Ok n) f g h = h n
+bind-same (Err e) f g h = refl
+
+pub events-same : (p q : List ℕ → Bool) → ((code : List ℕ) → p code ≡ q code) → (now : ℕ) (is : List Item) → events_from p now is ≡ events_from q now is
+unfolding events_from
+events-same p q h now [] = refl
+events-same p q h now (stamp t ∷ is) = bind-same (stamped t now) (λ next. events_from p next is) (λ next. events_from q next is) (λ next. events-same p q h next is)
+events-same p q h now (change t code value ∷ is) = rw (h code, events-same p q h now is) refl
+events-same p q h now (wrong t cause ∷ is) = refl
+
+-- the steps of a reading
+module _ (text : List ℕ) (d : Design) where
+  pub declared-fails : (e : StimFault) → Fails e (declaring d.scope no_header None (tokens_of text)) → Fails e (reading_of text d)
+  unfolding reading_of
+  declared-fails e f = fails_then e (declaring d.scope no_header None (tokens_of text)) _ f
+
+  pub changes-fail : (e : StimFault) (h : Header) (rest : List Token) → declaring d.scope no_header None (tokens_of text) ≡ Ok (h, rest)
+      → Fails e (events_from (has_code h.variables) 0 (items nothing rest)) → Fails e (reading_of text d)
+  unfolding reading_of
+  changes-fail e h rest r f = rw r (fails_then e (events_from (has_code h.variables) 0 (items nothing rest)) _ f)
+
+  pub inputs-fail : (e : StimFault) (h : Header) (rest : List Token) (es : List Event) → declaring d.scope no_header None (tokens_of text) ≡ Ok (h, rest)
+      → events_from (has_code h.variables) 0 (items nothing rest) ≡ Ok es → Fails e (codes_below d h.variables (nets_of d)) → Fails e (reading_of text d)
+  unfolding reading_of
+  inputs-fail e h rest es r s f = rw (r, s) (fails_then e (codes_below d h.variables (nets_of d)) _ f)
+
+  pub reads : (h : Header) (rest : List Token) (es : List Event) (found : List (Option (List ℕ))) → declaring d.scope no_header None (tokens_of text) ≡ Ok (h, rest)
+      → events_from (has_code h.variables) 0 (items nothing rest) ≡ Ok es → codes_below d h.variables (nets_of d) ≡ Ok found → reading_of text d ≡ Ok (record { timescale = h.timescale; events = es; codes = found })
+  unfolding reading_of
+  reads h rest es found r s f = rw (r, s, f) refl
+
+-- the changes of a function leave its values
+module _ (f : ℕ → Logic) where
+  one-change : (v : Logic) (b t : ℕ) → v ≡ just_before f b → latest v (change_at f b) t ≡ cond (nat_le b t) (f b) v
+  unfolding latest
+  one-change v b t e = go (same (f b) (just_before f b)) refl
+    where
+      go : (s : Bool) → same (f b) (just_before f b) ≡ s → latest v (cond s [] (record { time = b; value = f b } ∷ [])) t ≡ cond (nat_le b t) (f b) v
+      go false h = refl
+      go true h = rw (same_is (f b) (just_before f b) h, e) (elim (nat_le b t) as (λ c. just_before f b ≡ cond c (just_before f b) (just_before f b)) [ true ↦ refl | false ↦ refl ])
+
+  -- a change that is later does nothing
+  later-change : (v : Logic) (b t : ℕ) → t < b → latest v (change_at f b) t ≡ v
+  unfolding latest
+  later-change v b t h = elim (same (f b) (just_before f b)) as (λ s. latest v (cond s [] (record { time = b; value = f b } ∷ [])) t ≡ v) [ true ↦ refl | false ↦ (let late : nat_le b t ≡ false = grind (arith, nat_tests) in rw late refl) ]
+
+  past-changes : (b t : ℕ) → b ≤ t → latest X (changes f b) t ≡ just_before f b
+  unfolding changes
+  past-changes zero t h = latest-none t
+  past-changes (suc b) t h =
+      let now : nat_le b t ≡ true = grind (arith, nat_tests) in
+      latest-split X (changes f b) (change_at f b) t ∙ one-change (latest X (changes f b) t) b t (past-changes b t (omega arith)) ∙ rw now refl
+
+  pub latest-changes : (b t : ℕ) → t < b → latest X (changes f b) t ≡ f t
+  unfolding changes
+  latest-changes zero t h = absurd (omega arith)
+  latest-changes (suc b) t h = elim (cases_eq t b) [
+    | inl e ↦ (let own : nat_le b b ≡ true = grind (arith, nat_tests) in
+        rw e (latest-split X (changes f b) (change_at f b) b ∙ one-change (latest X (changes f b) b) b b (past-changes b b (omega arith)) ∙ rw own refl))
+    | inr n ↦ (let l : t < b = omega arith in
+        latest-split X (changes f b) (change_at f b) t ∙ later-change (latest X (changes f b) t) b t l ∙ latest-changes b t l)
+  ]
+
+  -- also past the end, where the function stays from the last time before it on
+  pub latest-all : (b t : ℕ) → ((u : ℕ) → b ≤ u → f u ≡ f b) → latest X (changes f (b + 1)) t ≡ f t
+  latest-all b t flat = go (nat_lt t (b + 1)) refl
+    where
+      go : (s : Bool) → nat_lt t (b + 1) ≡ s → latest X (changes f (b + 1)) t ≡ f t
+      go true e = latest-changes (b + 1) t (grind (arith, nat_tests, e))
+      go false e =
+          let past : b + 1 ≤ t = grind (arith, nat_tests, e) in
+          past-changes (b + 1) t past ∙ rw (add-one b) (sym (flat t (omega arith)))
+
+below-at : (b : ℕ) (cs : List Change) (i : ℕ) (d : Change) → AreBelow b cs → i < length cs → (get_or cs i d).time < b
+below-at b [] i d a h = absurd (omega arith)
+below-at b (c ∷ cs) zero d a h = a.0
+below-at b (c ∷ cs) (suc i) d a h = below-at b cs i d a.1 (omega arith)
+
+rising-push : (cs : List Change) (c : Change) → IsRising cs → AreBelow c.time cs → IsRising (cs ++ c ∷ [])
+rising-push cs c rising below i j d h l = elim (cases_eq j (length cs)) [
+  | inl e ↦ (let front : i < length cs = omega arith in
+      rw (e, get_or-append_seam cs c [] d, get_or-append cs (c ∷ []) d i front) (below-at c.time cs i d below front))
+  | inr n ↦ (let lj : j < length cs = omega (arith, length-append cs (c ∷ [])) in let li : i < length cs = omega arith in
+      rw (get_or-append cs (c ∷ []) d i li, get_or-append cs (c ∷ []) d j lj) (rising i j d h lj))
+]
+
+append-nil : (cs : List Change) → cs ++ [] ≡ cs
+append-nil cs = grind (arith, common_steps)
+
+pub changes-rising : (f : ℕ → Logic) (b : ℕ) → IsRising (changes f b)
+unfolding changes
+changes-rising f zero = λ i j d h l. absurd (omega arith)
+changes-rising f (suc b) =
+    elim (same (f b) (just_before f b)) as (λ s. IsRising (changes f b ++ cond s [] (record { time = b; value = f b } ∷ [])))
+    [ true ↦ rw (append-nil (changes f b)) (changes-rising f b) | false ↦ rising-push (changes f b) (record { time = b; value = f b }) (changes-rising f b) (changes-below f b) ]
+
+-- the codes of the nets
+opened_up : (r : Result (List (Option (List ℕ))) StimFault) (c : Result (Option (List ℕ)) StimFault) (found : List (Option (List ℕ))) → (r >>= λ before. (c >>= λ code. Ok (before ++ code ∷ []))) ≡ Ok found
+    → (before : List (Option (List ℕ))) × (code : Option (List ℕ)) × (r ≡ Ok before) × (c ≡ Ok code) × (before ++ code ∷ [] ≡ found)
+opened_up (Ok before) (Ok code) found e = (before, code, refl, refl, cc)
+opened_up (Ok before) (Err f) found e = cc
+opened_up (Err f) c found e = cc
+
+last-code : (before : List (Option (List ℕ))) (code : Option (List ℕ)) (found : List (Option (List ℕ))) (n : ℕ) → before ++ code ∷ [] ≡ found → n ≡ length before → get_or found n None ≡ code
+last-code before code found n is e = rw (← is, e) (get_or-append_seam before code [] None)
+
+front-code : (before : List (Option (List ℕ))) (code : Option (List ℕ)) (found : List (Option (List ℕ))) (n : ℕ) → before ++ code ∷ [] ≡ found → n < length before → get_or found n None ≡ get_or before n None
+front-code before code found n is h = rw (← is) (get_or-append before (code ∷ []) None n h)
+
+module _ (d : Design) (vs : List Variable) where
+  found-length : (m : ℕ) (found : List (Option (List ℕ))) → codes_below d vs m ≡ Ok found → length found ≡ m
+  unfolding codes_below
+  found-length zero found e = let is : [] ≡ found = cc in ap length (sym is)
+  found-length (suc m) found e =
+      let (before, code, r, c, is) = opened_up (codes_below d vs m) (code_of_net d vs m) found e in
+      ap length (sym is) ∙ omega (arith, length-append before (code ∷ []), found-length m before r)
+
+  found-at : (m n : ℕ) (found : List (Option (List ℕ))) → codes_below d vs m ≡ Ok found → n < m → code_of_net d vs n ≡ Ok (get_or found n None)
+  unfolding codes_below
+  found-at zero n found e h = absurd (omega arith)
+  found-at (suc m) n found e h =
+      let (before, code, r, c, is) = opened_up (codes_below d vs m) (code_of_net d vs m) found e in
+      elim (cases_eq n m) [
+        | inl same_net ↦ ap (code_of_net d vs) same_net ∙ c ∙ ap (λ o. Ok o) (sym (last-code before code found n is (same_net ∙ sym (found-length m before r))))
+        | inr other ↦ (let l : n < m = omega arith in
+            found-at m n before r l ∙ ap (λ o. Ok o) (sym (front-code before code found n is (omega (arith, found-length m before r)))))
+      ]
+
+found-known : (vs : List Variable) (name code : List ℕ) → scalar_code vs name ≡ Some code → has_code vs code ≡ true
+found-known [] name code e = cc
+found-known (v ∷ vs) name code e = go (is_scalar_of name v) e (found-known vs name code)
+  where
+    go : (s : Bool) → option_map (λ (x : Variable). x.code) (cond s (Some v) (find (is_scalar_of name) vs)) ≡ Some code → (scalar_code vs name ≡ Some code → has_code vs code ≡ true) → (bytes_eq code v.code || has_code vs code) ≡ true
+    go true h ih = rw (← same_Some v.code code h, (bytes_eq-Decides v.code v.code).1 refl) refl
+    go false h ih = rw (ih h) (elim (bytes_eq code v.code) as (λ b. (b || true) ≡ true) [ true ↦ refl | false ↦ refl ])
+
+-- a net has a code where it is an input, and then a variable has that code
+coded-by : (input : Bool) (vs : List Variable) (name : List ℕ) (net : ℕ) (cause : StimCause) (o : Option (List ℕ))
+    → cond input (code_or_fault (scalar_code vs name) net cause >>= λ code. Ok (Some code)) (Ok None) ≡ Ok o → (is_some o ≡ input) × ((code : List ℕ) → o ≡ Some code → has_code vs code ≡ true)
+coded-by false vs name net cause o e = let is : None ≡ o = cc in (rw (← is) refl, λ code h. cc)
+coded-by true vs name net cause o e = go (scalar_code vs name) refl e
+  where
+    go : (s : Option (List ℕ)) → scalar_code vs name ≡ s → (code_or_fault s net cause >>= λ code. Ok (Some code)) ≡ Ok o → (is_some o ≡ true) × ((code : List ℕ) → o ≡ Some code → has_code vs code ≡ true)
+    go None h x = cc
+    go (Some c) h x = let is : Some c ≡ o = cc in (rw (← is) refl, λ code k. found-known vs name code (h ∙ is ∙ k))
+
+any-below : {A : Type 0} (p : A → Bool) (xs : List A) → list_any p xs ≡ true → prefix_len (λ x. not (p x)) xs < length xs
+any-below p [] e = cc
+any-below p (x ∷ xs) e = go (p x) e (any-below p xs)
+  where
+    go : (b : Bool) → (b || list_any p xs) ≡ true → (list_any p xs ≡ true → prefix_len (λ y. not (p y)) xs < length xs) → cond (not b) (1 + prefix_len (λ y. not (p y)) xs) 0 < suc (length xs)
+    go true h ih = omega arith
+    go false h ih = let l : prefix_len (λ y. not (p y)) xs < length xs = ih h in omega arith
+
+pub number-some : (codes : Codes) (code : List ℕ) → is_known codes code ≡ true → (k : ℕ) × (number_of codes code ≡ Some k)
+number-some codes code e =
+    let l = any-below (λ (k : Bor (List ℕ)). bytes_eq code k.now) codes.keys e in
+    let t : nat_lt (prefix_len (λ (k : Bor (List ℕ)). not (bytes_eq code k.now)) codes.keys) (length codes.keys) ≡ true = grind (arith, nat_tests, l) in
+    (prefix_len (λ (k : Bor (List ℕ)). not (bytes_eq code k.now)) codes.keys, rw t refl)
+
+lt_or_not : (n m : ℕ) → (n < m) ⊎ (m ≤ n)
+lt_or_not n m = grind arith
+
+none_some : {A : Type 0} {x : A} → None ≡ Some x → ⊥
+none_some e = cc
+
+-- What is kept of a text whose reading is this one.
+module _ (d : Design) (h : Header) (codes : Codes) (lists : List (Vec Change Global)) (list_of : List (Option ℕ)) (es : List Event) (now : ℕ) (found : List (Option (List ℕ)))
+    (known : (code : List ℕ) → is_known codes code ≡ has_code h.variables code) (kept : AreKept codes now es (lists_in lists)) (numbers : list_of ≡ numbers_of codes found)
+    (read : codes_below d h.variables (nets_of d) ≡ Ok found) (drivers : length d.drivers ≡ nets_of d) where
+  coded : (n : ℕ) → n < nets_of d → (is_some (get_or found n None) ≡ is_input (driver_of d n)) × ((code : List ℕ) → get_or found n None ≡ Some code → has_code h.variables code ≡ true)
+  coded n l = coded-by (is_input (driver_of d n)) h.variables (name_of d n) n _ (get_or found n None) (found-at d h.variables (nets_of d) n found read l)
+
+  known-at : (n : ℕ) (code : List ℕ) → get_or found n None ≡ Some code → (k : ℕ) × (number_of codes code ≡ Some k)
+  known-at n code e = elim (lt_or_not n (nets_of d)) [
+    | inl l ↦ number-some codes code (known code ∙ (coded n l).1 code e)
+    | inr g ↦ absurd (none_some (sym (get_or_past found n None (omega (arith, found-length d h.variables (nets_of d) found read))) ∙ e))
+  ]
+
+  number-at : (n : ℕ) → get_or list_of n None ≡ option_and_then (number_of codes) (get_or found n None)
+  number-at n = rw numbers (map-at (option_and_then (number_of codes)) found n None)
+
+  abbrev given : Given
+  given = given_by h.timescale lists list_of
+
+  wave_of : (o : Option (List ℕ)) → ((code : List ℕ) → o ≡ Some code → (k : ℕ) × (number_of codes code ≡ Some k)) → unwrap_or (option_map (λ k. get_or (lists_in lists) k []) (option_and_then (number_of codes) o)) [] ≡ changes (value_of_code es o) (last_stamp + 1)
+  wave_of None has = sym (changes-none (value_of_code es None) (last_stamp + 1) (λ t. refl))
+  wave_of (Some code) has = let (k, e) = has code refl in rw e (kept.changes code k e)
+
+  wave-at : (n : ℕ) → changes_of given n ≡ changes (value_of_code es (get_or found n None)) (last_stamp + 1)
+  wave-at n = ap (λ o. unwrap_or o []) (map-at (option_map (λ k. get_or (lists_in lists) k [])) list_of n None) ∙ rw (number-at n) (wave_of (get_or found n None) (known-at n))
+
+  flat-code : (o : Option (List ℕ)) (u : ℕ) → last_stamp ≤ u → value_of_code es o u ≡ value_of_code es o last_stamp
+  flat-code None u l = refl
+  flat-code (Some code) u l = latest-flat X (changes_with code es) last_stamp u (up_to_with last_stamp code es (past-later now last_stamp es kept.within kept.past)) l
+
+  value-is : (n t : ℕ) → value_at given n t ≡ value_of_code es (get_or found n None) t
+  value-is n t = ap (λ cs. latest X cs t) (wave-at n) ∙ latest-all (value_of_code es (get_or found n None)) last_stamp t (flat-code (get_or found n None))
+
+  some-number : (o : Option (List ℕ)) → ((code : List ℕ) → o ≡ Some code → (k : ℕ) × (number_of codes code ≡ Some k)) → is_some (option_and_then (number_of codes) o) ≡ is_some o
+  some-number None has = refl
+  some-number (Some code) has = let (k, e) = has code refl in rw e refl
+
+  lengths : length list_of ≡ nets_of d
+  lengths = ap length numbers ∙ length-map found (option_and_then (number_of codes)) ∙ found-length d h.variables (nets_of d) found read
+
+  fits-circuit : Fits given d
+  fits-circuit = some-mapped (λ k. get_or (lists_in lists) k []) list_of ∙ fits-all list_of d.drivers (lengths ∙ sym drivers)
+      (λ n l. (let below : n < nets_of d = omega (arith, lengths) in ap is_some (number-at n) ∙ some-number (get_or found n None) (known-at n) ∙ (coded n below).0))
+
+  pub means : Means d (record { timescale = h.timescale; events = es; codes = found }) given
+  means = record { timescale = refl; fits = fits-circuit; values = value-is; changes = wave-at }
+
+  laid-by : (o : Option ℕ) (code : Option (List ℕ)) → o ≡ option_and_then (number_of codes) code → IfSome o (λ k. (k < length lists) × IsRising (get_or (lists_in lists) k []))
+  laid-by None code e = tt
+  laid-by (Some k) None e = absurd (none_some (sym e))
+  laid-by (Some k) (Some code) e =
+      let at : number_of codes code ≡ Some k = sym e in
+      (omega (arith, number_within codes code k at, kept.count, length-map lists (λ (v : Vec Change Global). v.items)), rw (kept.changes code k at) (changes-rising (value_with code es) (last_stamp + 1)))
+
+  pub laid : AreLaidOut lists list_of
+  laid n o l = laid-by (get_or list_of n o) (get_or found n None) (get_or_default list_of n o None l ∙ number-at n)
+
+-- from what the readers of the parts answered
+pub declared-read : (d : Design) (text : List ℕ) (asked : Option (List ℕ)) (ts : List Token) (P : Result (Header × List Token) StimFault → Type 0) → asked ≡ d.scope → ts ≡ tokens_of text
+    → P (declaring asked no_header None ts) → P (declaring d.scope no_header None (tokens_of text))
+declared-read d text asked ts P ea et p = subst (λ (s : Option (List ℕ)). P (declaring s no_header None (tokens_of text))) ea (subst (λ (xs : List Token). P (declaring asked no_header None xs)) et p)
+
+pub known-codes : (codes : Codes) (all held : List Held) (vs : List Variable) → all ≡ held → variables held ≡ vs → ((code : List ℕ) → is_known codes code ≡ has_code (variables all) code) → (code : List ℕ) → is_known codes code ≡ has_code vs code
+known-codes codes all held vs ea ev h code = h code ∙ ap (λ xs. has_code xs code) (ap variables ea ∙ ev)
+
+pub events-fail : (p q : List ℕ → Bool) (is : List Item) (e : StimFault) → ((code : List ℕ) → p code ≡ q code) → Fails e (events_from p 0 is) → Fails e (events_from q 0 is)
+events-fail p q is e h f = rw (← events-same p q h 0 is) f
+
+pub events-read : (p q : List ℕ → Bool) (is : List Item) (es : List Event) → ((code : List ℕ) → p code ≡ q code) → events_from p 0 is ≡ Ok es → events_from q 0 is ≡ Ok es
+events-read p q is es h r = sym (events-same p q h 0 is) ∙ r
+
+pub below-same : (d : Design) (all held : List Held) (vs : List Variable) → all ≡ held → variables held ≡ vs → codes_below d (variables all) (nets_of d) ≡ codes_below d vs (nets_of d)
+below-same d all held vs ea ev = ap (λ xs. codes_below d xs (nets_of d)) (ap variables ea ∙ ev)

@@ -1,0 +1,11 @@
+use Rattle.std.proofs.Common.{sym, length, ◌<◌, arith}
+use Rattle.gate_vcd.proofs.Keeping.{vectors-more}
+use Rattle.gate_vcd.proofs.changes.take_change.Goals as goal
+
+pub returns-in_ok-settle-in-Some-value : goal.returns-in_ok-settle-in-Some-value
+returns-in_ok-settle-in-Some-value c es kept =
+    let within : c.in-Some.number < length c.args.lists.now.items = omega (arith, c.in-Some.ensures.within) in (
+      sym c.in-Some.ensures.found,
+      rw c.in-Some-value.is (vectors-more c.args.codes.now c.args.now c.in-Some.number c.args.code.now c.in-Some-value.value es c.args.lists.now.items c.index_mut.result.now c.settle.new.list
+          (sym c.in-Some.ensures.index) kept within c.index_mut.ensures.value c.in_ok-settle-in-Some-value.ensures.ok),
+    )

@@ -1,0 +1,29 @@
+use Rattle.std.proofs.Common.{◌≡◌, ◌∙◌, refl, sym, ap, true, false, inr, ℕ, List, Bor, option_map, Ok, Err, Result}
+use Rattle.std.proofs.lemmas.Result.{err_from_is_err_and}
+use Rattle.gate_vcd.specs.declared.fault.StimFault.{StimFault}
+use Rattle.gate_vcd.specs.Tokens.{Token}
+use Rattle.gate_vcd.specs.Reading.{Fails}
+use Rattle.gate_vcd.specs.Words.{token_of, texts}
+use Rattle.gate_vcd.specs.Declarations.{Header, declared, keyword_of, opens_command}
+use Rattle.gate_vcd.specs.Commands.{rest_of_command}
+use Rattle.gate_vcd.proofs.DeclarationLaws.{declaring-bad, command_fails, effect_fails, command_goes_on}
+use Rattle.gate_vcd.proofs.declarations.read_command.Goals as goal
+
+pub returns-then-not-opens_command-clause-header : goal.returns-then-not-opens_command-clause-header
+returns-then-not-opens_command-clause-header c h i =
+    inr (declaring-bad _ h (token_of c.args.first) c.args.words.now (sym c.opens_command.ensures ∙ c.if-not-opens_command.true) ∙ ap Err (sym c.fault.ensures))
+
+pub returns-in_err-body-clause-header : goal.returns-in_err-body-clause-header
+returns-in_err-body-clause-header c h i =
+    let p = err_from_is_err_and c.from_residual.result c.from_residual.ensures.1 in
+    rw (p.1, p.2) (command_fails _ h (token_of c.args.first) c.args.words.now _ (sym c.opens_command.ensures ∙ c.if-not-opens_command.false) c.in_err-body.ensures.body)
+
+pub returns-in_err-declare-clause-header : goal.returns-in_err-declare-clause-header
+returns-in_err-declare-clause-header c h i =
+    let p = err_from_is_err_and c.from_residual-in_err-declare.result c.from_residual-in_err-declare.ensures.1 in
+    rw (p.1, p.2) (effect_fails _ h (token_of c.args.first) c.args.words.now _ _ _ (sym c.opens_command.ensures ∙ c.if-not-opens_command.false) c.in_ok-body.ensures.body (rw c.deref.ensures.value at c.in_err-declare.ensures.header h i))
+
+pub returns-clause-header : goal.returns-clause-header
+returns-clause-header c h i =
+    let (next, made, is) = c.in_ok-declare.ensures.header h i in
+    (next, command_goes_on _ h (token_of c.args.first) c.args.words.now next (texts c.in_ok-body.body.items) _ (sym c.opens_command.ensures ∙ c.if-not-opens_command.false) c.in_ok-body.ensures.body (rw (← c.deref.ensures.value) made) ∙ rw (c.ends_declarations.ensures, c.keyword_of.ensures) refl, is)

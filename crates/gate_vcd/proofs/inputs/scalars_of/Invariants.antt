@@ -1,0 +1,8 @@
+use Rattle.std.proofs.Common.{take}
+use Rattle.gate_vcd.specs.Commands.{variables}
+use Rattle.gate_vcd.specs.Scalars.{AreScalars}
+use Rattle.gate_vcd.proofs.inputs.scalars_of.Given as goal
+
+-- the scalars among the variables so far are kept
+abbrev pub invariant-loop-variable : goal.invariant-loop-variable
+invariant-loop-variable l = AreScalars l.scalars (variables (take l.variable-index l.all))

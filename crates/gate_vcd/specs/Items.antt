@@ -1,0 +1,93 @@
+-- What a reader of changes answers, and what it keeps.
+use Rattle.std.specs.Prelude.{◌≡◌, ◌⊎◌, ℕ, ◌+◌, ◌-◌, ◌≤◌, Bool, true, false, nat_eq, if◌then◌else◌, List, [], ◌∷◌, ◌++◌, length, map, take, get_or, slice_get, position, Option, Some, None, Result, Ok, Err, Vec}
+use Rattle.std.specs.Option.{option_map_or}
+use Rattle.std.specs.Borrow.{Bor}
+use Rattle.std.specs.List.{list_any, AllByRecursion}
+use Rattle.std.specs.Str.{bytes_eq}
+use Rattle.std.specs.declared.alloc.Global.{Global}
+use Rattle.std.specs.declared.hash.FoldHasher.{FoldHasher}
+use Rattle.std.specs.declared.hash.BuildHasherDefault.{BuildHasherDefault}
+use Rattle.indexmap.specs.IndexSet.{IndexSet}
+use Rattle.gate_values.specs.declared.logic.Logic.{Logic}
+use Rattle.gate_values.specs.declared.logic.Logic.TheVariants as logic
+use Rattle.gate_values.specs.declared.logic.Change.{Change}
+use Rattle.gate_values.specs.Changes.{changes, same}
+use Rattle.gate_vcd.specs.declared.fault.StimFault.{StimFault}
+use Rattle.gate_vcd.specs.declared.fault.StimCause.TheVariants as causes
+use Rattle.gate_vcd.specs.Faults.{out_of_memory}
+use Rattle.gate_vcd.specs.Reading.{◌>>=◌, Fails}
+use Rattle.gate_vcd.specs.declared.items.Item.{Item as Read}
+use Rattle.gate_vcd.specs.declared.items.Item.TheVariants as read
+use Rattle.gate_vcd.specs.Tokens.{Token, fault_at}
+use Rattle.gate_vcd.specs.Words.{token_of}
+use Rattle.gate_vcd.specs.Changes.{Item, stamp, change, wrong, nothing, items, Event, event_at, events_from, value_with, last_stamp}
+
+-- an item, without where it lies in memory
+abbrev pub item_of : Read → Item
+item_of (read.Stamp word) = stamp (token_of word)
+item_of (read.Change first code value) = change (token_of first) code.now value
+
+-- the fault of items that begin with one that may not stand there
+abbrev pub fault_of : List Item → Option StimFault
+fault_of (wrong t cause ∷ is) = Some (fault_at t cause)
+fault_of is = None
+
+-- the first of these items, before the items of the tokens that are left; none where there is none
+abbrev pub IsNext : List Token → Result (Option Read) StimFault → List Item → Type 0
+IsNext rest (Ok None) is = is ≡ []
+IsNext rest (Ok (Some item)) is = is ≡ item_of item ∷ items nothing rest
+IsNext rest (Err e) is = fault_of is ≡ Some e
+
+-- the items after something that is awaited, which a reader has passed over
+abbrev pub IsPassed : List Token → Result (Unit {0}) StimFault → List Item → Type 0
+IsPassed rest (Ok _) is = is ≡ items nothing rest
+IsPassed rest (Err e) is = fault_of is ≡ Some e
+
+-- codes with numbers
+abbrev pub Codes : Type 0
+Codes = IndexSet (Bor (List ℕ)) (BuildHasherDefault FoldHasher)
+
+abbrev pub is_known : Codes → List ℕ → Bool
+is_known codes code = list_any (λ (k : Bor (List ℕ)). bytes_eq code k.now) codes.keys
+
+abbrev pub number_of : Codes → List ℕ → Option ℕ
+number_of codes code = position (λ (k : Bor (List ℕ)). bytes_eq code k.now) codes.keys
+
+-- the value before a further change
+abbrev pub value_after : List Change → Logic
+value_after cs = option_map_or (λ (c : Change). c.value) (slice_get cs (length cs - 1)) logic.X
+
+abbrev pub ends_at : ℕ → Option Change → Bool
+ends_at time None = false
+ends_at time (Some c) = nat_eq c.time time
+
+-- without the change at this time, the last one if there is one
+abbrev pub undone : ℕ → List Change → List Change
+undone time cs = if ends_at time (slice_get cs (length cs - 1)) then take (length cs - 1) cs else cs
+
+-- a change after others that aren't later: the last one at a time counts, where it changes the value
+abbrev pub settled : List Change → Change → List Change
+settled cs c = undone c.time cs ++ (if same c.value (value_after (undone c.time cs)) then [] else c ∷ [])
+
+-- For each number of a code there is a list of the changes that its values make, as far as these are read.
+pub record AreKept (codes : Codes) (now : ℕ) (es : List Event) (lists : List (List Change)) : Type 0 where
+  pub count : length lists ≡ length codes.keys
+  pub past : AllByRecursion (λ (e : Event). e.time ≤ now) es
+  pub within : now ≤ last_stamp
+  pub changes : (code : List ℕ) (k : ℕ) → number_of codes code ≡ Some k → get_or lists k [] ≡ changes (value_with code es) (last_stamp + 1)
+
+-- a change of a code is taken in, or its code isn't known
+abbrev pub IsTaken : Codes → ℕ → Token → List ℕ → Option Logic → List Event → List (List Change) → Result (Unit {0}) StimFault → Type 0
+IsTaken codes now first code value es new (Ok _) = (is_known codes code ≡ true) × AreKept codes now (es ++ event_at now code value) new
+IsTaken codes now first code value es new (Err e) = (e ≡ out_of_memory) ⊎ ((is_known codes code ≡ false) × (e ≡ fault_at first causes.UnknownCode))
+
+-- the changes that were read are kept
+abbrev pub AreTaken : Codes → List (List Change) → Result (List Event) StimFault → Type 0
+AreTaken codes lists reading = (es : List Event) × (now : ℕ) × (reading ≡ Ok es) × AreKept codes now es lists
+
+-- An item is taken in: the changes that it makes, and the time after it, from which the other items go on.
+abbrev pub TakesItem : Codes → ℕ → Item → List Item → List Event → List (List Change) → Result ℕ StimFault → Type 0
+TakesItem codes now item others es new (Ok next) =
+    (more : List Event) × AreKept codes next (es ++ more) new
+    × (events_from (is_known codes) now (item ∷ others) ≡ (events_from (is_known codes) next others >>= λ later. Ok (more ++ later)))
+TakesItem codes now item others es new (Err e) = Fails e (events_from (is_known codes) now (item ∷ others))

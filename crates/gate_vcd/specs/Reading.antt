@@ -1,0 +1,25 @@
+-- What a reader gives: what is read, or the first fault.
+use Rattle.std.specs.Prelude.{◌≡◌, ◌⊎◌, Option, Some, None, Result, Ok, Err}
+use Rattle.gate_vcd.specs.declared.fault.StimFault.{StimFault}
+use Rattle.gate_vcd.specs.declared.fault.StimCause.{StimCause}
+use Rattle.gate_vcd.specs.Faults.{out_of_memory}
+use Rattle.gate_vcd.specs.Tokens.{Token, fault_at}
+
+infixl 10 ◌>>=◌
+abbrev pub ◌>>=◌ : {A B : Type 0} → Result A StimFault → (A → Result B StimFault) → Result B StimFault
+(Ok x) >>= f = f x
+(Err e) >>= f = Err e
+
+-- what there is, or a refusal at a token
+abbrev pub or_fault : {A : Type 0} → Option A → Token → StimCause → Result A StimFault
+or_fault (Some x) t cause = Ok x
+or_fault None t cause = Err (fault_at t cause)
+
+-- the fault is that of the reading, or want of memory
+abbrev pub Fails : {A : Type 0} → StimFault → Result A StimFault → Type 0
+Fails e reading = (e ≡ out_of_memory) ⊎ (reading ≡ Err e)
+
+-- What a function answers, seen by view, is what the reading gives, unless memory ran out.
+abbrev pub Gives : {X A : Type 0} → (X → A) → Result X StimFault → Result A StimFault → Type 0
+Gives view (Ok x) reading = reading ≡ Ok (view x)
+Gives view (Err e) reading = Fails e reading

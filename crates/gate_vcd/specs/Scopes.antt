@@ -1,0 +1,27 @@
+-- How far the text of a scope is along the one that is asked for.
+use Rattle.std.specs.Prelude.{◌≡◌, ℕ, ◌+◌, Bool, false, ◌&&◌, nat_lt, nat_eq, List, [], map, length, drop, get_or, if◌then◌else◌, Option, Some, None, unwrap_or}
+use Rattle.gate_vcd.specs.Declarations.{begins}
+
+-- where a text ends in the one that is asked for, which begins with it
+abbrev pub along : List ℕ → List ℕ → Option ℕ
+along asked path = if begins path asked then Some (length path) else None
+
+-- these are the ends of the open scopes
+abbrev pub AreAlong : Option (List ℕ) → List (Option ℕ) → List (List ℕ) → Type 0
+AreAlong asked ends scopes = ends ≡ map (along (unwrap_or asked [])) scopes
+
+-- where a name ends in a text from a place on, if it stands there
+abbrev pub end_in : List ℕ → ℕ → List ℕ → Option ℕ
+end_in asked from name = if begins name (drop from asked) then Some (from + length name) else None
+
+-- where the path of a new scope ends: in the scope with this end, or in none
+abbrev pub next_end : List ℕ → Option (Option ℕ) → List ℕ → Option ℕ
+next_end asked None name = end_in asked 0 name
+next_end asked (Some None) name = None
+next_end asked (Some (Some at)) name = if nat_lt at (length asked) && nat_eq (get_or asked at 0) 46 then end_in asked (at + 1) name else None
+
+-- whether the innermost scope ends where the one that is asked for does
+abbrev pub is_asked : List ℕ → Option (Option ℕ) → Bool
+is_asked asked None = nat_eq (length asked) 0
+is_asked asked (Some None) = false
+is_asked asked (Some (Some at)) = nat_eq at (length asked)

@@ -1,0 +1,155 @@
+ghost use Rattle.std.specs.Prelude.{◌≡◌, ◌<◌, ◌≤◌, ◌-◌, ℕ, List, [], length, slice_get, replicate, IfErr, IfOk, MatchResult, OnOk};
+ghost use Rattle.gate_values.specs.Changes.{same};
+ghost use Rattle.gate_vcd.specs.Changes.{Event, Item as TextItem, events_from, items, nothing, stamped, last_stamp};
+ghost use Rattle.gate_vcd.specs.Faults.{out_of_memory};
+ghost use Rattle.gate_vcd.specs.Items.{AreKept, AreTaken, IsTaken, TakesItem, ends_at, is_known, item_of, settled, undone, value_after};
+ghost use Rattle.gate_vcd.specs.Lists.{lists_in};
+ghost use Rattle.gate_vcd.specs.Reading.{Fails, Gives};
+ghost use Rattle.gate_vcd.specs.Words.{token_of};
+
+use crate::fault::{StimCause, StimFault};
+use crate::items::{Item, next_item};
+use crate::numbers::number_up_to;
+use crate::sort::after_first;
+use crate::words::{Word, Words};
+use gate_values::{Change, Logic};
+use indexmap::IndexSet;
+use std::alloc::Global;
+
+/// The greatest time of a stimulus.
+const LAST_STAMP: u64 = 1_000_000_000_000_000_000;
+
+fn same(a: Logic, b: Logic) -> bool
+    ensures { result ≡ same a b }
+{
+    matches!(
+        (a, b),
+        (Logic::Zero, Logic::Zero)
+            | (Logic::One, Logic::One)
+            | (Logic::X, Logic::X)
+            | (Logic::Z, Logic::Z)
+    )
+}
+
+/// The value that changes leave.
+fn value_after(list: &[Change]) -> Logic
+    ensures { result ≡ value_after list.now }
+{
+    match list.last() {
+        Some(change) => change.value,
+        None => Logic::X,
+    }
+}
+
+fn ends_at(time: u64, list: &[Change]) -> bool
+    ensures { result ≡ ends_at time (slice_get list.now (length list.now - 1)) }
+{
+    match list.last() {
+        Some(change) => change.time == time,
+        None => false,
+    }
+}
+
+/// Takes the change at this time back, the last one if there is one.
+fn undo(list: &mut Vec<Change>, time: u64)
+    ensures { list.new.items ≡ undone time list.old.items }
+{
+    if ends_at(time, list.as_slice()) {
+        list.pop();
+    }
+}
+
+/// Takes in a change after others that aren't later: the last one at a time counts, where it changes the
+/// value.
+fn settle(list: &mut Vec<Change>, change: Change) -> Result<(), StimFault>
+    ensures ok { OnOk result (list.new.items ≡ settled list.old.items change) }
+    ensures err { IfErr result (λ e. e ≡ out_of_memory) }
+{
+    undo(list, change.time);
+    if !same(change.value, value_after(list.as_slice())) {
+        list.push(change)?;
+    }
+    Ok(())
+}
+
+/// The time of a stamp after this time.
+fn next_stamp(now: u64, word: Word) -> Result<u64, StimFault>
+    ensures { Gives (λ next. next) result (stamped (token_of word.entry) now) }
+{
+    match number_up_to(LAST_STAMP, after_first(word.text)) {
+        Some(next) if next < now => Err(word.fault(StimCause::StampFalls)),
+        Some(next) => Ok(next),
+        None => Err(word.fault(StimCause::StampTooLarge)),
+    }
+}
+
+/// So many lists of no change.
+fn empty_lists(alloc: Global, count: usize) -> Result<Vec<Vec<Change>>, StimFault>
+    ensures ok { IfOk result (λ lists. lists_in lists.items ≡ replicate count []) }
+    ensures err { IfErr result (λ e. e ≡ out_of_memory) }
+{
+    let mut lists = Vec::new(alloc);
+    for _ in 0..count {
+        lists.push(Vec::new(alloc))?;
+    }
+    Ok(lists)
+}
+
+/// Takes in a change of a code at a time. The code must be known; a change that is read over has no value.
+fn take_change(
+    codes: &IndexSet<&[u8]>,
+    lists: &mut Vec<Vec<Change>>,
+    now: u64,
+    first: Word,
+    code: &[u8],
+    value: Option<Logic>,
+) -> Result<(), StimFault>
+    requires { length lists.old.items ≡ length codes.now.keys }
+    ensures { (es : List Event) → AreKept codes.now now es (lists_in lists.old.items) → IsTaken codes.now now (token_of first.entry) code.now value es (lists_in lists.new.items) result }
+{
+    match codes.get_index_of(code) {
+        Some(number) => match value {
+            Some(value) => {
+                settle(&mut lists[number], Change { time: now, value })?;
+                Ok(())
+            }
+            None => Ok(()),
+        },
+        None => Err(first.fault(StimCause::UnknownCode)),
+    }
+}
+
+/// Takes in an item after a time, and answers the time after it.
+fn take_item(
+    codes: &IndexSet<&[u8]>,
+    lists: &mut Vec<Vec<Change>>,
+    now: u64,
+    item: Item,
+) -> Result<u64, StimFault>
+    requires { length lists.old.items ≡ length codes.now.keys }
+    ensures { (es : List Event) (others : List TextItem) → AreKept codes.now now es (lists_in lists.old.items) → TakesItem codes.now now (item_of item.entry) others es (lists_in lists.new.items) result }
+{
+    match item {
+        Item::Stamp(word) => next_stamp(now, word),
+        Item::Change { first, code, value } => {
+            take_change(codes, lists, now, first, code, value)?;
+            Ok(now)
+        }
+    }
+}
+
+/// Reads the changes of a stimulus: for each number of a code the list of its changes.
+pub fn read_changes<'a>(
+    alloc: Global,
+    words: &mut Words<'a>,
+    codes: &IndexSet<&'a [u8]>,
+) -> Result<Vec<Vec<Change>>, StimFault>
+    ensures { MatchResult result (λ lists. AreTaken codes.now (lists_in lists.items) (events_from (is_known codes.now) 0 (items nothing words.old))) (λ e. Fails e (events_from (is_known codes.now) 0 (items nothing words.old))) }
+{
+    let mut lists = empty_lists(alloc, codes.len())?;
+    let mut now = 0;
+    while let Some(item) = next_item(words)? {
+        now = take_item(codes, &mut lists, now, item)?;
+    }
+    Ok(lists)
+}

@@ -1,0 +1,83 @@
+ghost use Rattle.std.specs.Prelude.{◌≡◌, ◌<◌, ◌≤◌, length, IfOk, IfSome};
+ghost use Rattle.gate_vcd.specs.Changes.{items, nothing, end_of, code_of};
+ghost use Rattle.gate_vcd.specs.Items.{IsNext, IsPassed};
+ghost use Rattle.gate_vcd.specs.Words.{token_of};
+
+use crate::fault::{StimCause, StimFault};
+use crate::keyword::is_end;
+use crate::sort::{Sort, after_first, sort_of};
+use crate::words::{Word, Words};
+use gate_values::Logic;
+
+/// What stands among the changes of a stimulus.
+#[derive(Clone, Copy, Debug)]
+pub enum Item<'a> {
+    /// `#` and a time.
+    Stamp(Word<'a>),
+    /// A change of a code to a value, or one that is read over.
+    Change {
+        first: Word<'a>,
+        code: &'a [u8],
+        value: Option<Logic>,
+    },
+}
+
+/// Passes over a command up to its `$end`.
+#[tactic(auto, unfolding(crate::specs::Changes::items))]
+fn skip_command<'a>(words: &mut Words<'a>, first: Word<'a>) -> Result<(), StimFault>
+    ensures items { IsPassed words.new result (items (end_of (token_of first.entry)) words.old) }
+    ensures shorter { length words.new ≤ length words.old }
+{
+    while let Some(word) = words.next() {
+        if is_end(word.text) {
+            return Ok(());
+        }
+    }
+    Err(first.fault(StimCause::UnclosedCommand))
+}
+
+/// A change whose code is the next word.
+#[tactic(auto, unfolding(crate::specs::Changes::items))]
+fn change_of<'a>(
+    words: &mut Words<'a>,
+    first: Word<'a>,
+    value: Option<Logic>,
+) -> Result<Option<Item<'a>>, StimFault>
+    ensures items { IsNext words.new result (items (code_of (token_of first.entry) value) words.old) }
+    ensures shorter { length words.new ≤ length words.old }
+{
+    match words.next() {
+        Some(word) => Ok(Some(Item::Change {
+            first,
+            code: word.text,
+            value,
+        })),
+        None => Err(first.fault(StimCause::BadToken)),
+    }
+}
+
+/// The next item among the changes.
+#[tactic(auto, unfolding(crate::specs::Changes::items))]
+pub fn next_item<'a>(words: &mut Words<'a>) -> Result<Option<Item<'a>>, StimFault>
+    ensures items { IsNext words.new result (items nothing words.old) }
+    ensures progress { IfOk result (λ item. IfSome item (λ _. length words.new < length words.old)) }
+{
+    while let Some(word) = words.next() {
+        match sort_of(word.text) {
+            Sort::Stamp => return Ok(Some(Item::Stamp(word))),
+            Sort::Scalar(value) => {
+                return Ok(Some(Item::Change {
+                    first: word,
+                    code: after_first(word.text),
+                    value: Some(value),
+                }));
+            }
+            Sort::Vector(value) => return change_of(words, word, Some(value)),
+            Sort::Unvalued => return change_of(words, word, None),
+            Sort::Mark => {}
+            Sort::Command => skip_command(words, word)?,
+            Sort::Bad => return Err(word.fault(StimCause::BadToken)),
+        }
+    }
+    Ok(None)
+}

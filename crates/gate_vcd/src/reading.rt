@@ -1,0 +1,37 @@
+ghost use Rattle.std.specs.Prelude.{◌≡◌, option_map};
+ghost use Rattle.gate_vcd.specs.Stimulus.{IsAnswer};
+
+use crate::changes::read_changes;
+use crate::declarations::read_declarations;
+use crate::fault::StimFault;
+use crate::inputs::{codes_of, inputs_of};
+use crate::stimulus::Stimulus;
+use crate::words::Words;
+use gate_netlist::Circuit;
+use std::alloc::Global;
+
+/// Reads a stimulus text, a value change dump, for a circuit.
+///
+/// A refusal tells the first fault of the text by its offset, or else the first input that the text doesn't
+/// give by its net. Times are in units of the text's timescale.
+pub fn read_stimulus(alloc: Global, text: &[u8], circuit: &Circuit) -> Result<Stimulus, StimFault>
+    ensures { IsAnswer text.now circuit.now result }
+{
+    circuit.law();
+    let mut words = Words::new(text);
+    let declared = read_declarations(alloc, &mut words, asked_scope(circuit))?;
+    let codes = codes_of(alloc, &declared.variables)?;
+    let lists = read_changes(alloc, &mut words, &codes)?;
+    let list_of = inputs_of(alloc, circuit, &declared.variables, &codes)?;
+    Ok(Stimulus::new(declared.timescale, lists, list_of))
+}
+
+/// The scope whose variables alone count.
+fn asked_scope(circuit: &Circuit) -> Option<&[u8]>
+    ensures { option_map (λ scope. scope.now) result ≡ circuit.now.scope }
+{
+    match circuit.scope() {
+        Some(scope) => Some(scope.as_bytes()),
+        None => None,
+    }
+}

@@ -1,0 +1,92 @@
+ghost use Rattle.std.specs.Prelude.{◌≡◌, IfErr, IfOk};
+ghost use Rattle.std.specs.List.{concat};
+ghost use Rattle.gate_vcd.specs.declared.fault.StimCause.TheVariants as causes;
+ghost use Rattle.gate_vcd.specs.Commands.{variable};
+ghost use Rattle.gate_vcd.specs.Declarations.{is_code, is_single, is_unvalued, unescaped, variable_of};
+ghost use Rattle.gate_vcd.specs.Faults.{out_of_memory};
+ghost use Rattle.gate_vcd.specs.Reading.{Gives, or_fault};
+ghost use Rattle.gate_vcd.specs.Words.{texts, token_of};
+
+use crate::fault::{StimCause, StimFault};
+use crate::keyword::{begins, is_word};
+use crate::numbers::{is_numeral, number_up_to};
+use crate::words::Word;
+use std::alloc::Global;
+
+/// A variable of a stimulus, as far as inputs ask for it.
+#[derive(Drop)]
+pub struct Variable<'a> {
+    /// Its reference text, without a backslash at its beginning.
+    pub reference: Vec<u8>,
+    pub code: &'a [u8],
+    /// Its size is 1, and its type isn't `real`, `realtime` or `string`.
+    pub single: bool,
+    /// It stands in the scope that is asked for.
+    pub counted: bool,
+}
+
+/// The parts in a row.
+pub fn joined(alloc: Global, parts: &[&[u8]]) -> Result<Vec<u8>, StimFault>
+    ensures ok { IfOk result (λ text. text.items ≡ concat (texts parts.now)) }
+    ensures err { IfErr result (λ e. e ≡ out_of_memory) }
+{
+    let mut text = Vec::new(alloc);
+    for part in parts {
+        text.extend_from_slice(part)?;
+    }
+    Ok(text)
+}
+
+fn is_code(text: &[u8]) -> bool
+    ensures { result ≡ is_code text.now }
+{
+    text.iter().all(|byte| matches!(*byte, 33..=126))
+}
+
+fn is_unvalued(kind: &[u8]) -> bool
+    ensures { result ≡ is_unvalued kind.now }
+{
+    is_word(kind, b"real") || is_word(kind, b"realtime") || is_word(kind, b"string")
+}
+
+fn is_single(kind: &[u8], size: &[u8]) -> bool
+    ensures { result ≡ is_single kind.now size.now }
+{
+    number_up_to(1, size) == Some(1) && !is_unvalued(kind)
+}
+
+/// The text without a backslash at its beginning.
+fn unescaped(mut text: Vec<u8>) -> Vec<u8>
+    ensures { result.items ≡ unescaped text.items }
+{
+    if begins(b"\\", text.as_slice()) {
+        text.remove(0);
+    }
+    text
+}
+
+/// The variable that a `$var` declares.
+pub fn variable_of<'a>(
+    alloc: Global,
+    counted: bool,
+    first: Word<'a>,
+    body: &[&'a [u8]],
+) -> Result<Variable<'a>, StimFault>
+    ensures { Gives variable result (or_fault (variable_of counted (texts body.now)) (token_of first.entry) causes.BadVar) }
+{
+    match body {
+        [kind, size, code, parts @ ..] => {
+            if parts.is_empty() || !is_numeral(size) || !is_code(code) {
+                return Err(first.fault(StimCause::BadVar));
+            }
+            let reference = unescaped(joined(alloc, parts)?);
+            Ok(Variable {
+                reference,
+                code,
+                single: is_single(kind, size),
+                counted,
+            })
+        }
+        _ => Err(first.fault(StimCause::BadVar)),
+    }
+}
