@@ -1,13 +1,11 @@
-use Rattle.std.proofs.Common.{◌≡◌, ℕ, ◌++◌, ◌≤◌, List, [], length, map, Option, None, Ok, Result, inr, sym, ap, ◌∙◌, subst, string_bytes, arith}
-use Rattle.std.specs.List.{position}
+use Rattle.std.proofs.Common.{◌≡◌, ℕ, ◌++◌, ◌≤◌, List, [], length, map, None, Ok, inr, ap, ◌∙◌, subst, string_bytes, arith}
 use Rattle.gate_netlist.specs.Lines.{lines_of}
-use Rattle.gate_netlist.specs.Keys.{Keys, names_in}
+use Rattle.gate_netlist.specs.Keys.{names_in}
 use Rattle.gate_netlist.specs.Meant.{meant}
 use Rattle.gate_netlist.specs.declared.statement.Statement.{Statement as Written}
-use Rattle.gate_netlist.specs.declared.fault.BenchFault.{BenchFault}
 use Rattle.gate_netlist.specs.Netlist.{IsNetlist}
-use Rattle.gate_netlist.specs.Statements.{Name, Statement}
-use Rattle.gate_netlist.specs.Bench.{nets_of, accepted, uses_other}
+use Rattle.gate_netlist.specs.Statements.{Name}
+use Rattle.gate_netlist.specs.Bench.{nets_of, accepted}
 use Rattle.gate_netlist.proofs.Resolving.{AreAccepted, are_accepted, is_netlist, undriven_is, netlist_is, bench-undriven, bench-driven}
 use Rattle.gate_netlist.proofs.reading.read_bench.Goals as goal
 
