@@ -263,3 +263,7 @@ bench-undriven text ss i e f = rw (e, f) refl
 pub bench-driven : (text : List ℕ) (ss : List Statement) → accepted [] 1 (lines_of text) ≡ Ok ss → position (uses_other (nets_of ss)) ss ≡ None → bench_of text ≡ Ok (netlist_of ss)
 unfolding bench_of
 bench-driven text ss e f = rw (e, f) refl
+
+-- the nets of an accepted text are few enough to be numbered
+pub within : (text : List ℕ) (written : List Written) (nets : List Name) → accepted [] 1 (lines_of text) ≡ Ok (map meant written) → nets ≡ nets_of (map meant written) → length nets ≤ 999999
+within text written nets e f = rw f (are_accepted [] 1 (lines_of text) (map meant written) (omega arith) e).within
