@@ -10,7 +10,7 @@ use Rattle.gate_netlist.specs.declared.fault.BenchCause.TheVariants as cause
 use Rattle.gate_netlist.specs.declared.fault.BenchFault.{BenchFault}
 use Rattle.gate_netlist.specs.Faults.{fault_at, out_of_memory}
 use Rattle.gate_netlist.specs.Statements.{Name, Statement}
-use Rattle.gate_netlist.specs.Bench.{◌>>=◌, net_of, nets_of, stated, at_line, accepted}
+use Rattle.gate_netlist.specs.Bench.{◌>>=◌, net_of, stated, accepted}
 
 -- statements that were read before, and what is still read
 abbrev pub with_front : List Statement → Result (List Statement) BenchFault → Result (List Statement) BenchFault

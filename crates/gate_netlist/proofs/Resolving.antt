@@ -1,5 +1,5 @@
 -- What is accepted and has no net undriven is a netlist.
-use Rattle.std.proofs.Common.{◌≡◌, ℕ, zero, suc, ◌+◌, ◌<◌, ◌≤◌, Bool, true, false, not, ◌||◌, ◌&&◌, cond, ltb, leb, eqb, List, [], ◌∷◌, ◌++◌, length, map, get_or, All, Option, Some, None, Result, Ok, Err, refl, ap, sym, ◌∙◌, subst, inl, inr, append_assoc, append-nil, codes, bytes_eq, arith}
+use Rattle.std.proofs.Common.{◌≡◌, ℕ, zero, suc, ◌+◌, ◌<◌, ◌≤◌, Bool, true, false, not, ◌||◌, ◌&&◌, cond, ltb, eqb, List, [], ◌∷◌, ◌++◌, length, map, get_or, Option, Some, None, Result, Ok, Err, refl, ap, sym, ◌∙◌, subst, append_assoc, append-nil, codes, bytes_eq, arith}
 use Rattle.std.specs.Prelude.{option_to_list}
 use Rattle.std.specs.List.{list_any, list_all, filter_map, cons_option, position, position_or_len, fold, AllByRecursion}
 use Rattle.std.proofs.lemmas.Bool.{eqb-true, leb-true, ltb-true}
@@ -7,17 +7,17 @@ use Rattle.std.proofs.lemmas.List.{length-append, length-map}
 use Rattle.std.proofs.lemmas.List.Elements.{All-from_recursion}
 use Rattle.gate_values.specs.Tables.{HasInputs}
 use Rattle.gate_values.specs.declared.gate.Kind.{Kind}
-use Rattle.gate_values.specs.declared.gate.Kind.TheVariants.{And, Nand, Or, Nor, Xor, Xnor, Not, Buff}
+use Rattle.gate_values.specs.declared.gate.Kind.TheVariants.{Not, Buff}
 use Rattle.gate_netlist.specs.declared.bench.Definition.{Definition}
 use Rattle.gate_netlist.specs.declared.bench.Definition.TheVariants as definition
 use Rattle.gate_netlist.specs.declared.fault.BenchCause.{BenchCause}
 use Rattle.gate_netlist.specs.declared.fault.BenchFault.{BenchFault}
 use Rattle.gate_netlist.specs.declared.statement.GateWord.{GateWord}
 use Rattle.gate_netlist.specs.declared.statement.GateWord.TheVariants as word
-use Rattle.gate_netlist.specs.Netlist.{Netlist, IsDefinition, IsNetlist}
-use Rattle.gate_netlist.specs.Symbols.{Symbol, Open, Close, Comma, Equals, Word, code_of, symbols, is_clean}
-use Rattle.gate_netlist.specs.Statements.{Name, Statement, Nothing, Input, Output, Gate, Flop, says, gate_of, arguments, takes, marked, driven, driven_by, statement_of, meaning_of}
-use Rattle.gate_netlist.specs.Bench.{◌>>=◌, net_of, is_among, refusal, unless, stated, at_line, accepted, nets_of, uses, uses_other, number_of, definition_of, output_of, with_last, each_once, netlist_of, bench_of}
+use Rattle.gate_netlist.specs.Netlist.{IsDefinition, IsNetlist}
+use Rattle.gate_netlist.specs.Symbols.{Symbol, Open, Close, Equals, Word, code_of, symbols, is_clean}
+use Rattle.gate_netlist.specs.Statements.{Name, Statement, Nothing, Input, Output, Gate, Flop, says, gate_of, arguments, takes, driven, driven_by, statement_of, meaning_of}
+use Rattle.gate_netlist.specs.Bench.{◌>>=◌, net_of, is_among, refusal, unless, stated, at_line, accepted, nets_of, uses_other, number_of, definition_of, output_of, with_last, each_once, netlist_of, bench_of}
 use Rattle.gate_netlist.specs.declared.fault.BenchCause.TheVariants.{Undriven}
 use Rattle.gate_netlist.specs.declared.statement.Statement.{Statement as Written}
 use Rattle.gate_netlist.specs.Lines.{lines_of}
@@ -263,3 +263,7 @@ bench-undriven text ss i e f = rw (e, f) refl
 pub bench-driven : (text : List ℕ) (ss : List Statement) → accepted [] 1 (lines_of text) ≡ Ok ss → position (uses_other (nets_of ss)) ss ≡ None → bench_of text ≡ Ok (netlist_of ss)
 unfolding bench_of
 bench-driven text ss e f = rw (e, f) refl
+
+-- the nets of an accepted text are few enough to be numbered
+pub within : (text : List ℕ) (written : List Written) (nets : List Name) → accepted [] 1 (lines_of text) ≡ Ok (map meant written) → nets ≡ nets_of (map meant written) → length nets ≤ 999999
+within text written nets e f = rw f (are_accepted [] 1 (lines_of text) (map meant written) (omega arith) e).within

@@ -9,7 +9,7 @@ use Rattle.gate_netlist.specs.declared.fault.BenchCause.TheVariants.{DrivenTwice
 use Rattle.gate_netlist.specs.declared.fault.BenchFault.{BenchFault}
 use Rattle.gate_netlist.specs.Lines.{lines_of}
 use Rattle.gate_netlist.specs.Netlist.{Netlist}
-use Rattle.gate_netlist.specs.Statements.{Name, Statement, Nothing, Input, Output, Gate, Flop, meaning_of}
+use Rattle.gate_netlist.specs.Statements.{Name, Statement, Input, Output, Gate, Flop, meaning_of}
 
 infixl 10 ◌>>=◌
 abbrev pub ◌>>=◌ : {A B E : Type 0} → Result A E → (A → Result B E) → Result B E

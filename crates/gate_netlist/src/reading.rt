@@ -17,15 +17,21 @@ use crate::statement::{Statement, meaning_of};
 use indexmap::IndexSet;
 use std::alloc::{AllocError, Global};
 
+/// The names of nets, in the order of their defining lines.
+type Names = IndexSet<String>;
+
+/// The most nets that a bench text may define.
+const MOST_NETS: usize = 999_999;
+
 /// Gives a new net the next number.
-fn define(alloc: Global, names: &mut IndexSet<String>, name: &str) -> Result<(), BenchCause>
+fn define(alloc: Global, names: &mut Names, name: &str) -> Result<(), BenchCause>
     ensures gives { Gives cause.Memory (λ x. x) result (unless (refusal (names_in names.old) (Some name.now)) tt) }
     ensures ok { OnOk result (names_in names.new ≡ names_in names.old ++ name.now ∷ []) }
 {
     if names.contains(name) {
         return Err(BenchCause::DrivenTwice);
     }
-    if names.len() >= 999_999 {
+    if names.len() >= MOST_NETS {
         return Err(BenchCause::TooManyNets);
     }
     let key = String::from_str(alloc, name)?;
@@ -33,14 +39,14 @@ fn define(alloc: Global, names: &mut IndexSet<String>, name: &str) -> Result<(),
     Ok(())
 }
 
-fn is_defined(names: &IndexSet<String>, name: &str) -> bool
+fn is_defined(names: &Names, name: &str) -> bool
     ensures { result ≡ is_among (names_in names.now) name.now }
 {
     names.contains(name)
 }
 
 /// The number of a name, and that of names where it is none of them.
-fn number_of(names: &IndexSet<String>, name: &str) -> u32
+fn number_of(names: &Names, name: &str) -> u32
     requires { length (names_in names.now) ≤ 999999 }
     ensures { result ≡ number_of (names_in names.now) name.now }
 {
@@ -64,11 +70,7 @@ fn net_of<'a>(statement: &Statement<'a>) -> Option<&'a str>
 
 /// What a line says, after lines that define these nets. The net that it defines goes last.
 #[tactic(auto, unfolding(crate::specs::Bench::stated))]
-fn stated<'a>(
-    alloc: Global,
-    names: &mut IndexSet<String>,
-    line: &'a [u8],
-) -> Result<Statement<'a>, BenchCause>
+fn stated<'a>(alloc: Global, names: &mut Names, line: &'a [u8]) -> Result<Statement<'a>, BenchCause>
     ensures gives { Gives cause.Memory meant result (stated (names_in names.old) line.now) }
     ensures names { IfOk result (λ s. names_in names.new ≡ names_in names.old ++ option_to_list (net_of (meant s))) }
 {
@@ -91,37 +93,35 @@ fn fault_at(line: u64, cause: BenchCause) -> BenchFault
     }
 }
 
-/// What the lines of a text say, one statement a line. The nets that they define go last.
-fn statements<'a>(
-    alloc: Global,
-    names: &mut IndexSet<String>,
-    text: &'a [u8],
-) -> Result<Vec<Statement<'a>>, BenchFault>
-    ensures gives { Gives out_of_memory (λ ss. map meant ss.items) result (accepted (names_in names.old) 1 (lines_of text.now)) }
-    ensures names { IfOk result (λ ss. names_in names.new ≡ names_in names.old ++ nets_of (map meant ss.items)) }
+/// What the lines of a text say, one statement a line, and the names of the nets that they define.
+fn statements(alloc: Global, text: &[u8]) -> Result<(Names, Vec<Statement<'_>>), BenchFault>
+    ensures gives { Gives out_of_memory (λ x. map meant x.1.items) result (accepted [] 1 (lines_of text.now)) }
+    ensures names { IfOk result (λ x. names_in x.0 ≡ nets_of (map meant x.1.items)) }
+    ensures within { IfOk result (λ x. length (names_in x.0) ≤ 999999) }
 {
+    let mut names = IndexSet::new(alloc);
     let mut statements = Vec::new(alloc);
     let mut rest = Some(text);
     while let Some(text) = rest {
         let (line, after) = next_line(text);
         let number = statements.len() as u64 + 1;
-        match stated(alloc, names, line) {
+        match stated(alloc, &mut names, line) {
             Ok(statement) => statements.push(statement)?,
             Err(cause) => return Err(fault_at(number, cause)),
         }
         rest = after;
     }
-    Ok(statements)
+    Ok((names, statements))
 }
 
-fn are_defined(names: &IndexSet<String>, nets: &[&str]) -> bool
+fn are_defined(names: &Names, nets: &[&str]) -> bool
     ensures { result ≡ list_all (λ net. is_among (names_in names.now) net.now) nets.now }
 {
     nets.iter().all(|net| is_defined(names, net))
 }
 
 /// Whether a line uses a net that is none of these.
-fn uses_other(names: &IndexSet<String>, statement: &Statement) -> bool
+fn uses_other(names: &Names, statement: &Statement) -> bool
     ensures { result ≡ uses_other (names_in names.now) (meant statement.now) }
 {
     match statement {
@@ -134,7 +134,7 @@ fn uses_other(names: &IndexSet<String>, statement: &Statement) -> bool
 }
 
 /// The first line, from 0 on, that uses a net which is none of these.
-fn undriven(names: &IndexSet<String>, statements: &[Statement]) -> Option<usize>
+fn undriven(names: &Names, statements: &[Statement]) -> Option<usize>
     ensures { result ≡ position (λ s. uses_other (names_in names.now) (meant s)) statements.now }
 {
     statements
@@ -142,11 +142,7 @@ fn undriven(names: &IndexSet<String>, statements: &[Statement]) -> Option<usize>
         .position(|statement| uses_other(names, statement))
 }
 
-fn numbers_of(
-    alloc: Global,
-    names: &IndexSet<String>,
-    nets: &[&str],
-) -> Result<Vec<u32>, AllocError>
+fn numbers_of(alloc: Global, names: &Names, nets: &[&str]) -> Result<Vec<u32>, AllocError>
     requires { length (names_in names.now) ≤ 999999 }
     ensures { IfOk result (λ numbers. numbers.items ≡ map (λ net. number_of (names_in names.now) net.now) nets.now) }
 {
@@ -156,7 +152,7 @@ fn numbers_of(
 /// What a line makes of the net that it defines.
 fn definition_of(
     alloc: Global,
-    names: &IndexSet<String>,
+    names: &Names,
     statement: &Statement,
 ) -> Result<Option<Definition>, AllocError>
     requires { length (names_in names.now) ≤ 999999 }
@@ -182,7 +178,7 @@ fn definition_of(
 /// Adds what a line makes of the net that it defines.
 fn push_definition(
     alloc: Global,
-    names: &IndexSet<String>,
+    names: &Names,
     statement: &Statement,
     definitions: &mut Vec<Definition>,
 ) -> Result<(), AllocError>
@@ -202,7 +198,7 @@ fn push_definition(
 /// What the lines make of the nets that they define.
 fn definitions(
     alloc: Global,
-    names: &IndexSet<String>,
+    names: &Names,
     statements: &[Statement],
 ) -> Result<Vec<Definition>, AllocError>
     requires { length (names_in names.now) ≤ 999999 }
@@ -217,7 +213,7 @@ fn definitions(
 }
 
 /// The net that a line marks.
-fn output_of(names: &IndexSet<String>, statement: &Statement) -> Option<u32>
+fn output_of(names: &Names, statement: &Statement) -> Option<u32>
     requires { length (names_in names.now) ≤ 999999 }
     ensures { result ≡ output_of (names_in names.now) (meant statement.now) }
 {
@@ -228,11 +224,7 @@ fn output_of(names: &IndexSet<String>, statement: &Statement) -> Option<u32>
 }
 
 /// The nets that lines mark as outputs, line by line.
-fn marked(
-    alloc: Global,
-    names: &IndexSet<String>,
-    statements: &[Statement],
-) -> Result<Vec<u32>, AllocError>
+fn marked(alloc: Global, names: &Names, statements: &[Statement]) -> Result<Vec<u32>, AllocError>
     requires { length (names_in names.now) ≤ 999999 }
     ensures { IfOk result (λ found. found.items
         ≡ filter_map (λ s. output_of (names_in names.now) (meant s)) statements.now) }
@@ -262,8 +254,7 @@ fn each_once(alloc: Global, numbers: &[u32]) -> Result<Vec<u32>, AllocError>
 pub fn read_bench(alloc: Global, text: &[u8]) -> Result<Bench, BenchFault>
     ensures { Gives out_of_memory (λ bench. bench) result (bench_of text.now) }
 {
-    let mut names = IndexSet::new(alloc);
-    let statements = statements(alloc, &mut names, text)?;
+    let (names, statements) = statements(alloc, text)?;
     if let Some(line) = undriven(&names, &statements) {
         return Err(BenchFault {
             line: line as u64 + 1,

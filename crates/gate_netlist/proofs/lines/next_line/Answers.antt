@@ -1,4 +1,4 @@
-use Rattle.std.proofs.Common.{sym, ◌∙◌, arith}
+use Rattle.std.proofs.Common.{sym, ◌∙◌}
 use Rattle.gate_netlist.proofs.FirstLine.{line_without_end, line_with_end}
 use Rattle.gate_netlist.proofs.lines.next_line.Goals as goal
 

@@ -5,8 +5,8 @@ use Rattle.gate_netlist.proofs.reading.define.Goals as goal
 pub returns-then-contains-clause-gives : goal.returns-then-contains-clause-gives
 returns-then-contains-clause-gives c = inr (twice _ c.args.names.now.keys c.args.name.now (sym c.contains.ensures ∙ c.if-contains.true))
 
-pub returns-then-len-ge999999-clause-gives : goal.returns-then-len-ge999999-clause-gives
-returns-then-len-ge999999-clause-gives c = inr (too_many _ c.args.names.now.keys c.args.name.now (sym c.contains.ensures ∙ c.if-contains.false) (omega (arith, c.len.ensures.len)))
+pub returns-then-len-ge-MOST_NETS-clause-gives : goal.returns-then-len-ge-MOST_NETS-clause-gives
+returns-then-len-ge-MOST_NETS-clause-gives c = inr (too_many _ c.args.names.now.keys c.args.name.now (sym c.contains.ensures ∙ c.if-contains.false) (omega (arith, c.len.ensures.len)))
 
 pub returns-clause-gives : goal.returns-clause-gives
 returns-clause-gives c = fresh _ c.args.names.now.keys c.args.name.now (sym c.contains.ensures ∙ c.if-contains.false) (omega (arith, c.len.ensures.len))

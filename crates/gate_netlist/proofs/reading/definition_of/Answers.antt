@@ -1,4 +1,4 @@
-use Rattle.std.proofs.Common.{map, Some, sym, ap}
+use Rattle.std.proofs.Common.{Some, sym, ap}
 use Rattle.gate_netlist.specs.declared.bench.Definition.TheVariants.{Gate}
 use Rattle.std.proofs.lemmas.Simd.{map-map}
 use Rattle.gate_netlist.specs.Keys.{names_in}

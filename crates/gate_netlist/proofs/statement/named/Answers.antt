@@ -1,6 +1,5 @@
-use Rattle.std.proofs.Common.{◌≡◌, ◌++◌, ◌∷◌, [], drop, sym, ◌∙◌}
+use Rattle.std.proofs.Common.{drop}
 use Rattle.std.proofs.lemmas.List.{take_rest, map_push}
-use Rattle.gate_netlist.specs.Statements.{named}
 use Rattle.gate_netlist.specs.Meant.{names_of}
 use Rattle.gate_netlist.specs.Tokens.{symbols_of}
 use Rattle.gate_netlist.proofs.Splitting.{ends_bare, ends_closed, ends_broken, ends_past, goes_on_at}

@@ -1,4 +1,4 @@
-use Rattle.std.proofs.Common.{◌≡◌, ◌++◌, ◌-◌, ◌<◌, ◌^◌, length, drop, option_map}
+use Rattle.std.proofs.Common.{◌≡◌, ◌++◌, ◌-◌, length, drop, option_map}
 use Rattle.gate_netlist.specs.Statements.{named}
 use Rattle.gate_netlist.specs.Meant.{names_of}
 use Rattle.gate_netlist.specs.Tokens.{symbols_of}

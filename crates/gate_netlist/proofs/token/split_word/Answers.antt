@@ -1,9 +1,7 @@
-use Rattle.std.proofs.Common.{◌≡◌, sym, ap, ◌∙◌, take, drop, arith}
-use Rattle.std.specs.Str.{IsUtf8}
-use Rattle.std.proofs.lemmas.List.{length-drop}
+use Rattle.std.proofs.Common.{arith}
 use Rattle.std.proofs.lemmas.List.Sums.{prefix_len-le-length}
-use Rattle.gate_netlist.specs.Symbols.{Word, is_letter, symbols}
-use Rattle.gate_netlist.proofs.Words.{word_of, word-utf8, symbols-word, word-some}
+use Rattle.gate_netlist.specs.Symbols.{is_letter}
+use Rattle.gate_netlist.proofs.Words.{word-utf8, symbols-word, word-some}
 use Rattle.gate_netlist.proofs.token.split_word.Goals as goal
 
 pub split_at-requires : goal.split_at-requires
