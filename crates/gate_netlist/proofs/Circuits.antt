@@ -12,7 +12,7 @@ use Rattle.gate_netlist.specs.declared.bench.Definition.{Definition}
 use Rattle.gate_netlist.specs.declared.bench.Definition.TheVariants.{Input, Gate, Flop}
 use Rattle.gate_netlist.specs.Netlist.{Netlist, IsDefinition}
 use Rattle.gate_netlist.specs.Cut.{IsOwnership}
-use Rattle.gate_netlist.specs.Circuit.{Design, IsCircuit, IsClockedBy, CutFits, IsDriven, IsDelay, driver_of, is_input}
+use Rattle.gate_netlist.specs.Circuit.{IsCircuit, IsClockedBy, CutFits, IsDriven, IsDelay, driver_of, is_input}
 use Rattle.gate_netlist.specs.Settings.{delay_at, table_at, net_delay, net_block, key_of, greatest_block, clock_name, delay_of_key}
 use Rattle.gate_netlist.specs.Causes.{is_flop_line, number_of, has_flop}
 use Rattle.gate_netlist.specs.Meaning.{with_clock, driver_by, delays_of, cut_of, clocked_circuit, circuit_of}

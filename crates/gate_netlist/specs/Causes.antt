@@ -11,10 +11,12 @@ use Rattle.gate_netlist.specs.declared.fault.SettingsFault.TheVariants.{UnknownK
 use Rattle.gate_netlist.specs.Netlist.{Netlist}
 use Rattle.gate_netlist.specs.Settings.{as_delay, as_block, table_at, clock_name}
 
+-- the line of an input
 abbrev pub is_input_line : Definition → Bool
 is_input_line Input = true
 is_input_line _ = false
 
+-- the line of a flip-flop
 abbrev pub is_flop_line : Definition → Bool
 is_flop_line (Flop d) = true
 is_flop_line _ = false
@@ -27,6 +29,7 @@ number_of b name = position (λ other. bytes_eq name other) b.names
 abbrev pub is_driven : Netlist → List ℕ → Bool
 is_driven b name = option_map_or (λ n. not (is_input_line (get_or b.definitions n Input))) (number_of b name) false
 
+-- some net is a flip-flop
 abbrev pub has_flop : Netlist → Bool
 has_flop b = list_any is_flop_line b.definitions
 
@@ -50,6 +53,7 @@ is_gate_key k =
     || bytes_eq k (codes "NOR") || bytes_eq k (codes "XOR") || bytes_eq k (codes "XNOR")
     || bytes_eq k (codes "NOT") || bytes_eq k (codes "BUFF") || bytes_eq k (codes "DFF")
 
+-- a key that isn't listed, at the top or in `gate`, or a value of another type than its key takes
 abbrev pub has_unknown_key : Members → Bool
 has_unknown_key ms = any_member is_unknown_top ms || any_member (λ k d. not (is_gate_key k)) (table_at (codes "gate") ms)
 
@@ -59,9 +63,11 @@ has_unknown_net b ms =
     any_member (λ k d. not (is_driven b k)) (table_at (codes "net") ms)
     || any_member (λ k d. not (is_driven b k)) (table_at (codes "block") ms)
 
+-- a value that is no delay
 abbrev pub is_bad_delay : List ℕ → Data → Bool
 is_bad_delay k d = is_none (as_delay d)
 
+-- a value at `default`, or in `gate` or `net`, that is no delay
 abbrev pub has_bad_delay : Members → Bool
 has_bad_delay ms =
     option_map_or (λ d. is_none (as_delay d)) (get_member (codes "default") ms) false
@@ -80,6 +86,7 @@ is_name bytes = not (length bytes == 0) && list_all is_name_byte bytes && not (b
 abbrev pub has_bad_clock : Netlist → Members → Bool
 has_bad_clock b ms = has_flop b && (not (is_name (clock_name ms)) || is_driven b (clock_name ms))
 
+-- a value in `block` that is no block
 abbrev pub has_bad_block : Members → Bool
 has_bad_block ms = any_member (λ k d. is_none (as_block d)) (table_at (codes "block") ms)
 

@@ -15,5 +15,6 @@ even_owner d blocks n =
     if is_input (driver_of d n) then None
     else Some (driven_count (take n d.drivers) * blocks / driven_count d.drivers)
 
+-- so many blocks, and the owner of each net
 abbrev pub even_cut : Design → ℕ → Ownership
 even_cut d blocks = record { blocks = blocks; owners = map (even_owner d blocks) (range_with_len 0 (nets_of d)) }

@@ -13,6 +13,7 @@ use Rattle.gate_netlist.specs.declared.bench.Definition.TheVariants.{Input, Gate
 use Rattle.gate_netlist.specs.declared.settings.nets.KindDelays.{KindDelays}
 use Rattle.gate_netlist.specs.Settings.{delay_at, delay_of_key}
 
+-- the delay of each kind: its own, else the default
 abbrev pub kind_delays : Members → KindDelays
 kind_delays ms = record {
   and = delay_of_key ms (codes "AND");
@@ -26,6 +27,7 @@ kind_delays ms = record {
   dff = delay_of_key ms (codes "DFF");
 }
 
+-- the delay of a kind of gate
 abbrev pub delay_of_kind : KindDelays → Kind → ℕ
 delay_of_kind kinds kind.And = kinds.and
 delay_of_kind kinds kind.Nand = kinds.nand

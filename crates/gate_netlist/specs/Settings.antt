@@ -21,16 +21,19 @@ abbrev pub as_block : Data → Option ℕ
 as_block (integer (pos n)) = if nat_le n 1023 then Some n else None
 as_block _ = None
 
--- the table, the text, the delay and the block at a key; a table is empty where there is none
+-- the table at a key, empty where there is none
 abbrev pub table_at : List ℕ → Members → Members
 table_at k ms = unwrap_or (option_and_then as_table (get_member k ms)) no_members
 
+-- the text at a key, where it is one
 abbrev pub text_at : List ℕ → Members → Option (List ℕ)
 text_at k ms = option_and_then as_str (get_member k ms)
 
+-- the delay at a key, where it is one
 abbrev pub delay_at : List ℕ → Members → Option ℕ
 delay_at k ms = option_and_then as_delay (get_member k ms)
 
+-- the block at a key, where it is one
 abbrev pub block_at : List ℕ → Members → Option ℕ
 block_at k ms = option_and_then as_block (get_member k ms)
 
@@ -45,7 +48,7 @@ key_of kind.Xnor = codes "XNOR"
 key_of kind.Not = codes "NOT"
 key_of kind.Buff = codes "BUFF"
 
--- the delay of the nets that no key names
+-- the delay where no key names the net or its kind: that of `default`, else 1
 abbrev pub default_delay : Members → ℕ
 default_delay ms = unwrap_or (delay_at (codes "default") ms) 1
 
@@ -69,6 +72,6 @@ abbrev pub greatest_block : Members → ℕ
 greatest_block no_members = 0
 greatest_block (member k d ms) = max (unwrap_or (as_block d) 0) (greatest_block ms)
 
--- the name of the clock
+-- the name of the clock: that of `clock`, else CK
 abbrev pub clock_name : Members → List ℕ
 clock_name ms = unwrap_or (text_at (codes "clock") ms) (codes "CK")
