@@ -130,12 +130,7 @@ impl Circuit {
         self.outputs.as_slice()
     }
 
-<<<<<<< HEAD
     /// The scope that the settings name; none where any scope will do.
-=======
-    /// The scope whose variables alone count in a stimulus, its names joined by dots; any scope where
-    /// there is none.
->>>>>>> 08e608a9b0fc8b383e62d35c5d580e86581476f1
     pub fn scope(&self) -> Option<&str>
         ensures { option_map (λ s. s.now) result ≡ self.now.scope }
     {
@@ -144,7 +139,6 @@ impl Circuit {
             None => None,
         }
     }
-<<<<<<< HEAD
 
     /// The cut that the settings give.
     pub fn cut(&self) -> Option<&Cut>
@@ -222,6 +216,4 @@ fn flops_among(drivers: &[Driver]) -> usize
         .iter()
         .filter(|driver| matches!(driver, Driver::Flop { .. }))
         .count()
-=======
->>>>>>> 08e608a9b0fc8b383e62d35c5d580e86581476f1
 }
