@@ -15,6 +15,8 @@ mod reply;
 mod request;
 mod simulate;
 #[cfg(test)]
+mod dump_tests;
+#[cfg(test)]
 mod tests;
 mod texts;
 
