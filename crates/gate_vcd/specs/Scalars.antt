@@ -6,12 +6,10 @@ use Rattle.std.specs.Str.{bytes_eq}
 use Rattle.std.specs.declared.hash.FoldHasher.{FoldHasher}
 use Rattle.std.specs.declared.hash.BuildHasherDefault.{BuildHasherDefault}
 use Rattle.indexmap.specs.IndexMap.{IndexMap, get_by}
-use Rattle.gate_netlist.specs.Circuit.{Design}
 use Rattle.gate_vcd.specs.declared.fault.StimFault.{StimFault}
-use Rattle.gate_vcd.specs.Reading.{Fails}
 use Rattle.gate_vcd.specs.Declarations.{Variable}
 use Rattle.gate_vcd.specs.Items.{Codes, number_of}
-use Rattle.gate_vcd.specs.Inputs.{is_scalar_of, scalar_code}
+use Rattle.gate_vcd.specs.Inputs.{scalar_code}
 
 -- codes by the names of the nets that they are scalars of
 abbrev pub Scalars : Type 0
