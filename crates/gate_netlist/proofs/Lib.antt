@@ -1,1 +1,15 @@
+pub mod FirstLine
+pub mod Accepting
 pub mod Positions
+pub mod EvenCuts
+pub mod Members
+pub mod SettingNets
+pub mod Clocks
+pub mod SettingValues
+pub mod Circuits
+pub mod Added
+pub mod Causes
+pub mod Resolving
+pub mod Naming
+pub mod Splitting
+pub mod Words

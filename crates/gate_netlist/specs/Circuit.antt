@@ -1,12 +1,12 @@
 -- What a circuit is: its nets in order, and what sets each of them.
-use Rattle.std.specs.Prelude.{◌≡◌, ℕ, ◌<◌, ◌≤◌, Bool, true, false, List, [], ◌∷◌, length, get_or, Option, Some, None, IfSome, position, count_by}
+use Rattle.std.specs.Prelude.{◌≡◌, ℕ, ◌<◌, ◌≤◌, Bool, true, false, not, List, [], length, get_or, Option, Some, None, is_some, IfSome, position}
 use Rattle.std.specs.List.{All}
 use Rattle.std.specs.Str.{bytes_eq}
 use Rattle.gate_values.specs.Tables.{HasInputs}
 use Rattle.gate_values.specs.Behaviour.{Source}
 use Rattle.gate_netlist.specs.declared.driver.Driver.{Driver}
 use Rattle.gate_netlist.specs.declared.driver.Driver.TheVariants.{Input, Gate, Flop}
-use Rattle.gate_netlist.specs.Cut.{Ownership}
+use Rattle.gate_netlist.specs.Cut.{Ownership, owner_of}
 
 -- Net n has the n-th name, driver and delay. The delay of an input is 0.
 pub record Design : Type 0 where
@@ -72,6 +72,16 @@ IsDriven nets Input delay = delay ≡ 0
 IsDriven nets (Gate kind inputs) delay = HasInputs kind (length inputs) × All (λ i. i < nets) inputs × IsDelay delay
 IsDriven nets (Flop d clock) delay = (d < nets) × (clock < nets) × IsDelay delay
 
+-- a flip-flop's clock is the circuit's clock
+abbrev pub IsClockedBy : Option ℕ → Driver → Type 0
+IsClockedBy circuit (Flop d clock) = circuit ≡ Some clock
+IsClockedBy circuit _ = Unit {0}
+
+-- the cut is of as many nets, and just those that aren't inputs have an owner
+pub record CutFits (d : Design) (cut : Ownership) : Type 0 where
+  pub nets : length cut.owners ≡ nets_of d
+  pub owned : (n : ℕ) → n < nets_of d → is_some (owner_of cut n) ≡ not (is_input (driver_of d n))
+
 -- what is true of every circuit
 pub record IsCircuit (d : Design) : Type 0 where
   pub within : nets_of d ≤ 1000000
@@ -80,3 +90,6 @@ pub record IsCircuit (d : Design) : Type 0 where
   pub driven : (n : ℕ) → n < nets_of d → IsDriven (nets_of d) (driver_of d n) (get_or d.delays n 0)
   pub outputs : All (λ n. n < nets_of d) d.outputs
   pub clock : IfSome d.clock (λ c. c < nets_of d)
+  pub clocked : (n : ℕ) → n < nets_of d → IsClockedBy d.clock (driver_of d n)
+  pub marks : length d.outputs ≤ nets_of d
+  pub cut : IfSome d.cut (CutFits d)

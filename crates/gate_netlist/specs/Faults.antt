@@ -28,3 +28,8 @@ settings_fault_name settings.Memory = codes "Memory"
 -- want of memory, which has no line
 abbrev pub out_of_memory : BenchFault
 out_of_memory = record { line = 0; cause = bench.Memory }
+
+-- a cause at a line; want of memory has no line
+abbrev pub fault_at : ℕ → BenchCause → BenchFault
+fault_at line bench.Memory = out_of_memory
+fault_at line cause = record { line = line; cause = cause }

@@ -1,5 +1,5 @@
 -- What contracts see of a circuit.
-use Rattle.std.specs.Prelude.{ℕ, List, map, option_map, string_bytes}
+use Rattle.std.specs.Prelude.{map, option_map, string_bytes}
 use Rattle.gate_netlist.specs.declared.circuit.Circuit.TheInside.{Inside}
 use Rattle.gate_netlist.specs.Circuit.{Design}
 

@@ -1,9 +1,19 @@
-ghost use Rattle.std.specs.Prelude.{◌≡◌, ◌<◌, ◌≤◌, length, option_map, option_copied};
-ghost use Rattle.gate_netlist.specs.Circuit.{nets_of, driver_of, name_of, net_of, delay_of, IsCircuit};
+ghost use Rattle.std.specs.Prelude.{◌≡◌, ◌<◌, ◌≤◌, length, option_map, option_copied, count_by};
+ghost use Rattle.gate_netlist.specs.Circuit.{nets_of, driver_of, name_of, net_of, delay_of, is_input, is_gate, is_flop, IsCircuit};
+ghost use Rattle.gate_netlist.specs.Counts.{counts_of};
+ghost use Rattle.gate_netlist.specs.Even.{driven_count};
+ghost use Rattle.gate_netlist.specs.Meaning.{IsAnswer};
 
+mod build;
+
+use crate::bench::Bench;
+use crate::counts::Counts;
 use crate::cut::Cut;
 use crate::driver::Driver;
+use crate::fault::SettingsFault;
+use crate::settings;
 use indexmap::IndexSet;
+use std::alloc::Global;
 use std::marker::Model;
 
 /// A circuit: its nets in the order of their defining lines, and what sets each of them.
@@ -31,6 +41,26 @@ impl Model for Circuit {
 }
 
 impl Circuit {
+    /// The circuit of a bench and a settings text: each net's delay is that of its name, else that of its kind,
+    /// else the default, and the flip-flops' clock is the input of the clock's name, which is added as the last
+    /// net where no net has the name. A text is refused for the least cause that applies to it.
+    pub fn of(alloc: Global, bench: Bench, settings: &[u8]) -> Result<Circuit, SettingsFault>
+        ensures { IsAnswer bench settings.now result }
+    {
+        let table = match settings::document(alloc, settings) {
+            Ok(table) => table,
+            Err(fault) => return Err(fault),
+        };
+        match settings::cause_of(&bench, &table) {
+            Some(fault) => return Err(fault),
+            None => {}
+        }
+        match build::build(alloc, bench, &table) {
+            Ok(circuit) => Ok(circuit),
+            Err(_) => Err(SettingsFault::Memory),
+        }
+    }
+
     /// What is true of every circuit.
     pub fn law(&self)
         ensures { IsCircuit self.now }
@@ -100,8 +130,7 @@ impl Circuit {
         self.outputs.as_slice()
     }
 
-    /// The scope whose variables alone count in a stimulus, its names joined by dots; any scope where
-    /// there is none.
+    /// The scope that the settings name; none where any scope will do.
     pub fn scope(&self) -> Option<&str>
         ensures { option_map (λ s. s.now) result ≡ self.now.scope }
     {
@@ -110,4 +139,81 @@ impl Circuit {
             None => None,
         }
     }
+
+    /// The cut that the settings give.
+    pub fn cut(&self) -> Option<&Cut>
+        ensures { option_map (λ cut. cut.now) result ≡ self.now.cut }
+    {
+        self.cut.as_ref()
+    }
+
+    /// How many nets, inputs, gates, flip-flops, outputs and blocks there are.
+    pub fn counts(&self) -> Counts
+        ensures { result ≡ counts_of self.now }
+    {
+        let blocks = match &self.cut {
+            Some(cut) => cut.blocks(),
+            None => 1,
+        };
+        Counts {
+            nets: self.nets(),
+            inputs: inputs_among(self.drivers.as_slice()) as u32,
+            gates: gates_among(self.drivers.as_slice()) as u32,
+            flops: flops_among(self.drivers.as_slice()) as u32,
+            outputs: self.outputs.len() as u32,
+            blocks,
+        }
+    }
+
+    /// How many nets aren't inputs.
+    pub(crate) fn driven(&self) -> u32
+        ensures count { result ≡ driven_count self.now.drivers }
+        ensures within { result ≤ 1000000 }
+    {
+        driven_among(self.drivers.as_slice()) as u32
+    }
+
+    /// Whether a net is an input.
+    pub(crate) fn is_input(&self, net: u32) -> bool
+        requires { net < nets_of self.now }
+        ensures { result ≡ is_input (driver_of self.now net) }
+    {
+        matches!(self.driver(net), Driver::Input)
+    }
+}
+
+fn inputs_among(drivers: &[Driver]) -> usize
+    ensures { result ≡ count_by is_input drivers.now }
+{
+    drivers
+        .iter()
+        .filter(|driver| matches!(driver, Driver::Input))
+        .count()
+}
+
+fn driven_among(drivers: &[Driver]) -> usize
+    ensures { result ≡ driven_count drivers.now }
+{
+    drivers
+        .iter()
+        .filter(|driver| !matches!(driver, Driver::Input))
+        .count()
+}
+
+fn gates_among(drivers: &[Driver]) -> usize
+    ensures { result ≡ count_by is_gate drivers.now }
+{
+    drivers
+        .iter()
+        .filter(|driver| matches!(driver, Driver::Gate { .. }))
+        .count()
+}
+
+fn flops_among(drivers: &[Driver]) -> usize
+    ensures { result ≡ count_by is_flop drivers.now }
+{
+    drivers
+        .iter()
+        .filter(|driver| matches!(driver, Driver::Flop { .. }))
+        .count()
 }

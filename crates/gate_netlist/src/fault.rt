@@ -1,5 +1,6 @@
 ghost use Rattle.std.specs.Prelude.{◌≡◌};
 ghost use Rattle.gate_netlist.specs.Faults.{bench_cause_name, settings_fault_name, out_of_memory};
+ghost use Rattle.gate_netlist.specs.declared.fault.BenchCause.TheVariants as bench;
 ghost use Rattle.gate_netlist.specs.declared.fault.SettingsFault.TheVariants as settings;
 
 use std::alloc::{AllocError, AllocFailed};
@@ -140,5 +141,21 @@ impl<T: Drop> From<AllocFailed<T>> for SettingsFault {
 
     fn from(_: AllocFailed<T>) -> SettingsFault {
         SettingsFault::Memory
+    }
+}
+
+impl From<AllocError> for BenchCause {
+    ghost from_gives = { λ _ cause. cause ≡ bench.Memory };
+
+    fn from(_: AllocError) -> BenchCause {
+        BenchCause::Memory
+    }
+}
+
+impl<T: Drop> From<AllocFailed<T>> for BenchCause {
+    ghost from_gives = { λ _ cause. cause ≡ bench.Memory };
+
+    fn from(_: AllocFailed<T>) -> BenchCause {
+        BenchCause::Memory
     }
 }

@@ -1,11 +1,11 @@
 -- Laws of the values of a circuit.
-use Rattle.std.proofs.Common.{◌≡◌, ℕ, zero, suc, ◌+◌, ◌-◌, ◌<◌, ◌≤◌, ◌⊎◌, inl, inr, List, [], ◌∷◌, map, refl, ap, sym, ◌∙◌, subst, arith}
+use Rattle.std.proofs.Common.{◌≡◌, ℕ, zero, suc, ◌+◌, ◌-◌, ◌<◌, ◌≤◌, ◌⊎◌, inl, inr, List, [], ◌∷◌, map, refl, ap, sym, ◌∙◌, arith}
 use Rattle.std.specs.List.{AllByRecursion}
 use Rattle.gate_values.specs.declared.logic.Logic.{Logic}
 use Rattle.gate_values.specs.declared.logic.Logic.TheVariants.{Zero, One, X, Z}
 use Rattle.gate_values.proofs.Induction.{strong}
 use Rattle.gate_values.specs.Tables.{table_of, flip_of}
-use Rattle.gate_values.specs.Behaviour.{Source, Outside, Gate, Flop, Moment, unknown, back, output, delay_of, next_value, next_content, next_moment, with_next, history, before, value, content, IsOver}
+use Rattle.gate_values.specs.Behaviour.{Source, Outside, Gate, Flop, Moment, back, output, delay_of, history, before, value, content, IsOver}
 
 module _ (source : ℕ → Source) (given : ℕ → ℕ → Logic) where
   -- what lies back in the history

@@ -1,10 +1,10 @@
 -- Laws of lists of changes.
-use Rattle.std.proofs.Common.{◌≡◌, ◌≢◌, ℕ, zero, suc, Bool, true, false, cond, ◌+◌, ◌-◌, ◌<◌, ◌≤◌, ◌⊎◌, inl, inr, min, Option, Some, None, unwrap_or, List, [], ◌∷◌, ◌++◌, refl, ap, sym, ◌∙◌, subst, arith, nat_lt, nat_le, nat_eq}
+use Rattle.std.proofs.Common.{◌≡◌, ◌≢◌, ℕ, zero, suc, Bool, true, false, cond, ◌<◌, ◌≤◌, ◌⊎◌, inl, inr, min, Option, Some, None, unwrap_or, List, [], ◌∷◌, ◌++◌, refl, ap, sym, ◌∙◌, subst, arith, nat_lt, nat_eq}
 use Rattle.std.proofs.lemmas.Grind.{common_steps}
 use Rattle.gate_values.specs.declared.logic.Logic.{Logic}
 use Rattle.gate_values.specs.declared.logic.Logic.TheVariants.{Zero, One, X, Z}
 use Rattle.gate_values.specs.declared.logic.Change.{Change}
-use Rattle.gate_values.specs.Changes.{same, just_before, change_at, changes, latest, pair_at, held, before_time, last_value}
+use Rattle.gate_values.specs.Changes.{same, just_before, change_at, changes, pair_at, held, before_time, last_value}
 
 pub same_refl : (v : Logic) → same v v ≡ true
 same_refl Zero = refl

@@ -1,7 +1,7 @@
 -- Small circuits, computed.
-use Rattle.std.proofs.Common.{◌≡◌, ℕ, suc, List, [], ◌∷◌, refl, get_or}
+use Rattle.std.proofs.Common.{◌≡◌, ℕ, [], ◌∷◌, refl, get_or}
 use Rattle.gate_values.specs.declared.logic.Logic.{Logic}
-use Rattle.gate_values.specs.declared.logic.Logic.TheVariants.{Zero, One, X, Z}
+use Rattle.gate_values.specs.declared.logic.Logic.TheVariants.{Zero, One, X}
 use Rattle.gate_values.specs.declared.gate.Kind.TheVariants.{Nand, Buff}
 use Rattle.gate_values.specs.declared.logic.Change.{Change}
 use Rattle.gate_values.specs.Tables.{table_of, flip_of}

@@ -1,12 +1,12 @@
 -- A gate of unknown inputs puts out unknown.
-use Rattle.std.proofs.Common.{◌≡◌, ℕ, zero, suc, ◌-◌, ◌<◌, ◌∙◌, List, [], ◌∷◌, map, length, false, refl, ap, arith}
-use Rattle.std.specs.List.{list_any, list_all}
+use Rattle.std.proofs.Common.{◌≡◌, ℕ, suc, ◌-◌, ◌<◌, ◌∙◌, List, [], ◌∷◌, map, length, false, refl, arith}
+use Rattle.std.specs.List.{list_any}
 use Rattle.gate_values.specs.declared.logic.Logic.{Logic}
-use Rattle.gate_values.specs.declared.logic.Logic.TheVariants.{Zero, One, X, Z}
+use Rattle.gate_values.specs.declared.logic.Logic.TheVariants.{X}
 use Rattle.gate_values.specs.declared.gate.Kind.{Kind}
 use Rattle.gate_values.specs.declared.gate.Kind.TheVariants.{And, Nand, Or, Nor, Xor, Xnor, Not, Buff}
-use Rattle.gate_values.specs.Tables.{table_of, HasInputs, is_zero, is_one, inverted, passed, and_of, or_of, xor_of, only_of}
-use Rattle.gate_values.specs.Behaviour.{Source, Outside, Gate, Flop, Moment, unknown, output, before, value, delay_of, history, IsWellFormed}
+use Rattle.gate_values.specs.Tables.{table_of, HasInputs, is_zero, is_one}
+use Rattle.gate_values.specs.Behaviour.{Source, Outside, Gate, Flop, unknown, output, value, delay_of, history, IsWellFormed}
 use Rattle.gate_values.proofs.Behaving.{value_is}
 
 all_x : List ℕ → List Logic

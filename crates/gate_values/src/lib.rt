@@ -16,3 +16,6 @@ pub use flop::flip;
 pub use gate::{Kind, table};
 pub use laws::unknown_before_delay;
 pub use logic::{Change, Logic};
+
+#[cfg(test)]
+mod tests;

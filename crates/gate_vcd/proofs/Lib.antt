@@ -1,4 +1,16 @@
 pub mod Latest
+pub mod DumpRows
+pub mod Compared
+pub mod Writing
+pub mod SameEntries
+pub mod Stops
+pub mod WaveValues
+pub mod DumpLaws
+pub mod Walking
+pub mod Arrays
+pub mod Coding
+pub mod Waving
+pub mod Following
 pub mod Places
 pub mod TokenLaws
 pub mod NumberLaws

@@ -3,6 +3,13 @@ pub mod Timescales
 pub mod Given
 pub mod Lists
 pub mod Held
+pub mod Sink
+pub mod Grown
+pub mod Codes
+pub mod Waves
+pub mod HeldWaves
+pub mod Dump
+pub mod Walk
 pub mod Tokens
 pub mod Reading
 pub mod Words

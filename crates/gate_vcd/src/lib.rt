@@ -1,22 +1,43 @@
-//! Value change dumps: the stimulus as read, waves, and the dump as written.
+//! Value change dumps (IEEE 1364-2005, section 18): the stimulus as read, waves, and the dump as written.
+//!
+//! [`read_stimulus`] answers what a stimulus text gives the inputs of a circuit, or its first fault, with
+//! its place. [`Waves`] hold the changes of every net, and [`write_vcd`] writes them as the one text of a
+//! dump into a [`Sink`]. The definitions stand in `specs/`: `Tokens`, `Declarations`, `Changes`, `Inputs`
+//! and `Stimulus` for what is read, `Codes`, `Waves` and `Dump` for what is written.
 #![tactic(auto)]
 
 mod changes;
+mod codes;
 mod declarations;
+mod dump;
+#[cfg(test)]
+mod dump_tests;
 mod fault;
 mod inputs;
 mod items;
 mod keyword;
+mod laws;
+mod lines;
 mod numbers;
+mod put;
 mod reading;
 mod scopes;
+mod sink;
 mod sort;
 mod stimulus;
 mod timescale;
 mod variable;
+mod waves;
 mod words;
+#[cfg(test)]
+mod writer_tests;
 
+pub use codes::{code, code_laws};
+pub use dump::write_vcd;
 pub use fault::{StimCause, StimFault, WriteFault};
+pub use laws::dump_laws;
 pub use reading::read_stimulus;
+pub use sink::{Grow, Sink};
 pub use stimulus::Stimulus;
 pub use timescale::{Timescale, Unit};
+pub use waves::Waves;

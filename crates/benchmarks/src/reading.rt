@@ -1,0 +1,77 @@
+//! What reading costs.
+
+use crate::texts;
+use crate::timer::report;
+use anyhow::Result;
+use gate_netlist::{Circuit, read_bench};
+use gate_vcd::read_stimulus;
+use std::rt::Clock;
+use std::time::Instant;
+
+/// A bench text of `size` nets.
+pub fn bench<R: Eprint + Clock + AllocGlobal>(rt: &R, size: u32) -> Result<u64> {
+    let text = texts::chain(rt.alloc(), size)?;
+    let start = Instant::now(rt)?;
+    let bench = read_bench(rt.alloc(), text.as_bytes())?;
+    report(rt, "bench", size, start)?;
+    let circuit = Circuit::of(rt.alloc(), bench, b"")?;
+    Ok(circuit.nets() as u64)
+}
+
+/// The same, refused at its last line.
+pub fn bench_refused<R: Eprint + Clock + AllocGlobal>(rt: &R, size: u32) -> Result<u64> {
+    let mut text = texts::chain(rt.alloc(), size)?;
+    text.push_str("n0 = NOT(n0)\n")?;
+    let start = Instant::now(rt)?;
+    let answer = read_bench(rt.alloc(), text.as_bytes());
+    report(rt, "bench-refused", size, start)?;
+    match answer {
+        Ok(_) => Ok(0),
+        Err(fault) => Ok(fault.line),
+    }
+}
+
+/// A settings text with a delay and a block for each of `size` nets.
+pub fn circuit<R: Eprint + Clock + AllocGlobal>(rt: &R, size: u32) -> Result<u64> {
+    let text = texts::chain(rt.alloc(), size)?;
+    let settings = texts::chain_settings(rt.alloc(), size)?;
+    let bench = read_bench(rt.alloc(), text.as_bytes())?;
+    let start = Instant::now(rt)?;
+    let circuit = Circuit::of(rt.alloc(), bench, settings.as_bytes())?;
+    report(rt, "circuit", size, start)?;
+    let counts = circuit.counts();
+    Ok(counts.gates as u64 + counts.blocks as u64)
+}
+
+fn read<R: Eprint + Clock + AllocGlobal>(
+    rt: &R,
+    name: &str,
+    size: u32,
+    inputs: u32,
+    is_shared: bool,
+) -> Result<u64>
+{
+    let bench = texts::inputs(rt.alloc(), inputs)?;
+    let bench = read_bench(rt.alloc(), bench.as_bytes())?;
+    let circuit = Circuit::of(rt.alloc(), bench, b"")?;
+    let text = texts::stimulus(rt.alloc(), inputs, size, is_shared)?;
+    let start = Instant::now(rt)?;
+    let stimulus = read_stimulus(rt.alloc(), text.as_bytes(), &circuit)?;
+    report(rt, name, size, start)?;
+    Ok(stimulus.changes(0).len() as u64)
+}
+
+/// A stimulus of ten inputs and `size` changes.
+pub fn stimulus<R: Eprint + Clock + AllocGlobal>(rt: &R, size: u32) -> Result<u64> {
+    read(rt, "stimulus", size, 10, false)
+}
+
+/// A stimulus of `size` inputs, each with a code and a change of its own.
+pub fn stimulus_codes<R: Eprint + Clock + AllocGlobal>(rt: &R, size: u32) -> Result<u64> {
+    read(rt, "stimulus-codes", size, size, false)
+}
+
+/// A stimulus of `size` inputs with one code, and `size` changes of it.
+pub fn stimulus_shared<R: Eprint + Clock + AllocGlobal>(rt: &R, size: u32) -> Result<u64> {
+    read(rt, "stimulus-shared", size, size, true)
+}

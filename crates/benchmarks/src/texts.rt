@@ -1,0 +1,67 @@
+//! Texts of a size, made here so that a benchmark needs no file.
+
+use std::alloc::{AllocError, Global};
+use std::fmt::Write;
+
+/// A chain of gates behind one input: `size` nets in all, and one flip-flop where asked for.
+pub fn chain(alloc: Global, size: u32) -> Result<String, AllocError> {
+    let mut text = String::new(alloc);
+    writeln!(text, "INPUT(n0)")?;
+    for net in 1..size {
+        let before = net - 1;
+        writeln!(text, "n{net} = NAND(n{before}, n0)")?;
+    }
+    Ok(text)
+}
+
+/// A delay and a block for each gate of the chain.
+pub fn chain_settings(alloc: Global, size: u32) -> Result<String, AllocError> {
+    let mut text = String::new(alloc);
+    writeln!(text, "[net]")?;
+    for net in 1..size {
+        let delay = net % 7 + 1;
+        writeln!(text, "n{net} = {delay}")?;
+    }
+    writeln!(text, "[block]")?;
+    for net in 1..size {
+        let block = net % 1024;
+        writeln!(text, "n{net} = {block}")?;
+    }
+    Ok(text)
+}
+
+/// So many inputs.
+pub fn inputs(alloc: Global, count: u32) -> Result<String, AllocError> {
+    let mut text = String::new(alloc);
+    for net in 0..count {
+        writeln!(text, "INPUT(n{net})")?;
+    }
+    Ok(text)
+}
+
+/// The declaration of a variable for each input: each with a code of its own, or all with one.
+fn push_variables(text: &mut String, count: u32, is_shared: bool) -> Result<(), AllocError> {
+    for net in 0..count {
+        let code = if is_shared { 0 } else { net };
+        writeln!(text, "$var wire 1 c{code} n{net} $end")?;
+    }
+    writeln!(text, "$enddefinitions $end")
+}
+
+/// A stimulus of so many inputs and so many changes, one change for each stamp.
+pub fn stimulus(
+    alloc: Global,
+    inputs: u32,
+    changes: u32,
+    is_shared: bool,
+) -> Result<String, AllocError>
+{
+    let mut text = String::new(alloc);
+    push_variables(&mut text, inputs, is_shared)?;
+    for time in 0..changes {
+        let code = if is_shared || inputs == 0 { 0 } else { time % inputs };
+        let value = (time / 3) % 2;
+        writeln!(text, "#{time}\n{value}c{code}")?;
+    }
+    Ok(text)
+}

@@ -1,0 +1,269 @@
+-- What is accepted and has no net undriven is a netlist.
+use Rattle.std.proofs.Common.{◌≡◌, ℕ, zero, suc, ◌+◌, ◌<◌, ◌≤◌, Bool, true, false, not, ◌||◌, ◌&&◌, cond, ltb, eqb, List, [], ◌∷◌, ◌++◌, length, map, get_or, Option, Some, None, Result, Ok, Err, refl, ap, sym, ◌∙◌, subst, append_assoc, append-nil, codes, bytes_eq, arith}
+use Rattle.std.specs.Prelude.{option_to_list}
+use Rattle.std.specs.List.{list_any, list_all, filter_map, cons_option, position, position_or_len, fold, AllByRecursion}
+use Rattle.std.proofs.lemmas.Bool.{eqb-true, leb-true, ltb-true}
+use Rattle.std.proofs.lemmas.List.{length-append, length-map}
+use Rattle.std.proofs.lemmas.List.Elements.{All-from_recursion}
+use Rattle.gate_values.specs.Tables.{HasInputs}
+use Rattle.gate_values.specs.declared.gate.Kind.{Kind}
+use Rattle.gate_values.specs.declared.gate.Kind.TheVariants.{Not, Buff}
+use Rattle.gate_netlist.specs.declared.bench.Definition.{Definition}
+use Rattle.gate_netlist.specs.declared.bench.Definition.TheVariants as definition
+use Rattle.gate_netlist.specs.declared.fault.BenchCause.{BenchCause}
+use Rattle.gate_netlist.specs.declared.fault.BenchFault.{BenchFault}
+use Rattle.gate_netlist.specs.declared.statement.GateWord.{GateWord}
+use Rattle.gate_netlist.specs.declared.statement.GateWord.TheVariants as word
+use Rattle.gate_netlist.specs.Netlist.{IsDefinition, IsNetlist}
+use Rattle.gate_netlist.specs.Symbols.{Symbol, Open, Close, Equals, Word, code_of, symbols, is_clean}
+use Rattle.gate_netlist.specs.Statements.{Name, Statement, Nothing, Input, Output, Gate, Flop, says, gate_of, arguments, takes, driven, driven_by, statement_of, meaning_of}
+use Rattle.gate_netlist.specs.Bench.{◌>>=◌, net_of, is_among, refusal, unless, stated, at_line, accepted, nets_of, uses_other, number_of, definition_of, output_of, with_last, each_once, netlist_of, bench_of}
+use Rattle.gate_netlist.specs.declared.fault.BenchCause.TheVariants.{Undriven}
+use Rattle.gate_netlist.specs.declared.statement.Statement.{Statement as Written}
+use Rattle.gate_netlist.specs.Lines.{lines_of}
+use Rattle.gate_netlist.specs.Meant.{meant}
+use Rattle.gate_netlist.proofs.Positions.{position-map}
+use Rattle.gate_netlist.proofs.Naming.{place_none}
+
+-- ---- what a line says has inputs enough
+
+abbrev pub HasEnough : Statement → Type 0
+HasEnough (Gate n kind inputs) = HasInputs kind (length inputs)
+HasEnough _ = Unit {0}
+
+takes-enough : (kind : Kind) (n : ℕ) → takes kind n ≡ true → HasInputs kind n
+takes-enough Not n e = eqb-true n 1 e
+takes-enough Buff n e = eqb-true n 1 e
+takes-enough _ n e = leb-true 1 n e
+
+abbrev said : Statement → Result Statement BenchCause
+said s = Ok s
+
+same : (s t : Statement) → said s ≡ Ok t → s ≡ t
+same s t e = cc
+
+along : (s t : Statement) → said s ≡ Ok t → HasEnough s → HasEnough t
+along s t e h = subst HasEnough (same s t e) h
+
+enough-marked : (a b : Bool) (n : Name) (c : BenchCause) (s : Statement) → cond a (Ok (Input n)) (cond b (Ok (Output n)) (Err c)) ≡ Ok s → HasEnough s
+enough-marked true b n c s e = along (Input n) s e tt
+enough-marked false true n c s e = along (Output n) s e tt
+enough-marked false false n c s e = absurd cc
+
+enough-gate : (n : Name) (kind : Kind) (inputs : List Name) (c : BenchCause) (t : Bool) (s : Statement) → takes kind (length inputs) ≡ t → cond t (Ok (Gate n kind inputs)) (Err c) ≡ Ok s → HasEnough s
+enough-gate n kind inputs c true s f e = along (Gate n kind inputs) s e (takes-enough kind (length inputs) f)
+enough-gate n kind inputs c false s f e = absurd cc
+
+enough-driven : (n : Name) (g : Option GateWord) (inputs : List Name) (s : Statement) → driven n g inputs ≡ Ok s → HasEnough s
+enough-driven n None inputs s e = absurd cc
+enough-driven n (Some (word.Gate kind)) inputs s e = enough-gate n kind inputs _ (takes kind (length inputs)) s refl e
+enough-driven n (Some word.Flop) (d ∷ []) s e = along (Flop n d) s e tt
+enough-driven n (Some word.Flop) _ s e = absurd cc
+
+enough-by : (n : Name) (w : List ℕ) (inputs : Option (List Name)) (s : Statement) → driven_by n w inputs ≡ Ok s → HasEnough s
+enough-by n w None s e = absurd cc
+enough-by n w (Some inputs) s e = enough-driven n (gate_of w) inputs s e
+
+enough-statement : (ss : List Symbol) (s : Statement) → statement_of ss ≡ Ok s → HasEnough s
+unfolding statement_of
+enough-statement [] s e = along Nothing s e tt
+enough-statement (Word w ∷ Open ∷ Word n ∷ Close ∷ []) s e = enough-marked (says w (codes "INPUT")) (says w (codes "OUTPUT")) n _ s e
+enough-statement (Word n ∷ Equals ∷ Word w ∷ Open ∷ ss) s e = enough-by n w (arguments ss) s e
+enough-statement _ s e = absurd cc
+
+enough-clean : (t : Bool) (ss : List Symbol) (c : BenchCause) (s : Statement) → cond t (statement_of ss) (Err c) ≡ Ok s → HasEnough s
+enough-clean true ss c s e = enough-statement ss s e
+enough-clean false ss c s e = absurd cc
+
+enough-meaning : (line : List ℕ) (s : Statement) → meaning_of line ≡ Ok s → HasEnough s
+unfolding meaning_of
+enough-meaning line s e = enough-clean (is_clean (code_of line)) (symbols (code_of line)) _ s e
+
+-- ---- what accepted lines say, one after the other
+
+stated-ok : (r : Option BenchCause) (s t : Statement) → unless r s ≡ Ok t → (r ≡ None) × (s ≡ t)
+stated-ok None s t e = (refl, same s t e)
+stated-ok (Some c) s t e = absurd cc
+
+bind_ok : {A B E : Type 0} (r : Result A E) (f : A → Result B E) (y : B) → (r >>= f) ≡ Ok y → (x : A) × (r ≡ Ok x) × (f x ≡ Ok y)
+bind_ok (Ok x) f y e = (x, refl, e)
+bind_ok (Err d) f y e = absurd cc
+
+abbrev value_or : {X E : Type 0} → X → Result X E → X
+value_or d (Ok x) = x
+value_or d (Err e) = d
+
+at_line-ok : {X : Type 0} (line : ℕ) (r : Result X BenchCause) (x : X) → at_line line r ≡ Ok x → r ≡ Ok x
+at_line-ok line (Ok y) x e = ap Ok (ap (value_or y) e)
+at_line-ok line (Err c) x e = absurd cc
+
+-- a statement that stands behind these nets
+record Follows (earlier : List Name) (s : Statement) : Type 0 where
+  enough : HasEnough s
+  free : refusal earlier (net_of s) ≡ None
+
+follows : (earlier : List Name) (line : List ℕ) (s : Statement) → stated earlier line ≡ Ok s → Follows earlier s
+unfolding stated
+follows earlier line s e =
+    let m = bind_ok (meaning_of line) (λ s. unless (refusal earlier (net_of s)) s) s e in
+    let o = stated-ok (refusal earlier (net_of m.0)) m.0 s m.2 in
+    subst (Follows earlier) o.1 (record { enough = enough-meaning line m.0 m.1; free = o.0 })
+
+room-test : (a b : Bool) (c d : BenchCause) → cond a (Some c) (cond b None (Some d)) ≡ None → b ≡ true
+room-test true b c d e = absurd cc
+room-test false true c d e = refl
+room-test false false c d e = absurd cc
+
+room : (earlier : List Name) (net : Option Name) → refusal earlier net ≡ None → length earlier ≤ 999999 → length (earlier ++ option_to_list net) ≤ 999999
+room earlier None e le = rw append-nil le
+room earlier (Some n) e le =
+    let less : length earlier < 999999 = ltb-true _ _ (room-test (is_among earlier n) (ltb (length earlier) 999999) _ _ e) in
+    omega (arith, length-append earlier (n ∷ []))
+
+-- what is known of accepted statements
+pub record AreAccepted (earlier : List Name) (ss : List Statement) : Type 0 where
+  pub within : length (earlier ++ nets_of ss) ≤ 999999
+  pub enough : AllByRecursion HasEnough ss
+
+front-option : {X : Type 0} (o : Option X) (xs : List X) → option_to_list o ++ xs ≡ cons_option o xs
+front-option None xs = refl
+front-option (Some x) xs = refl
+
+abbrev listed : List Statement → Result (List Statement) BenchFault
+listed ss = Ok ss
+
+same_list : (ss ts : List Statement) → listed ss ≡ Ok ts → ss ≡ ts
+same_list ss ts e = cc
+
+pub are_accepted : (earlier : List Name) (line : ℕ) (ls : List (List ℕ)) (ss : List Statement) → length earlier ≤ 999999 → accepted earlier line ls ≡ Ok ss → AreAccepted earlier ss
+unfolding accepted
+are_accepted earlier line [] ss le e = subst (AreAccepted earlier) (same_list [] ss e) (record { within = rw append-nil le; enough = tt })
+are_accepted earlier line (l ∷ ls) ss le e =
+    let a = bind_ok (at_line line (stated earlier l)) (λ s. accepted (earlier ++ option_to_list (net_of s)) (line + 1) ls >>= λ ss. Ok (s ∷ ss)) ss e in
+    let b = bind_ok (accepted (earlier ++ option_to_list (net_of a.0)) (line + 1) ls) (λ ss. Ok (a.0 ∷ ss)) ss a.2 in
+    let f = follows earlier l a.0 (at_line-ok line (stated earlier l) a.0 a.1) in
+    let rest = are_accepted (earlier ++ option_to_list (net_of a.0)) (line + 1) ls b.0 (room earlier (net_of a.0) f.free le) b.1 in
+    let whole : (earlier ++ option_to_list (net_of a.0)) ++ nets_of b.0 ≡ earlier ++ nets_of (a.0 ∷ b.0) = append_assoc earlier (option_to_list (net_of a.0)) (nets_of b.0) ∙ ap (λ (ns : List Name). earlier ++ ns) (front-option (net_of a.0) (nets_of b.0)) in
+    subst (AreAccepted earlier) (same_list (a.0 ∷ b.0) ss b.2) (record { within = subst (λ (ns : List Name). length ns ≤ 999999) whole rest.within; enough = (f.enough, rest.enough) })
+
+-- ---- the netlist of statements whose nets are all driven
+
+number-at : (p : Name → Bool) (n : Name) (nets : List Name) (t : Bool) → p n ≡ t → (p n || list_any p nets) ≡ true → (list_any p nets ≡ true → position_or_len p nets < length nets) → position_or_len p (n ∷ nets) < length (n ∷ nets)
+number-at p n nets true f e h = rw f (omega arith)
+number-at p n nets false f e h = rw f (let less = h (rw f at e) in omega arith)
+
+number-within : (p : Name → Bool) (nets : List Name) → list_any p nets ≡ true → position_or_len p nets < length nets
+number-within p [] e = absurd cc
+number-within p (n ∷ nets) e = number-at p n nets (p n) refl e (number-within p nets)
+
+none_at : {X : Type 0} (p : X → Bool) (x : X) (xs : List X) (t : Bool) → p x ≡ t → length (x ∷ xs) ≡ position_or_len p (x ∷ xs) → (length xs ≡ position_or_len p xs → AllByRecursion (λ x. p x ≡ false) xs) → AllByRecursion (λ x. p x ≡ false) (x ∷ xs)
+none_at p x xs true f e h = (let g : suc (length xs) ≡ 0 = rw f at e in absurd (omega arith))
+none_at p x xs false f e h = (f, h (let g : suc (length xs) ≡ 1 + position_or_len p xs = rw f at e in omega arith))
+
+none_passes : {X : Type 0} (p : X → Bool) (xs : List X) → length xs ≡ position_or_len p xs → AllByRecursion (λ x. p x ≡ false) xs
+none_passes p [] e = tt
+none_passes p (x ∷ xs) e = none_at p x xs (p x) refl e (none_passes p xs)
+
+not-false : (b : Bool) → not b ≡ false → b ≡ true
+not-false true e = refl
+not-false false e = absurd cc
+
+and-both : (a b : Bool) → (a && b) ≡ true → (a ≡ true) × (b ≡ true)
+and-both true b e = (refl, e)
+and-both false b e = absurd cc
+
+numbers-within : (nets : List Name) (ns : List Name) → list_all (is_among nets) ns ≡ true → AllByRecursion (λ i. i < length nets) (map (number_of nets) ns)
+numbers-within nets [] e = tt
+numbers-within nets (n ∷ ns) e =
+    let b = and-both (is_among nets n) (list_all (is_among nets) ns) e in
+    (number-within (λ other. bytes_eq n other) nets b.0, numbers-within nets ns b.1)
+
+abbrev AreDefined : ℕ → List Definition → Type 0
+AreDefined n ds = AllByRecursion (IsDefinition n) ds
+
+defined-one : (nets : List Name) (s : Statement) → HasEnough s → uses_other nets s ≡ false → AreDefined (length nets) (option_to_list (definition_of nets s))
+defined-one nets Nothing h u = tt
+defined-one nets (Input n) h u = (tt, tt)
+defined-one nets (Output n) h u = tt
+defined-one nets (Gate n kind inputs) h u =
+    let all = numbers-within nets inputs (not-false _ u) in
+    ((subst (HasInputs kind) (sym (length-map inputs (number_of nets))) h, All-from_recursion (λ i. i < length nets) (map (number_of nets) inputs) all), tt)
+defined-one nets (Flop n d) h u = ((numbers-within nets (d ∷ []) (not-false _ u)).0, tt)
+
+and_then : {X : Type 0} (P : X → Type 0) (xs ys : List X) → AllByRecursion P xs → AllByRecursion P ys → AllByRecursion P (xs ++ ys)
+and_then P [] ys h k = k
+and_then P (x ∷ xs) ys h k = (h.0, and_then P xs ys h.1 k)
+
+all-defined : (nets : List Name) (ss : List Statement) → AllByRecursion HasEnough ss → AllByRecursion (λ s. uses_other nets s ≡ false) ss → AreDefined (length nets) (filter_map (definition_of nets) ss)
+all-defined nets [] h u = tt
+all-defined nets (s ∷ ss) h u =
+    subst (AreDefined (length nets)) (front-option (definition_of nets s) (filter_map (definition_of nets) ss)) (and_then (IsDefinition (length nets)) (option_to_list (definition_of nets s)) (filter_map (definition_of nets) ss) (defined-one nets s h.0 u.0) (all-defined nets ss h.1 u.1))
+
+at-place : (n : ℕ) (ds : List Definition) (i : ℕ) → AreDefined n ds → IsDefinition n (get_or ds i definition.Input)
+at-place n [] i h = tt
+at-place n (d ∷ ds) zero h = h.0
+at-place n (d ∷ ds) (suc i) h = at-place n ds i h.1
+
+as_many : (nets : List Name) (ss : List Statement) → length (filter_map (definition_of nets) ss) ≡ length (nets_of ss)
+as_many nets [] = refl
+as_many nets (Nothing ∷ ss) = as_many nets ss
+as_many nets (Input n ∷ ss) = ap suc (as_many nets ss)
+as_many nets (Output n ∷ ss) = as_many nets ss
+as_many nets (Gate n kind inputs ∷ ss) = ap suc (as_many nets ss)
+as_many nets (Flop n d ∷ ss) = ap suc (as_many nets ss)
+
+abbrev AreBelow : ℕ → List ℕ → Type 0
+AreBelow n is = AllByRecursion (λ i. i < n) is
+
+output-one : (nets : List Name) (s : Statement) → uses_other nets s ≡ false → AreBelow (length nets) (option_to_list (output_of nets s))
+output-one nets (Output n) u = ((numbers-within nets (n ∷ []) (not-false _ u)).0, tt)
+output-one nets _ u = tt
+
+outputs-below : (nets : List Name) (ss : List Statement) → AllByRecursion (λ s. uses_other nets s ≡ false) ss → AreBelow (length nets) (filter_map (output_of nets) ss)
+outputs-below nets [] u = tt
+outputs-below nets (s ∷ ss) u =
+    subst (AreBelow (length nets)) (front-option (output_of nets s) (filter_map (output_of nets) ss)) (and_then (λ i. i < length nets) (option_to_list (output_of nets s)) (filter_map (output_of nets) ss) (output-one nets s u.0) (outputs-below nets ss u.1))
+
+with_last-below : (n : ℕ) (found : List ℕ) (i : ℕ) (t : Bool) → AreBelow n found → i < n → AreBelow n (cond t found (found ++ i ∷ []))
+with_last-below n found i true h lt = h
+with_last-below n found i false h lt = and_then (λ i. i < n) found (i ∷ []) h (lt, tt)
+
+once-below : (n : ℕ) (found is : List ℕ) → AreBelow n found → AreBelow n is → AreBelow n (fold with_last found is)
+once-below n found [] h k = h
+once-below n found (i ∷ is) h k = once-below n (with_last found i) is (with_last-below n found i (list_any (λ m. eqb i m) found) h k.0) k.1
+
+pub is_netlist : (ss : List Statement) → AreAccepted [] ss → position (uses_other (nets_of ss)) ss ≡ None → IsNetlist (netlist_of ss)
+is_netlist ss a e =
+    let driven = none_passes (uses_other (nets_of ss)) ss (place_none (uses_other (nets_of ss)) ss e) in
+    let defined = all-defined (nets_of ss) ss a.enough driven in
+    record {
+      within = a.within;
+      definitions = as_many (nets_of ss) ss;
+      defined = λ n lt. at-place (length (nets_of ss)) (filter_map (definition_of (nets_of ss)) ss) n defined;
+      outputs = All-from_recursion (λ i. i < length (nets_of ss)) (each_once (filter_map (output_of (nets_of ss)) ss)) (once-below (length (nets_of ss)) [] (filter_map (output_of (nets_of ss)) ss) tt (outputs-below (nets_of ss) ss driven));
+    }
+
+-- ---- by the statements as they were written
+
+pub undriven_is : (written : List Written) (nets : List Name) (found : Option ℕ) → nets ≡ nets_of (map meant written) → found ≡ position (λ s. uses_other nets (meant s)) written → position (uses_other (nets_of (map meant written))) (map meant written) ≡ found
+undriven_is written nets found e f = rw (← e) (position-map (uses_other nets) meant written ∙ sym f)
+
+filter_map-map : {X Y Z : Type 0} (f : Y → Option Z) (g : X → Y) (xs : List X) → filter_map f (map g xs) ≡ filter_map (λ x. f (g x)) xs
+filter_map-map f g [] = refl
+filter_map-map f g (x ∷ xs) = ap (cons_option (f (g x))) (filter_map-map f g xs)
+
+pub netlist_is : (written : List Written) (nets : List Name) (ds : List Definition) (os : List ℕ) → nets ≡ nets_of (map meant written) → ds ≡ filter_map (λ s. definition_of nets (meant s)) written → os ≡ each_once (filter_map (λ s. output_of nets (meant s)) written)
+    → netlist_of (map meant written) ≡ record { names = nets; definitions = ds; outputs = os }
+netlist_is written nets ds os e f g = rw (f, g, ← filter_map-map (definition_of nets) meant written, ← filter_map-map (output_of nets) meant written, e) refl
+
+pub bench-undriven : (text : List ℕ) (ss : List Statement) (i : ℕ) → accepted [] 1 (lines_of text) ≡ Ok ss → position (uses_other (nets_of ss)) ss ≡ Some i → bench_of text ≡ Err (record { line = i + 1; cause = Undriven })
+unfolding bench_of
+bench-undriven text ss i e f = rw (e, f) refl
+
+pub bench-driven : (text : List ℕ) (ss : List Statement) → accepted [] 1 (lines_of text) ≡ Ok ss → position (uses_other (nets_of ss)) ss ≡ None → bench_of text ≡ Ok (netlist_of ss)
+unfolding bench_of
+bench-driven text ss e f = rw (e, f) refl
+
+-- the nets of an accepted text are few enough to be numbered
+pub within : (text : List ℕ) (written : List Written) (nets : List Name) → accepted [] 1 (lines_of text) ≡ Ok (map meant written) → nets ≡ nets_of (map meant written) → length nets ≤ 999999
+within text written nets e f = rw f (are_accepted [] 1 (lines_of text) (map meant written) (omega arith) e).within

@@ -1,0 +1,101 @@
+-- Why a settings document is refused.
+use Rattle.std.specs.Prelude.{ℕ, Bool, true, false, ◌&&◌, ◌||◌, not, nat_le, ◌==◌, if◌then◌else◌, List, length, get_or, codes, Option, Some, None, is_none, position}
+use Rattle.std.specs.List.{list_any, list_all}
+use Rattle.std.specs.Option.{option_map_or}
+use Rattle.std.specs.Str.{bytes_eq}
+use Rattle.toml.specs.Data.{Data, Members, no_members, member, get_member, as_str, as_table}
+use Rattle.gate_netlist.specs.declared.bench.Definition.{Definition}
+use Rattle.gate_netlist.specs.declared.bench.Definition.TheVariants.{Input, Flop}
+use Rattle.gate_netlist.specs.declared.fault.SettingsFault.{SettingsFault}
+use Rattle.gate_netlist.specs.declared.fault.SettingsFault.TheVariants.{UnknownKey, UnknownNet, BadDelay, ClockNotInput, BadCut}
+use Rattle.gate_netlist.specs.Netlist.{Netlist}
+use Rattle.gate_netlist.specs.Settings.{as_delay, as_block, table_at, clock_name}
+
+-- the line of an input
+abbrev pub is_input_line : Definition → Bool
+is_input_line Input = true
+is_input_line _ = false
+
+-- the line of a flip-flop
+abbrev pub is_flop_line : Definition → Bool
+is_flop_line (Flop d) = true
+is_flop_line _ = false
+
+-- the net of a name
+abbrev pub number_of : Netlist → List ℕ → Option ℕ
+number_of b name = position (λ other. bytes_eq name other) b.names
+
+-- the name is that of a net which isn't an input
+abbrev pub is_driven : Netlist → List ℕ → Bool
+is_driven b name = option_map_or (λ n. not (is_input_line (get_or b.definitions n Input))) (number_of b name) false
+
+-- some net is a flip-flop
+abbrev pub has_flop : Netlist → Bool
+has_flop b = list_any is_flop_line b.definitions
+
+-- some member passes the test
+abbrev pub any_member : (List ℕ → Data → Bool) → Members → Bool
+any_member p no_members = false
+any_member p (member k d ms) = p k d || any_member p ms
+
+-- a top key that isn't listed, or whose value isn't of its type
+abbrev pub is_unknown_top : List ℕ → Data → Bool
+is_unknown_top k d =
+    if bytes_eq k (codes "default") then false
+    else if bytes_eq k (codes "clock") || bytes_eq k (codes "scope") then is_none (as_str d)
+    else if bytes_eq k (codes "gate") || bytes_eq k (codes "net") || bytes_eq k (codes "block") then is_none (as_table d)
+    else true
+
+-- a key that `gate` may have
+abbrev pub is_gate_key : List ℕ → Bool
+is_gate_key k =
+    bytes_eq k (codes "AND") || bytes_eq k (codes "NAND") || bytes_eq k (codes "OR")
+    || bytes_eq k (codes "NOR") || bytes_eq k (codes "XOR") || bytes_eq k (codes "XNOR")
+    || bytes_eq k (codes "NOT") || bytes_eq k (codes "BUFF") || bytes_eq k (codes "DFF")
+
+-- a key that isn't listed, at the top or in `gate`, or a value of another type than its key takes
+abbrev pub has_unknown_key : Members → Bool
+has_unknown_key ms = any_member is_unknown_top ms || any_member (λ k d. not (is_gate_key k)) (table_at (codes "gate") ms)
+
+-- a key of `net` or `block` that names no net, or names an input
+abbrev pub has_unknown_net : Netlist → Members → Bool
+has_unknown_net b ms =
+    any_member (λ k d. not (is_driven b k)) (table_at (codes "net") ms)
+    || any_member (λ k d. not (is_driven b k)) (table_at (codes "block") ms)
+
+-- a value that is no delay
+abbrev pub is_bad_delay : List ℕ → Data → Bool
+is_bad_delay k d = is_none (as_delay d)
+
+-- a value at `default`, or in `gate` or `net`, that is no delay
+abbrev pub has_bad_delay : Members → Bool
+has_bad_delay ms =
+    option_map_or (λ d. is_none (as_delay d)) (get_member (codes "default") ms) false
+    || any_member is_bad_delay (table_at (codes "gate") ms)
+    || any_member is_bad_delay (table_at (codes "net") ms)
+
+-- a byte of a name: 33 to 126 other than the marks ( ) , = and #
+abbrev pub is_name_byte : ℕ → Bool
+is_name_byte b = nat_le 33 b && nat_le b 126 && not (b == 40 || b == 41 || b == 44 || b == 61 || b == 35)
+
+-- what may name a net: one or more such bytes, other than the word `$end`
+abbrev pub is_name : List ℕ → Bool
+is_name bytes = not (length bytes == 0) && list_all is_name_byte bytes && not (bytes_eq bytes (codes "$end"))
+
+-- there is a flip-flop, and the clock's name is no name or names a net that isn't an input
+abbrev pub has_bad_clock : Netlist → Members → Bool
+has_bad_clock b ms = has_flop b && (not (is_name (clock_name ms)) || is_driven b (clock_name ms))
+
+-- a value in `block` that is no block
+abbrev pub has_bad_block : Members → Bool
+has_bad_block ms = any_member (λ k d. is_none (as_block d)) (table_at (codes "block") ms)
+
+-- the least cause that applies
+unfoldable pub cause_of : Netlist → Members → Option SettingsFault
+cause_of b ms =
+    if has_unknown_key ms then Some UnknownKey
+    else if has_unknown_net b ms then Some UnknownNet
+    else if has_bad_delay ms then Some BadDelay
+    else if has_bad_clock b ms then Some ClockNotInput
+    else if has_bad_block ms then Some BadCut
+    else None

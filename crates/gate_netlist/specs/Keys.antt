@@ -1,0 +1,14 @@
+-- Names of nets, kept in order.
+use Rattle.std.specs.Prelude.{List, map, string_bytes, String}
+use Rattle.std.specs.declared.alloc.Global.{Global}
+use Rattle.std.specs.declared.hash.FoldHasher.{FoldHasher}
+use Rattle.std.specs.declared.hash.BuildHasherDefault.{BuildHasherDefault}
+use Rattle.indexmap.specs.IndexSet.{IndexSet}
+use Rattle.gate_netlist.specs.Statements.{Name}
+
+abbrev pub Keys : Type 0
+Keys = IndexSet (String Global) (BuildHasherDefault FoldHasher)
+
+-- the names, in the order of their numbers
+abbrev pub names_in : Keys → List Name
+names_in keys = map string_bytes keys.keys

@@ -1,0 +1,77 @@
+-- What a settings text says: a document, and what stands at its keys.
+use Rattle.std.specs.Prelude.{◌≡◌, ℕ, max, ◌&&◌, nat_le, if◌then◌else◌, List, codes, Option, Some, None, option_and_then, unwrap_or, pos, IsUtf8}
+use Rattle.gate_values.specs.declared.gate.Kind.{Kind}
+use Rattle.gate_values.specs.declared.gate.Kind.TheVariants as kind
+use Rattle.toml.specs.Data.{Data, integer, Members, no_members, member, get_member, as_str, as_table}
+use Rattle.toml.specs.Parse.{parse_document}
+use Rattle.gate_netlist.specs.declared.bench.Definition.{Definition}
+use Rattle.gate_netlist.specs.declared.bench.Definition.TheVariants.{Input, Gate, Flop}
+
+-- the bytes are text, and the text is the document
+abbrev pub IsDocument : List ℕ → Members → Type 0
+IsDocument bytes ms = IsUtf8 bytes × (parse_document bytes ≡ Some ms)
+
+-- a delay: a whole number from 1 to 1,000,000
+abbrev pub as_delay : Data → Option ℕ
+as_delay (integer (pos n)) = if nat_le 1 n && nat_le n 1000000 then Some n else None
+as_delay _ = None
+
+-- a block: a whole number from 0 to 1023
+abbrev pub as_block : Data → Option ℕ
+as_block (integer (pos n)) = if nat_le n 1023 then Some n else None
+as_block _ = None
+
+-- the table at a key, empty where there is none
+abbrev pub table_at : List ℕ → Members → Members
+table_at k ms = unwrap_or (option_and_then as_table (get_member k ms)) no_members
+
+-- the text at a key, where it is one
+abbrev pub text_at : List ℕ → Members → Option (List ℕ)
+text_at k ms = option_and_then as_str (get_member k ms)
+
+-- the delay at a key, where it is one
+abbrev pub delay_at : List ℕ → Members → Option ℕ
+delay_at k ms = option_and_then as_delay (get_member k ms)
+
+-- the block at a key, where it is one
+abbrev pub block_at : List ℕ → Members → Option ℕ
+block_at k ms = option_and_then as_block (get_member k ms)
+
+-- the key of a kind of gate
+abbrev pub key_of : Kind → List ℕ
+key_of kind.And = codes "AND"
+key_of kind.Nand = codes "NAND"
+key_of kind.Or = codes "OR"
+key_of kind.Nor = codes "NOR"
+key_of kind.Xor = codes "XOR"
+key_of kind.Xnor = codes "XNOR"
+key_of kind.Not = codes "NOT"
+key_of kind.Buff = codes "BUFF"
+
+-- the delay where no key names the net or its kind: that of `default`, else 1
+abbrev pub default_delay : Members → ℕ
+default_delay ms = unwrap_or (delay_at (codes "default") ms) 1
+
+-- the delay that a key of `gate` gives, else the default
+abbrev pub delay_of_key : Members → List ℕ → ℕ
+delay_of_key ms key = unwrap_or (delay_at key (table_at (codes "gate") ms)) (default_delay ms)
+
+-- a net's delay: that of its name, else that of its kind; 0 of an input
+abbrev pub net_delay : Members → List ℕ → Definition → ℕ
+net_delay ms name Input = 0
+net_delay ms name (Gate kind inputs) = unwrap_or (delay_at name (table_at (codes "net") ms)) (delay_of_key ms (key_of kind))
+net_delay ms name (Flop d) = unwrap_or (delay_at name (table_at (codes "net") ms)) (delay_of_key ms (codes "DFF"))
+
+-- a net's block: that of its name, else 0; none of an input
+abbrev pub net_block : Members → List ℕ → Definition → Option ℕ
+net_block blocks name Input = None
+net_block blocks name _ = Some (unwrap_or (block_at name blocks) 0)
+
+-- the greatest block given, 0 where none is
+abbrev pub greatest_block : Members → ℕ
+greatest_block no_members = 0
+greatest_block (member k d ms) = max (unwrap_or (as_block d) 0) (greatest_block ms)
+
+-- the name of the clock: that of `clock`, else CK
+abbrev pub clock_name : Members → List ℕ
+clock_name ms = unwrap_or (text_at (codes "clock") ms) (codes "CK")

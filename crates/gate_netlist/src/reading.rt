@@ -1,0 +1,271 @@
+ghost use Rattle.std.specs.Prelude.{◌≡◌, ◌+◌, ◌<◌, ◌≤◌, ◌++◌, ◌∷◌, [], length, map, not, position, Some, IfOk, OnOk, OnErr, option_to_list, option_map};
+ghost use Rattle.std.specs.List.{list_all, filter_map};
+ghost use Rattle.gate_netlist.specs.declared.fault.BenchCause.TheVariants as cause;
+ghost use Rattle.gate_netlist.specs.Faults.{out_of_memory};
+ghost use Rattle.gate_netlist.specs.Gives.{Gives};
+ghost use Rattle.gate_netlist.specs.Lines.{lines_of};
+ghost use Rattle.gate_netlist.specs.Meant.{meant};
+ghost use Rattle.gate_netlist.specs.Keys.{names_in};
+ghost use Rattle.gate_netlist.specs.Faults.{fault_at};
+ghost use Rattle.gate_netlist.specs.Bench.{net_of, nets_of, refusal, unless, stated, is_among, uses_other, number_of, definition_of, output_of, each_once, accepted, bench_of};
+
+use crate::bench::{Bench, Definition};
+use crate::fault::{BenchCause, BenchFault};
+use crate::lines::next_line;
+use crate::nets::Nets;
+use crate::statement::{Statement, meaning_of};
+use indexmap::IndexSet;
+use std::alloc::{AllocError, Global};
+
+/// The names of nets, in the order of their defining lines.
+type Names = IndexSet<String>;
+
+/// The most nets that a bench text may define.
+const MOST_NETS: usize = 999_999;
+
+/// Gives a new net the next number.
+fn define(alloc: Global, names: &mut Names, name: &str) -> Result<(), BenchCause>
+    ensures gives { Gives cause.Memory (λ x. x) result (unless (refusal (names_in names.old) (Some name.now)) tt) }
+    ensures ok { OnOk result (names_in names.new ≡ names_in names.old ++ name.now ∷ []) }
+{
+    if names.contains(name) {
+        return Err(BenchCause::DrivenTwice);
+    }
+    if names.len() >= MOST_NETS {
+        return Err(BenchCause::TooManyNets);
+    }
+    let key = String::from_str(alloc, name)?;
+    names.insert(key)?;
+    Ok(())
+}
+
+fn is_defined(names: &Names, name: &str) -> bool
+    ensures { result ≡ is_among (names_in names.now) name.now }
+{
+    names.contains(name)
+}
+
+/// The number of a name, and that of names where it is none of them.
+fn number_of(names: &Names, name: &str) -> u32
+    requires { length (names_in names.now) ≤ 999999 }
+    ensures { result ≡ number_of (names_in names.now) name.now }
+{
+    match names.get_index_of(name) {
+        Some(number) => number as u32,
+        None => names.len() as u32,
+    }
+}
+
+fn net_of<'a>(statement: &Statement<'a>) -> Option<&'a str>
+    ensures { option_map (λ name. name.now) result ≡ net_of (meant statement.now) }
+{
+    match statement {
+        Statement::Input(name) => Some(*name),
+        Statement::Gate { name, .. } => Some(*name),
+        Statement::Flop { name, .. } => Some(*name),
+        Statement::Nothing => None,
+        Statement::Output(_) => None,
+    }
+}
+
+/// What a line says, after lines that define these nets. The net that it defines goes last.
+#[tactic(auto, unfolding(crate::specs::Bench::stated))]
+fn stated<'a>(alloc: Global, names: &mut Names, line: &'a [u8]) -> Result<Statement<'a>, BenchCause>
+    ensures gives { Gives cause.Memory meant result (stated (names_in names.old) line.now) }
+    ensures names { IfOk result (λ s. names_in names.new ≡ names_in names.old ++ option_to_list (net_of (meant s))) }
+{
+    let statement = meaning_of(alloc, line)?;
+    match net_of(&statement) {
+        None => Ok(statement),
+        Some(name) => {
+            define(alloc, names, name)?;
+            Ok(statement)
+        }
+    }
+}
+
+fn fault_at(line: u64, cause: BenchCause) -> BenchFault
+    ensures { result ≡ fault_at line cause }
+{
+    match cause {
+        BenchCause::Memory => BenchFault::MEMORY,
+        _ => BenchFault { line, cause },
+    }
+}
+
+/// What the lines of a text say, one statement a line, and the names of the nets that they define.
+fn statements(alloc: Global, text: &[u8]) -> Result<(Names, Vec<Statement<'_>>), BenchFault>
+    ensures gives { Gives out_of_memory (λ x. map meant x.1.items) result (accepted [] 1 (lines_of text.now)) }
+    ensures names { IfOk result (λ x. names_in x.0 ≡ nets_of (map meant x.1.items)) }
+    ensures within { IfOk result (λ x. length (names_in x.0) ≤ 999999) }
+{
+    let mut names = IndexSet::new(alloc);
+    let mut statements = Vec::new(alloc);
+    let mut rest = Some(text);
+    while let Some(text) = rest {
+        let (line, after) = next_line(text);
+        let number = statements.len() as u64 + 1;
+        match stated(alloc, &mut names, line) {
+            Ok(statement) => statements.push(statement)?,
+            Err(cause) => return Err(fault_at(number, cause)),
+        }
+        rest = after;
+    }
+    Ok((names, statements))
+}
+
+fn are_defined(names: &Names, nets: &[&str]) -> bool
+    ensures { result ≡ list_all (λ net. is_among (names_in names.now) net.now) nets.now }
+{
+    nets.iter().all(|net| is_defined(names, net))
+}
+
+/// Whether a line uses a net that is none of these.
+fn uses_other(names: &Names, statement: &Statement) -> bool
+    ensures { result ≡ uses_other (names_in names.now) (meant statement.now) }
+{
+    match statement {
+        Statement::Output(net) => !is_defined(names, net),
+        Statement::Gate { inputs, .. } => !are_defined(names, inputs),
+        Statement::Flop { d, .. } => !is_defined(names, d),
+        Statement::Nothing => false,
+        Statement::Input(_) => false,
+    }
+}
+
+/// The first line, from 0 on, that uses a net which is none of these.
+fn undriven(names: &Names, statements: &[Statement]) -> Option<usize>
+    ensures { result ≡ position (λ s. uses_other (names_in names.now) (meant s)) statements.now }
+{
+    statements
+        .iter()
+        .position(|statement| uses_other(names, statement))
+}
+
+fn numbers_of(alloc: Global, names: &Names, nets: &[&str]) -> Result<Vec<u32>, AllocError>
+    requires { length (names_in names.now) ≤ 999999 }
+    ensures { IfOk result (λ numbers. numbers.items ≡ map (λ net. number_of (names_in names.now) net.now) nets.now) }
+{
+    nets.iter().map(|net| number_of(names, net)).collect(alloc)
+}
+
+/// What a line makes of the net that it defines.
+fn definition_of(
+    alloc: Global,
+    names: &Names,
+    statement: &Statement,
+) -> Result<Option<Definition>, AllocError>
+    requires { length (names_in names.now) ≤ 999999 }
+    ensures { IfOk result (λ found. found ≡ definition_of (names_in names.now) (meant statement.now)) }
+{
+    match statement {
+        Statement::Input(_) => Ok(Some(Definition::Input)),
+        Statement::Gate { kind, inputs, .. } => {
+            let inputs = Nets::new(numbers_of(alloc, names, inputs)?);
+            Ok(Some(Definition::Gate {
+                kind: *kind,
+                inputs,
+            }))
+        }
+        Statement::Flop { d, .. } => Ok(Some(Definition::Flop {
+            d: number_of(names, d),
+        })),
+        Statement::Nothing => Ok(None),
+        Statement::Output(_) => Ok(None),
+    }
+}
+
+/// Adds what a line makes of the net that it defines.
+fn push_definition(
+    alloc: Global,
+    names: &Names,
+    statement: &Statement,
+    definitions: &mut Vec<Definition>,
+) -> Result<(), AllocError>
+    requires { length (names_in names.now) ≤ 999999 }
+    ensures { OnOk result (definitions.new.items
+        ≡ definitions.old.items ++ option_to_list (definition_of (names_in names.now) (meant statement.now))) }
+{
+    match definition_of(alloc, names, statement)? {
+        None => Ok(()),
+        Some(definition) => {
+            definitions.push(definition)?;
+            Ok(())
+        }
+    }
+}
+
+/// What the lines make of the nets that they define.
+fn definitions(
+    alloc: Global,
+    names: &Names,
+    statements: &[Statement],
+) -> Result<Vec<Definition>, AllocError>
+    requires { length (names_in names.now) ≤ 999999 }
+    ensures { IfOk result (λ found. found.items
+        ≡ filter_map (λ s. definition_of (names_in names.now) (meant s)) statements.now) }
+{
+    let mut definitions = Vec::new(alloc);
+    for statement in statements {
+        push_definition(alloc, names, statement, &mut definitions)?;
+    }
+    Ok(definitions)
+}
+
+/// The net that a line marks.
+fn output_of(names: &Names, statement: &Statement) -> Option<u32>
+    requires { length (names_in names.now) ≤ 999999 }
+    ensures { result ≡ output_of (names_in names.now) (meant statement.now) }
+{
+    match statement {
+        Statement::Output(net) => Some(number_of(names, net)),
+        _ => None,
+    }
+}
+
+/// The nets that lines mark as outputs, line by line.
+fn marked(alloc: Global, names: &Names, statements: &[Statement]) -> Result<Vec<u32>, AllocError>
+    requires { length (names_in names.now) ≤ 999999 }
+    ensures { IfOk result (λ found. found.items
+        ≡ filter_map (λ s. output_of (names_in names.now) (meant s)) statements.now) }
+{
+    statements
+        .iter()
+        .filter_map(|statement| output_of(names, statement))
+        .collect(alloc)
+}
+
+/// Each number once, where it first stands.
+fn each_once(alloc: Global, numbers: &[u32]) -> Result<Vec<u32>, AllocError>
+    ensures { IfOk result (λ found. found.items ≡ each_once numbers.now) }
+{
+    let mut found: IndexSet<u32> = IndexSet::new(alloc);
+    for number in numbers {
+        found.insert(*number)?;
+    }
+    Vec::from_slice(alloc, found.as_slice())
+}
+
+/// What a bench text says: its nets in the order of their defining lines, and the nets marked as outputs.
+///
+/// A refused text gives the first fault: the first faulty line's, with the line's number from 1 on, or else that of the
+/// first line that uses a net which no line defines. Want of memory is answered as soon as a growth is refused, with line 0.
+#[tactic(auto, unfolding(crate::specs::Bench::bench_of))]
+pub fn read_bench(alloc: Global, text: &[u8]) -> Result<Bench, BenchFault>
+    ensures { Gives out_of_memory (λ bench. bench) result (bench_of text.now) }
+{
+    let (names, statements) = statements(alloc, text)?;
+    if let Some(line) = undriven(&names, &statements) {
+        return Err(BenchFault {
+            line: line as u64 + 1,
+            cause: BenchCause::Undriven,
+        });
+    }
+    let definitions = definitions(alloc, &names, &statements)?;
+    let outputs = each_once(alloc, &marked(alloc, &names, &statements)?)?;
+    Ok(Bench {
+        names,
+        definitions,
+        outputs,
+    })
+}

@@ -1,0 +1,70 @@
+ghost use Rattle.std.specs.Prelude.{◌≡◌, IfOk, false, string_bytes};
+ghost use Rattle.std.specs.List.{list_any};
+ghost use Rattle.std.specs.Str.{bytes_eq};
+ghost use Rattle.gate_netlist.specs.Netlist.{IsNetlist};
+ghost use Rattle.gate_netlist.specs.HeldParts.{parts_netlist};
+ghost use Rattle.gate_netlist.specs.Meaning.{with_input, with_clock};
+
+use super::causes::has_flop;
+use crate::bench::{Bench, Definition};
+use indexmap::IndexSet;
+use std::alloc::{AllocError, Global};
+
+/// The parts of a bench, to which a clock may be added.
+#[derive(Drop)]
+pub(crate) struct Parts {
+    pub(crate) names: IndexSet<String>,
+    pub(crate) definitions: Vec<Definition>,
+    pub(crate) outputs: Vec<u32>,
+}
+
+/// Takes a bench apart.
+pub(crate) fn parts_of(bench: Bench) -> Parts
+    ensures same { parts_netlist result ≡ bench }
+    ensures law { IsNetlist bench }
+{
+    let Bench {
+        names,
+        definitions,
+        outputs,
+    } = bench;
+    Parts {
+        names,
+        definitions,
+        outputs,
+    }
+}
+
+/// The parts with the clock of this name among the nets: where there is a flip-flop and no net has the name, an
+/// input of that name is added as the last net.
+pub(crate) fn with_clock(alloc: Global, parts: Parts, name: &str) -> Result<Parts, AllocError>
+    ensures { IfOk result (λ more. parts_netlist more ≡ with_clock name.now (parts_netlist parts)) }
+{
+    if !has_flop(parts.definitions.as_slice()) {
+        return Ok(parts);
+    }
+    match parts.names.get_index_of(name) {
+        Some(_) => Ok(parts),
+        None => add_input(alloc, parts, name),
+    }
+}
+
+/// The parts with an input of a new name as the last net.
+fn add_input(alloc: Global, parts: Parts, name: &str) -> Result<Parts, AllocError>
+    requires { list_any (λ key. bytes_eq name.now (string_bytes key)) parts.names.keys ≡ false }
+    ensures { IfOk result (λ more. parts_netlist more ≡ with_input name.now (parts_netlist parts)) }
+{
+    let Parts {
+        mut names,
+        mut definitions,
+        outputs,
+    } = parts;
+    let key = String::from_str(alloc, name)?;
+    names.insert(key)?;
+    definitions.push(Definition::Input)?;
+    Ok(Parts {
+        names,
+        definitions,
+        outputs,
+    })
+}

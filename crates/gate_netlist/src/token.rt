@@ -1,0 +1,175 @@
+ghost use Rattle.std.specs.Prelude.{◌≡◌, ◌==◌, ◌<◌, ◌∷◌, ◌++◌, not, length, option_map, option_to_list, IfOk, true};
+ghost use Rattle.std.specs.List.{list_all, list_any, prefix_len};
+ghost use Rattle.gate_netlist.specs.Symbols.{Word, code_of, mark_of, is_letter, begins_with_letter, is_allowed, is_end, symbols};
+ghost use Rattle.gate_netlist.specs.Splits.{word_first, after_open, has_comma, after_equals, closes};
+ghost use Rattle.gate_netlist.specs.Tokens.{symbol_of, symbols_of};
+
+use std::alloc::{AllocError, Global};
+
+/// A mark or a word of a line.
+#[derive(Clone, Copy)]
+pub(crate) enum Token<'a> {
+    Open,
+    Close,
+    Comma,
+    Equals,
+    Word(&'a str),
+}
+
+/// What stands before the comment of a line.
+pub(crate) fn code_of(line: &[u8]) -> &[u8]
+    ensures { result.now ≡ code_of line.now }
+{
+    &line[..code_len(line)]
+}
+
+fn code_len(line: &[u8]) -> usize
+    ensures { result ≡ prefix_len (λ b. not (b == 35)) line.now }
+{
+    line.iter().take_while(|byte| **byte != b'#').count()
+}
+
+fn mark_of(byte: u8) -> Option<Token<'static>>
+    ensures { option_map symbol_of result ≡ mark_of byte }
+{
+    match byte {
+        b'(' => Some(Token::Open),
+        b')' => Some(Token::Close),
+        b',' => Some(Token::Comma),
+        b'=' => Some(Token::Equals),
+        _ => None,
+    }
+}
+
+fn is_letter(byte: u8) -> bool
+    ensures { result ≡ is_letter byte }
+{
+    33 <= byte && byte <= 126 && mark_of(byte).is_none() && byte != b'#'
+}
+
+/// Whether each byte may stand outside a comment.
+pub(crate) fn is_allowed(code: &[u8]) -> bool
+    ensures { result ≡ list_all is_allowed code.now }
+{
+    code.iter().all(|byte| is_letter(*byte)
+        || mark_of(*byte).is_some()
+        || *byte == b' '
+        || *byte == b'\t')
+}
+
+/// Whether one of the words is `$end`, which is no name.
+pub(crate) fn has_end(tokens: &[Token]) -> bool
+    ensures { result ≡ list_any (λ t. is_end (symbol_of t)) tokens.now }
+{
+    tokens.iter().any(|token| is_end(token))
+}
+
+fn is_end(token: &Token) -> bool
+    ensures { result ≡ is_end (symbol_of token.now) }
+{
+    match token {
+        Token::Word(word) => *word == "$end",
+        _ => false,
+    }
+}
+
+/// How many letters stand in front.
+fn word_len(code: &[u8]) -> usize
+    ensures { result ≡ prefix_len is_letter code.now }
+{
+    code.iter().take_while(|byte| is_letter(**byte)).count()
+}
+
+/// The word in front, and what follows it.
+fn split_word(code: &[u8]) -> (&str, &[u8])
+    requires { begins_with_letter code.now ≡ true }
+    ensures word { symbols code.now ≡ Word result.0.now ∷ symbols result.1.now }
+    ensures shorter { length result.1.now < length code.now }
+{
+    let (word, rest) = code.split_at(word_len(code));
+    match str::from_utf8(word) {
+        Ok(word) => (word, rest),
+        Err(_) => unreachable!(),
+    }
+}
+
+/// The token in front, if one is there, and what follows it.
+#[tactic(auto, unfolding(crate::specs::Symbols::symbols))]
+fn next_token(code: &[u8]) -> (Option<Token<'_>>, &[u8])
+    requires { 0 < length code.now }
+    ensures token { symbols code.now ≡ option_to_list (option_map symbol_of result.0) ++ symbols result.1.now }
+    ensures shorter { length result.1.now < length code.now }
+{
+    let byte = code[0];
+    if is_letter(byte) {
+        let (word, rest) = split_word(code);
+        return (Some(Token::Word(word)), rest);
+    }
+    (mark_of(byte), &code[1..])
+}
+
+/// The marks and words of a line.
+pub(crate) fn tokens(alloc: Global, code: &[u8]) -> Result<Vec<Token<'_>>, AllocError>
+    ensures { IfOk result (λ tokens. symbols_of tokens.items ≡ symbols code.now) }
+{
+    let mut tokens = Vec::new(alloc);
+    let mut rest = code;
+    while !rest.is_empty() {
+        let (token, after) = next_token(rest);
+        if let Some(token) = token {
+            tokens.push(token)?;
+        }
+        rest = after;
+    }
+    Ok(tokens)
+}
+
+/// The word in front, and what follows it.
+pub(crate) fn word_first<'t, 'a>(tokens: &'t [Token<'a>]) -> Option<(&'a str, &'t [Token<'a>])>
+    ensures { option_map (λ found. (found.0.now, symbols_of found.1.now)) result ≡ word_first (symbols_of tokens.now) }
+{
+    match tokens {
+        [Token::Word(word), rest @ ..] => Some((*word, rest)),
+        _ => None,
+    }
+}
+
+/// What follows a `(` in front.
+pub(crate) fn after_open<'t, 'a>(tokens: &'t [Token<'a>]) -> Option<&'t [Token<'a>]>
+    ensures { option_map (λ rest. symbols_of rest.now) result ≡ after_open (symbols_of tokens.now) }
+{
+    match tokens {
+        [Token::Open, rest @ ..] => Some(rest),
+        _ => None,
+    }
+}
+
+/// Whether a `,` stands in front.
+pub(crate) fn has_comma(tokens: &[Token]) -> bool
+    ensures { result ≡ has_comma (symbols_of tokens.now) }
+{
+    match tokens {
+        [Token::Comma, ..] => true,
+        _ => false,
+    }
+}
+
+/// What follows a `=` in front.
+pub(crate) fn after_equals<'t, 'a>(tokens: &'t [Token<'a>]) -> Option<&'t [Token<'a>]>
+    ensures { option_map (λ rest. symbols_of rest.now) result ≡ after_equals (symbols_of tokens.now) }
+{
+    match tokens {
+        [Token::Equals, rest @ ..] => Some(rest),
+        _ => None,
+    }
+}
+
+/// Whether a `)` stands there and no more.
+pub(crate) fn closes(tokens: &[Token]) -> bool
+    ensures { result ≡ closes (symbols_of tokens.now) }
+{
+    match tokens {
+        [Token::Close] => true,
+        _ => false,
+    }
+}

@@ -1,0 +1,37 @@
+-- Whether a change follows a wave, by the wave's last change.
+use Rattle.std.proofs.Common.{◌≡◌, ◌≢◌, ℕ, zero, suc, ◌+◌, ◌-◌, ◌<◌, ◌≤◌, ◌∙◌, Bool, true, false, IsTrue, ◌↔◌, List, [], ◌∷◌, length, get_or, refl, ap, sym, arith}
+use Rattle.gate_values.specs.declared.logic.Logic.{Logic}
+use Rattle.gate_values.specs.declared.logic.Logic.TheVariants.{X}
+use Rattle.gate_values.specs.declared.logic.Change.{Change}
+use Rattle.gate_values.specs.Changes.{last_value}
+use Rattle.gate_vcd.specs.Waves.{end_time, Follows}
+
+-- the last of some changes
+abbrev pub last_of : List Change → Change → Change
+last_of cs d = get_or cs (length cs - 1) d
+
+last_of-cons : (c e d : Change) (cs : List Change) → last_of (c ∷ e ∷ cs) d ≡ last_of (e ∷ cs) d
+last_of-cons c e d cs =
+    let second : suc (suc (length cs)) - 1 ≡ suc (length cs) = omega arith in
+    let first : suc (length cs) - 1 ≡ length cs = omega arith in
+    rw (second, first) refl
+
+pub end_time-last : (from : ℕ) (cs : List Change) (d : Change) → 0 < length cs → end_time from cs ≡ (last_of cs d).time + 1
+end_time-last from [] d h = absurd (omega arith)
+end_time-last from (c ∷ []) d h = refl
+end_time-last from (c ∷ e ∷ cs) d h = end_time-last (c.time + 1) (e ∷ cs) d (omega arith) ∙ ap (λ (last : Change). last.time + 1) (sym (last_of-cons c e d cs))
+
+pub last_value-last : (v : Logic) (cs : List Change) (d : Change) → 0 < length cs → last_value v cs ≡ (last_of cs d).value
+last_value-last v [] d h = absurd (omega arith)
+last_value-last v (c ∷ []) d h = refl
+last_value-last v (c ∷ e ∷ cs) d h = last_value-last c.value (e ∷ cs) d (omega arith) ∙ ap (λ (last : Change). last.value) (sym (last_of-cons c e d cs))
+
+-- a change that isn't later than the last one doesn't follow
+pub early : (cs : List Change) (c d : Change) → 0 < length cs → c.time ≤ (last_of cs d).time → Follows cs c → ⊥
+early cs c d some h follows = omega (arith, end_time-last 0 cs d some, follows.0)
+
+-- a later one follows if it is of another value
+pub later : (cs : List Change) (c d : Change) (b : Bool) → 0 < length cs → (last_of cs d).time < c.time → (IsTrue b ↔ (c.value ≢ (last_of cs d).value)) → IsTrue b ↔ Follows cs c
+later cs c d b some h other = (
+  λ t. (omega (arith, end_time-last 0 cs d some), rw (last_value-last X cs d some) (other.0 t)),
+  λ follows. other.1 (rw (last_value-last X cs d some) at follows.1))

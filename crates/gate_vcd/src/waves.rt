@@ -1,0 +1,111 @@
+ghost use Rattle.std.specs.Prelude.{◌≡◌, ◌≢◌, ℕ, ◌<◌, ◌++◌, [], ◌∷◌, length, IfOk, OnOk, OnErr, IsTrue, ◌↔◌, slice_set, replicate};
+ghost use Rattle.gate_vcd.specs.Waves.{wave_of, Follows, IsWave, by_time, IsOrderOf};
+ghost use Rattle.std.specs.BTreeMap.{IsOrdered};
+
+use gate_values::{Change, Logic};
+use std::alloc::{AllocError, Global};
+use std::collections::BTreeMap;
+use std::marker::Model;
+
+/// The changes of each net of a circuit: times rise, and each value is other than the one before, which
+/// is `X` at first. Contracts see the list of these lists.
+#[derive(Drop)]
+pub struct Waves {
+    lists: Vec<Vec<Change>>,
+    order: BTreeMap<(u64, u32), Logic>,
+}
+
+impl Model for Waves {
+    ghost use Rattle.std.specs.Prelude.{List};
+    ghost use Rattle.gate_values.specs.declared.logic.Change.{Change};
+
+    ghost Value = { List (List Change) };
+
+    ghost use Rattle.gate_vcd.specs.HeldWaves.{lists_of, IsInStep};
+
+    ghost view = { lists_of };
+
+    ghost invariant = { λ w. IsInStep (lists_of w) w.order };
+}
+
+fn differs(value: Logic, other: Logic) -> bool
+    ensures { IsTrue result ↔ (value ≢ other) }
+{
+    value != other
+}
+
+impl Waves {
+    /// Waves without a change.
+    pub fn new(alloc: Global, nets: u32) -> Result<Waves, AllocError>
+        ensures { IfOk result (λ waves. waves ≡ replicate nets []) }
+    {
+        let mut lists = Vec::with_capacity(alloc, nets as usize)?;
+        for _net in 0..nets {
+            lists.push(Vec::new(alloc))?;
+        }
+        Ok(Waves {
+            lists,
+            order: BTreeMap::new(alloc),
+        })
+    }
+
+    /// What is true of all waves.
+    pub fn law(&self)
+        ensures { (n : ℕ) → IsWave (wave_of self.now n) }
+    {
+        let _ = &self.lists;
+    }
+
+    /// The number of nets.
+    pub fn nets(&self) -> u32
+        ensures { result ≡ length self.now }
+    {
+        self.lists.len() as u32
+    }
+
+    /// The changes of a net.
+    pub fn changes(&self, net: u32) -> &[Change]
+        requires { net < length self.now }
+        ensures { result.now ≡ wave_of self.now net }
+    {
+        self.lists[net as usize].as_slice()
+    }
+
+    /// Whether a change may be pushed: it is later than the last one of the net, and of another value.
+    pub fn follows(&self, net: u32, change: Change) -> bool
+        requires { net < length self.now }
+        ensures { IsTrue result ↔ Follows (wave_of self.now net) change }
+    {
+        match self.changes(net) {
+            [] => change.value != Logic::X,
+            [.., last] => {
+                if change.time <= last.time {
+                    return false;
+                }
+                differs(change.value, last.value)
+            }
+        }
+    }
+
+    /// Appends a change to those of a net. After an error nothing has changed.
+    pub fn push(&mut self, net: u32, change: Change) -> Result<(), AllocError>
+        requires known { net < length self.old }
+        requires follows { Follows (wave_of self.old net) change }
+        ensures ok { OnOk result (self.new ≡ slice_set self.old net (wave_of self.old net ++ change ∷ [])) }
+        ensures err { OnErr result (self.new ≡ self.old) }
+    {
+        let at = net as usize;
+        self.lists[at].reserve(1)?;
+        self.order.insert((change.time, net), change.value)?;
+        self.lists[at].push_reserved(change);
+        Ok(())
+    }
+
+    /// All changes by time, and at one time by net.
+    pub(crate) fn order(&self) -> &BTreeMap<(u64, u32), Logic>
+        ensures sorted { IsOrdered by_time result.now }
+        ensures in_step { IsOrderOf self.now result.now }
+    {
+        &self.order
+    }
+}

@@ -1,0 +1,4 @@
+pub mod Parting
+pub mod Plain
+pub mod Filling
+pub mod Simulating

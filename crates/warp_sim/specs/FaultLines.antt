@@ -1,0 +1,43 @@
+-- The line that each fault prints, and the status that the program ends with.
+use Rattle.std.specs.Prelude.{ℕ, List, ◌++◌, codes, decimal}
+use Rattle.gate_netlist.specs.Faults.{bench_cause_name, settings_fault_name}
+use Rattle.gate_netlist.specs.declared.fault.BenchFault.{BenchFault}
+use Rattle.gate_netlist.specs.declared.fault.BenchCause.TheVariants as bench
+use Rattle.gate_netlist.specs.declared.fault.SettingsFault.{SettingsFault}
+use Rattle.gate_netlist.specs.declared.fault.SettingsFault.TheVariants as settings
+use Rattle.gate_vcd.specs.Faults.{stim_cause_name}
+use Rattle.gate_vcd.specs.declared.fault.StimCause.{StimCause}
+use Rattle.gate_vcd.specs.declared.fault.StimCause.TheVariants as stimulus
+use Rattle.gate_vcd.specs.declared.fault.StimFault.{StimFault}
+use Rattle.warp_sim.specs.declared.fault.Fault.{Fault}
+use Rattle.warp_sim.specs.declared.fault.Fault.TheVariants as faults
+
+-- a stimulus is refused at a token's place, or for the sake of a net that is an input
+abbrev pub place_word : StimCause → List ℕ
+place_word stimulus.MissingInput = codes "net"
+place_word stimulus.NotScalar = codes "net"
+place_word _ = codes "at"
+
+-- the line of a fault, without its end
+abbrev pub fault_line : Fault → List ℕ
+fault_line (faults.Bench f) = codes "bench line " ++ decimal f.line ++ codes ": " ++ bench_cause_name f.cause
+fault_line (faults.Settings f) = codes "settings: " ++ settings_fault_name f
+fault_line (faults.Stimulus f) =
+    codes "stimulus " ++ place_word f.cause ++ codes " " ++ decimal f.at ++ codes ": " ++ stim_cause_name f.cause
+fault_line faults.Memory = codes "memory"
+
+-- a refused text ends the program with 1, want of memory with 3
+abbrev pub status_of : Fault → ℕ
+status_of faults.Memory = 3
+status_of _ = 1
+
+-- want of memory while a text is read is want of memory, and no fault of the text
+abbrev pub bench_fault : BenchFault → Fault
+bench_fault f = elim f.cause [ bench.Memory ↦ faults.Memory | _ ↦ faults.Bench f ]
+
+abbrev pub settings_fault : SettingsFault → Fault
+settings_fault settings.Memory = faults.Memory
+settings_fault f = faults.Settings f
+
+abbrev pub stimulus_fault : StimFault → Fault
+stimulus_fault f = elim f.cause [ stimulus.Memory ↦ faults.Memory | _ ↦ faults.Stimulus f ]

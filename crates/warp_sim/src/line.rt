@@ -1,0 +1,134 @@
+//! From the words of a command line to a request.
+ghost use Rattle.warp_sim.specs.Line.{sources_of};
+ghost use Rattle.std.specs.Prelude.{◌≡◌};
+
+use crate::failure::Failure;
+use crate::fault::Fault;
+use crate::request::{Check, MOST_UNTIL, Request, Run, Sources};
+use clap::error::ErrorKind;
+use clap::{Arg, ArgAction, ArgMatches, Command, Error, value_parser};
+use std::alloc::{AllocError, Global};
+use std::convert::AsStr;
+
+fn settings_option<'a>(alloc: Global) -> Arg<'a> {
+    Arg::new(alloc, "settings")
+        .long("settings")
+        .value_name("FILE")
+        .help("Delays, clock, scope and cut, as TOML")
+}
+
+fn bench_argument<'a>(alloc: Global, help: &'a str) -> Arg<'a> {
+    Arg::new(alloc, "BENCH").required(true).help(help)
+}
+
+fn run_command<'a>(alloc: Global) -> Result<Command<'a>, AllocError> {
+    let until = Arg::new(alloc, "until")
+        .long("until")
+        .value_name("T")
+        .required(true)
+        .action(ArgAction::Set)
+        .value_parser(value_parser!(u64).range(0..=MOST_UNTIL as i64))
+        .help("The time at which the dump ends");
+    let stimulus = Arg::new(alloc, "STIMULUS").help("The inputs' changes, as VCD");
+    Command::new(alloc, "run")
+        .about("Simulates a circuit and writes its value change dump")
+        .arg(until)?
+        .arg(settings_option(alloc))?
+        .arg(bench_argument(
+            alloc,
+            "The circuit; - for standard input, with the stimulus after a line %%",
+        ))?
+        .arg(stimulus)
+}
+
+fn check_command<'a>(alloc: Global) -> Result<Command<'a>, AllocError> {
+    Command::new(alloc, "check")
+        .about("Counts the parts of a circuit")
+        .arg(settings_option(alloc))?
+        .arg(bench_argument(alloc, "The circuit; - for standard input"))
+}
+
+fn whole_command<'a>(alloc: Global) -> Result<Command<'a>, AllocError> {
+    Command::new(alloc, "warp_sim")
+        .about("A simulator of gate-level circuits")
+        .subcommand_required(true)
+        .arg_required_else_help(true)
+        .subcommand(run_command(alloc)?)?
+        .subcommand(check_command(alloc)?)
+}
+
+/// Where the texts of a run stand: `-` is standard input with both, and then none is named.
+fn sources_of<'a>(bench: &'a str, stimulus: Option<&'a str>) -> Result<Sources<'a>, Failure<'a>>
+    ensures { result ≡ sources_of bench.entry stimulus.entry }
+{
+    if bench == "-" {
+        match stimulus {
+            None => Ok(Sources::Joined),
+            Some(_) => Err(Failure::StimulusNotExpected),
+        }
+    } else {
+        match stimulus {
+            None => Err(Failure::StimulusExpected),
+            Some(stimulus) => Ok(Sources::Apart { bench, stimulus }),
+        }
+    }
+}
+
+/// The failure of a line that lacks what its command requires. `clap` refuses such a line before.
+fn incomplete<'a>(alloc: Global) -> Failure<'a> {
+    Failure::line(alloc, "the line is incomplete\n")
+}
+
+fn run_request<'a>(alloc: Global, found: &ArgMatches<'a>) -> Result<Request<'a>, Failure<'a>> {
+    let Some(until) = found.get_one::<u64>("until") else {
+        return Err(incomplete(alloc));
+    };
+    let Some(bench) = found.get_str("BENCH") else {
+        return Err(incomplete(alloc));
+    };
+    if until > MOST_UNTIL {
+        return Err(incomplete(alloc));
+    }
+    let sources = sources_of(bench, found.get_str("STIMULUS"))?;
+    let settings = found.get_str("settings");
+    Ok(Request::Run(Run {
+        until,
+        settings,
+        sources,
+    }))
+}
+
+fn check_request<'a>(alloc: Global, found: &ArgMatches<'a>) -> Result<Request<'a>, Failure<'a>> {
+    let Some(bench) = found.get_str("BENCH") else {
+        return Err(incomplete(alloc));
+    };
+    let settings = found.get_str("settings");
+    Ok(Request::Check(Check { settings, bench }))
+}
+
+/// What `clap` says to a line: a request for help, or why the line is refused.
+fn told<'a>(alloc: Global, error: &Error) -> Result<Request<'a>, Failure<'a>> {
+    if error.kind() == ErrorKind::OutOfMemory {
+        return Err(Failure::Fault(Fault::Memory));
+    }
+    let text = error.to_string(alloc)?;
+    if error.use_stderr() {
+        Err(Failure::Line(text))
+    } else {
+        Ok(Request::Help(text))
+    }
+}
+
+/// Reads the words of a command line, the program's own name first.
+pub fn read_line<'a, S: AsStr>(alloc: Global, words: &'a [S]) -> Result<Request<'a>, Failure<'a>> {
+    let command = whole_command(alloc)?;
+    let matches = match command.try_get_matches_from(words) {
+        Ok(matches) => matches,
+        Err(error) => return told(alloc, &error),
+    };
+    match matches.subcommand() {
+        Some(("run", found)) => run_request(alloc, found),
+        Some(("check", found)) => check_request(alloc, found),
+        _ => Err(incomplete(alloc)),
+    }
+}

@@ -1,0 +1,60 @@
+//! The program: gate-level simulation from a command line to a value change dump.
+#![tactic(auto)]
+
+mod counts;
+mod dump;
+mod evaluate;
+mod failure;
+mod fault;
+mod fill;
+mod joined;
+mod line;
+mod outside;
+mod program;
+mod reply;
+mod request;
+mod simulate;
+#[cfg(test)]
+mod tests;
+mod texts;
+
+pub use failure::Failure;
+pub use fault::Fault;
+pub use joined::split_joined;
+pub use line::read_line;
+pub use outside::{Outside, read_all};
+pub use program::{execute, program, show};
+pub use reply::reply_to;
+pub use request::{Check, MOST_UNTIL, Request, Run, Sources};
+pub use simulate::{counts_text, simulate_text};
+use std::alloc::Global;
+use std::env;
+use std::io::ErrorKind;
+use std::process::ExitCode;
+pub use texts::{FetchFault, Texts};
+
+/// The words of the command line, the program's own name first.
+fn words_of(rt: &HostRuntime) -> Result<Vec<String>, Failure<'static>> {
+    let alloc: Global = rt.alloc();
+    match env::args(rt) {
+        Ok(words) => Ok(words.collect(alloc)?),
+        Err(error) => {
+            if error.kind() == ErrorKind::OutOfMemory {
+                return Err(Failure::Fault(Fault::Memory));
+            }
+            Err(Failure::line(alloc, "a word is not text\n"))
+        }
+    }
+}
+
+fn main(rt: HostRuntime) -> ExitCode {
+    let mut out = rt.stdout();
+    let mut err = rt.stderr();
+    let words = match words_of(&rt) {
+        Ok(words) => words,
+        Err(failure) => return ExitCode::from(show(&Err(failure), &mut out, &mut err)),
+    };
+    let mut texts = Outside { rt: &rt };
+    let status = program(rt.alloc(), words.as_slice(), &mut texts, &mut out, &mut err);
+    ExitCode::from(status)
+}

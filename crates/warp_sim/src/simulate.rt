@@ -1,0 +1,64 @@
+//! From three texts to a dump.
+ghost use Rattle.std.specs.Prelude.{◌≡◌, ◌≤◌};
+ghost use Rattle.warp_sim.specs.Answer.{IsCircuitAnswer, IsAnswer, IsCounted};
+
+use crate::dump::dump_of;
+use crate::fault::Fault;
+use gate_netlist::{Circuit, Counts, read_bench};
+use gate_vcd::read_stimulus;
+use std::alloc::Global;
+
+/// The circuit of a bench text and a settings text.
+fn circuit_of(alloc: Global, bench: &[u8], settings: &[u8]) -> Result<Circuit, Fault>
+    ensures { IsCircuitAnswer bench.now settings.now result }
+{
+    let bench = match read_bench(alloc, bench) {
+        Ok(bench) => bench,
+        Err(fault) => return Err(Fault::from(fault)),
+    };
+    match Circuit::of(alloc, bench, settings) {
+        Ok(circuit) => Ok(circuit),
+        Err(fault) => Err(Fault::from(fault)),
+    }
+}
+
+/// The dump of every net of a circuit, from time 0 to `until` (at most 10^12, in units of the stimulus's timescale):
+/// the circuit of a bench text and a settings text, under a stimulus.
+///
+/// The texts are judged in this order, and the first that is refused is answered, with its fault. Want of memory in
+/// any part is `Fault::Memory`, and no other fault carries it.
+#[tactic(auto, unfolding(crate::specs::Answer::IsAnswer))]
+pub fn simulate_text(
+    alloc: Global,
+    bench: &[u8],
+    settings: &[u8],
+    stimulus: &[u8],
+    until: u64,
+) -> Result<Vec<u8>, Fault>
+    requires { until ≤ 1000000000000 }
+    ensures { IsAnswer bench.now settings.now stimulus.now until result }
+{
+    let circuit = match circuit_of(alloc, bench, settings) {
+        Ok(circuit) => circuit,
+        Err(fault) => return Err(fault),
+    };
+    let stimulus = match read_stimulus(alloc, stimulus, &circuit) {
+        Ok(stimulus) => stimulus,
+        Err(fault) => return Err(Fault::from(fault)),
+    };
+    match dump_of(alloc, &circuit, &stimulus, until) {
+        Ok(dump) => Ok(dump),
+        Err(_) => Err(Fault::Memory),
+    }
+}
+
+/// How many parts a circuit has.
+#[tactic(auto, unfolding(crate::specs::Answer::IsCounted))]
+pub fn counts_text(alloc: Global, bench: &[u8], settings: &[u8]) -> Result<Counts, Fault>
+    ensures { IsCounted bench.now settings.now result }
+{
+    match circuit_of(alloc, bench, settings) {
+        Ok(circuit) => Ok(circuit.counts()),
+        Err(fault) => Err(fault),
+    }
+}
