@@ -46,8 +46,3 @@ without_index text = if ends_with nat_eq text (codes "[0:0]") then Some (take (l
 -- the code, where the names are the same
 abbrev pub code_if : Bool → List ℕ → Option (List ℕ)
 code_if b code = if b then Some code else None
-
--- the code of a variable under the name of a net: first by its whole reference text, then by that without an index
-abbrev pub code_noted : Option (List ℕ) → List ℕ → Option (List ℕ) → List ℕ → List ℕ → Option (List ℕ)
-code_noted old reference None code name = or_else old (code_if (bytes_eq name reference) code)
-code_noted old reference (Some short) code name = or_else (or_else old (code_if (bytes_eq name reference) code)) (code_if (bytes_eq name short) code)
