@@ -1,12 +1,12 @@
 -- Laws of the declarations, a command at a time.
-use Rattle.std.proofs.Common.{◌≡◌, ℕ, zero, suc, ◌+◌, ◌-◌, ◌<◌, ◌≤◌, Bool, true, false, not, cond, ◌⊎◌, inl, inr, List, [], ◌∷◌, ◌++◌, map, length, take, Option, Some, None, option_map, unwrap_or, if◌then◌else◌, Result, Ok, Err, Bor, refl, ap, sym, ◌∙◌, subst, arith}
-use Rattle.std.proofs.lemmas.List.{map-append, length-map, append_assoc, take-map}
+use Rattle.std.proofs.Common.{◌≡◌, ℕ, ◌-◌, true, false, cond, inl, inr, List, [], ◌∷◌, ◌++◌, map, length, take, Option, Some, None, option_map, unwrap_or, if◌then◌else◌, Result, Ok, Err, refl, ap, sym, ◌∙◌, arith}
+use Rattle.std.proofs.lemmas.List.{length-map, append_assoc, take-map}
 use Rattle.std.proofs.lemmas.Grind.{common_steps}
 use Rattle.gate_vcd.specs.declared.fault.StimFault.{StimFault}
 use Rattle.gate_vcd.specs.declared.fault.StimCause.TheVariants as causes
 use Rattle.gate_vcd.specs.Tokens.{Token, is_end, fault_at}
 use Rattle.gate_vcd.specs.Reading.{◌>>=◌, or_fault, Fails}
-use Rattle.gate_vcd.specs.Declarations.{Header, Command, declared, declaring, keyword_of, opens_command, ends_declarations}
+use Rattle.gate_vcd.specs.Declarations.{Header, declared, declaring, keyword_of, opens_command, ends_declarations}
 use Rattle.gate_vcd.specs.Commands.{until_end, rest_of_command}
 use Rattle.gate_vcd.specs.Scopes.{along, AreAlong}
 

@@ -34,4 +34,5 @@ early cs c d some h follows = omega (arith, end_time-last 0 cs d some, follows.0
 pub later : (cs : List Change) (c d : Change) (b : Bool) → 0 < length cs → (last_of cs d).time < c.time → (IsTrue b ↔ (c.value ≢ (last_of cs d).value)) → IsTrue b ↔ Follows cs c
 later cs c d b some h other = (
   λ t. (omega (arith, end_time-last 0 cs d some), rw (last_value-last X cs d some) (other.0 t)),
-  λ follows. other.1 (rw (last_value-last X cs d some) at follows.1))
+  λ follows. other.1 (rw (last_value-last X cs d some) at follows.1),
+)

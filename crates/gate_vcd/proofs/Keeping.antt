@@ -1,8 +1,8 @@
 -- The lists of changes, a change at a time.
-use Rattle.std.proofs.Common.{◌≡◌, ◌≢◌, ℕ, zero, suc, ◌+◌, ◌-◌, ◌<◌, ◌≤◌, Bool, true, false, not, cond, nat_le, nat_lt, nat_eq, List, [], ◌∷◌, ◌++◌, length, map, filter, set, get_or, replicate, Option, Some, None, Result, Ok, Err, Vec, Global, Bor, refl, ap, sym, ◌∙◌, subst, arith, get_or-set_same, get_or-set_other, length-set, add-one, ◌⊎◌, inl, inr}
+use Rattle.std.proofs.Common.{◌≡◌, ◌≢◌, ℕ, zero, suc, ◌+◌, ◌<◌, ◌≤◌, Bool, true, false, not, cond, nat_lt, List, [], ◌∷◌, ◌++◌, length, map, filter, set, get_or, replicate, Some, None, Vec, Global, Bor, refl, ap, sym, ◌∙◌, arith, get_or-set_same, get_or-set_other, length-set, add-one, inl, inr}
 use Rattle.std.proofs.lemmas.Bool.{cases_eq}
 use Rattle.std.proofs.lemmas.Option.{same_Some}
-use Rattle.std.specs.List.{AllByRecursion, list_any, position, position_or_len, prefix_len}
+use Rattle.std.specs.List.{AllByRecursion, position, prefix_len}
 use Rattle.std.specs.Str.{bytes_eq}
 use Rattle.std.proofs.lemmas.Bool.Decides.{nat_tests}
 use Rattle.std.proofs.lemmas.Grind.{common_steps}
@@ -15,7 +15,7 @@ use Rattle.gate_values.specs.declared.logic.Logic.TheVariants.{X}
 use Rattle.gate_values.specs.declared.logic.Change.{Change}
 use Rattle.gate_values.specs.Changes.{changes, latest}
 use Rattle.gate_vcd.specs.Changes.{Event, changes_with, change_of, value_with, last_stamp}
-use Rattle.gate_vcd.specs.Items.{Codes, AreKept, number_of, is_known, settled}
+use Rattle.gate_vcd.specs.Items.{Codes, AreKept, number_of, settled}
 use Rattle.gate_vcd.specs.Lists.{lists_in}
 use Rattle.gate_vcd.proofs.Settling.{AreUpTo, settled-changes}
 

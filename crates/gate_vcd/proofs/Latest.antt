@@ -1,8 +1,7 @@
 -- The value that changes at rising times leave.
-use Rattle.std.proofs.Common.{◌≡◌, ℕ, zero, suc, ◌+◌, ◌-◌, ◌<◌, ◌≤◌, Bool, true, false, not, IsTrue, cond, nat_le, List, [], ◌∷◌, ◌++◌, length, take, drop, get_or, slice_index_or, map, Option, Some, None, is_some, option_map, refl, ap, sym, ◌∙◌, arith, length-append, take-append-drop, add-one, length-drop, inl, inr}
+use Rattle.std.proofs.Common.{◌≡◌, ℕ, suc, ◌+◌, ◌-◌, ◌<◌, ◌≤◌, Bool, true, false, not, IsTrue, cond, nat_le, List, [], ◌∷◌, ◌++◌, length, take, drop, get_or, map, Option, Some, None, is_some, option_map, refl, ap, sym, ◌∙◌, arith, take-append-drop, length-drop, inl, inr}
 use Rattle.std.proofs.lemmas.Bool.{cases_eq}
 use Rattle.std.specs.Bool.{beq}
-use Rattle.std.proofs.lemmas.Grind.{common_steps}
 use Rattle.std.proofs.lemmas.Bool.Decides.{nat_tests}
 use Rattle.std.proofs.lemmas.List.{get_or-map, length-map, get_or-drop, same_lists}
 use Rattle.gate_netlist.specs.Circuit.{is_input}

@@ -1,6 +1,6 @@
 -- What is kept of a stimulus text means what the text does.
-use Rattle.std.proofs.Common.{◌≡◌, ◌≢◌, ◌⊎◌, inl, inr, ℕ, zero, suc, ◌+◌, ◌-◌, ◌<◌, ◌≤◌, Bool, true, false, not, cond, ◌||◌, ◌&&◌, nat_le, nat_lt, List, [], ◌∷◌, ◌++◌, length, map, get_or, Option, Some, None, IfSome, option_map, option_and_then, unwrap_or, is_some, Result, Ok, Err, Vec, Global, Bor, refl, ap, sym, ◌∙◌, subst, arith, length-append, add-one}
-use Rattle.std.specs.List.{All, AllByRecursion, list_any, find, position, prefix_len}
+use Rattle.std.proofs.Common.{◌≡◌, ◌⊎◌, inl, inr, ℕ, zero, suc, ◌+◌, ◌<◌, ◌≤◌, Bool, true, false, not, cond, ◌||◌, nat_le, nat_lt, List, [], ◌∷◌, ◌++◌, length, get_or, Option, Some, None, IfSome, option_map, option_and_then, unwrap_or, is_some, Result, Ok, Err, Vec, Global, Bor, refl, ap, sym, ◌∙◌, subst, arith, length-append, add-one}
+use Rattle.std.specs.List.{list_any, find, prefix_len}
 use Rattle.std.specs.Str.{bytes_eq}
 use Rattle.std.proofs.lemmas.Bool.{cases_eq}
 use Rattle.std.proofs.lemmas.Bool.Decides.{nat_tests}
@@ -10,7 +10,7 @@ use Rattle.std.proofs.lemmas.Option.{same_Some}
 use Rattle.gate_values.specs.declared.logic.Logic.{Logic}
 use Rattle.gate_values.specs.declared.logic.Logic.TheVariants.{X}
 use Rattle.gate_values.specs.declared.logic.Change.{Change}
-use Rattle.gate_values.specs.Changes.{changes, change_at, just_before, latest, last_value, same}
+use Rattle.gate_values.specs.Changes.{changes, change_at, just_before, latest, same}
 use Rattle.gate_values.proofs.ChangeLists.{same_is}
 use Rattle.gate_netlist.specs.Circuit.{Design, nets_of, driver_of, name_of, is_input}
 use Rattle.gate_vcd.specs.declared.fault.StimFault.{StimFault}
@@ -19,7 +19,7 @@ use Rattle.std.proofs.lemmas.Slice.Eq.{bytes_eq-Decides}
 use Rattle.gate_vcd.specs.Tokens.{Token, tokens_of}
 use Rattle.gate_vcd.specs.Reading.{◌>>=◌, Fails}
 use Rattle.gate_vcd.specs.Declarations.{Header, Variable, no_header, declaring}
-use Rattle.gate_vcd.specs.Changes.{Item, stamp, change, wrong, Event, items, nothing, events_from, event_at, stamped, changes_with, value_with, last_stamp}
+use Rattle.gate_vcd.specs.Changes.{Item, stamp, change, wrong, Event, items, nothing, events_from, stamped, changes_with, value_with, last_stamp}
 use Rattle.gate_vcd.specs.Items.{Codes, AreKept, number_of, is_known}
 use Rattle.gate_vcd.specs.declared.variable.Variable.{Variable as Held}
 use Rattle.gate_vcd.specs.Commands.{variables}
@@ -28,9 +28,9 @@ use Rattle.gate_vcd.specs.Lists.{lists_in, IsRising}
 use Rattle.gate_vcd.specs.Given.{Given, Fits, changes_of, value_at}
 use Rattle.gate_vcd.specs.Held.{given_by, AreLaidOut}
 use Rattle.gate_vcd.specs.Scalars.{numbers_of}
-use Rattle.gate_vcd.specs.Stimulus.{Reading, reading_of, has_code, signal, value_of_code, Means}
+use Rattle.gate_vcd.specs.Stimulus.{reading_of, has_code, value_of_code, Means}
 use Rattle.gate_vcd.proofs.DeclarationLaws.{fails_then}
-use Rattle.gate_vcd.proofs.Settling.{AreUpTo, AreBelow, latest-flat, changes-below}
+use Rattle.gate_vcd.proofs.Settling.{AreBelow, latest-flat, changes-below}
 use Rattle.gate_vcd.proofs.Keeping.{up_to_with, past-later, number_within, changes-none, latest-none}
 use Rattle.gate_vcd.proofs.Latest.{latest-split, fits-all, some-mapped}
 use Rattle.std.proofs.Math.Seq.{get_or-append_seam}

@@ -1,7 +1,7 @@
 -- Laws of the tokens of a text.
-use Rattle.std.proofs.Common.{◌≡◌, ℕ, zero, suc, ◌+◌, ◌<◌, ◌≤◌, Bool, true, false, not, cond, ◌||◌, ◌&&◌, nat_le, nat_eq, List, [], ◌∷◌, length, take, drop, refl, ap, sym, ◌∙◌, subst, arith}
+use Rattle.std.proofs.Common.{◌≡◌, ℕ, suc, ◌+◌, ◌<◌, Bool, true, false, not, cond, List, [], ◌∷◌, take, drop, refl, ◌∙◌, arith}
 use Rattle.std.specs.List.{prefix_len}
-use Rattle.gate_vcd.specs.Tokens.{Token, is_space, with_byte, begins_with_token, tokens_from}
+use Rattle.gate_vcd.specs.Tokens.{is_space, with_byte, begins_with_token, tokens_from}
 
 one_more : (n : ℕ) → 1 + n ≡ suc n
 one_more n = omega arith

@@ -1,5 +1,5 @@
 -- A command of the declarations, whole.
-use Rattle.std.specs.Prelude.{ℕ, if◌then◌else◌, List, [], ◌∷◌, Option, Some, None, option_map, Result, Ok, Err, map}
+use Rattle.std.specs.Prelude.{ℕ, if◌then◌else◌, List, [], ◌∷◌, Option, Some, None, option_map, Result, map}
 use Rattle.gate_vcd.specs.declared.fault.StimFault.{StimFault}
 use Rattle.gate_vcd.specs.declared.fault.StimCause.TheVariants as causes
 use Rattle.gate_vcd.specs.declared.variable.Variable.{Variable as Held}

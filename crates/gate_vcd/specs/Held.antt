@@ -1,5 +1,5 @@
 -- What contracts see of a stimulus.
-use Rattle.std.specs.Prelude.{ℕ, ◌<◌, List, [], ◌∷◌, map, length, get_or, Option, option_map, IfSome, Vec}
+use Rattle.std.specs.Prelude.{ℕ, ◌<◌, List, [], map, length, get_or, Option, option_map, IfSome, Vec}
 use Rattle.std.specs.List.{All}
 use Rattle.std.specs.declared.alloc.Global.{Global}
 use Rattle.gate_values.specs.declared.logic.Change.{Change}

@@ -6,12 +6,10 @@ use Rattle.std.specs.Str.{bytes_eq}
 use Rattle.std.specs.declared.hash.FoldHasher.{FoldHasher}
 use Rattle.std.specs.declared.hash.BuildHasherDefault.{BuildHasherDefault}
 use Rattle.indexmap.specs.IndexMap.{IndexMap, get_by}
-use Rattle.gate_netlist.specs.Circuit.{Design}
 use Rattle.gate_vcd.specs.declared.fault.StimFault.{StimFault}
-use Rattle.gate_vcd.specs.Reading.{Fails}
 use Rattle.gate_vcd.specs.Declarations.{Variable}
 use Rattle.gate_vcd.specs.Items.{Codes, number_of}
-use Rattle.gate_vcd.specs.Inputs.{is_scalar_of, scalar_code}
+use Rattle.gate_vcd.specs.Inputs.{scalar_code}
 
 -- codes by the names of the nets that they are scalars of
 abbrev pub Scalars : Type 0
@@ -48,8 +46,3 @@ without_index text = if ends_with nat_eq text (codes "[0:0]") then Some (take (l
 -- the code, where the names are the same
 abbrev pub code_if : Bool → List ℕ → Option (List ℕ)
 code_if b code = if b then Some code else None
-
--- the code of a variable under the name of a net: first by its whole reference text, then by that without an index
-abbrev pub code_noted : Option (List ℕ) → List ℕ → Option (List ℕ) → List ℕ → List ℕ → Option (List ℕ)
-code_noted old reference None code name = or_else old (code_if (bytes_eq name reference) code)
-code_noted old reference (Some short) code name = or_else (or_else old (code_if (bytes_eq name reference) code)) (code_if (bytes_eq name short) code)

@@ -25,6 +25,8 @@ mod scopes;
 mod sink;
 mod sort;
 mod stimulus;
+#[cfg(test)]
+mod stimulus_tests;
 mod timescale;
 mod variable;
 mod waves;

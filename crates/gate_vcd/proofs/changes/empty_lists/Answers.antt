@@ -1,4 +1,4 @@
-use Rattle.std.proofs.Common.{◌≡◌, ◌∙◌, arith, ℕ}
+use Rattle.std.proofs.Common.{◌≡◌, arith}
 use Rattle.gate_vcd.proofs.Keeping.{one_list_more, all_lists}
 use Rattle.gate_vcd.proofs.changes.empty_lists.Goals as goal
 

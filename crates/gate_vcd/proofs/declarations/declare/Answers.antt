@@ -1,8 +1,7 @@
-use Rattle.std.proofs.Common.{◌≡◌, ◌∙◌, ◌∷◌, ◌++◌, [], ℕ, List, Option, option_map, Bor, sym, refl, subst, get_or, take, length, ◌-◌}
+use Rattle.std.proofs.Common.{◌≡◌, ◌∙◌, ◌∷◌, ◌++◌, [], ℕ, List, option_map, Bor, sym, refl, get_or, take, length, ◌-◌}
 use Rattle.std.proofs.lemmas.List.{map-append}
 use Rattle.gate_vcd.specs.declared.keyword.Keyword.TheVariants as words
 use Rattle.gate_vcd.specs.Declarations.{keyword_of, inner_path}
-use Rattle.gate_vcd.specs.Scopes.{AreAlong}
 use Rattle.gate_vcd.specs.Commands.{variable}
 use Rattle.gate_vcd.specs.Words.{texts}
 use Rattle.gate_vcd.proofs.DeclarationLaws.{closed}

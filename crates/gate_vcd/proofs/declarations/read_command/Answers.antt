@@ -1,11 +1,6 @@
-use Rattle.std.proofs.Common.{◌≡◌, ◌∙◌, refl, sym, ap, true, false, inr, ℕ, List, Bor, option_map, Ok, Err, Result}
+use Rattle.std.proofs.Common.{◌∙◌, refl, sym, ap, inr, Err}
 use Rattle.std.proofs.lemmas.Result.{err_from_is_err_and}
-use Rattle.gate_vcd.specs.declared.fault.StimFault.{StimFault}
-use Rattle.gate_vcd.specs.Tokens.{Token}
-use Rattle.gate_vcd.specs.Reading.{Fails}
 use Rattle.gate_vcd.specs.Words.{token_of, texts}
-use Rattle.gate_vcd.specs.Declarations.{Header, declared, keyword_of, opens_command}
-use Rattle.gate_vcd.specs.Commands.{rest_of_command}
 use Rattle.gate_vcd.proofs.DeclarationLaws.{declaring-bad, command_fails, effect_fails, command_goes_on}
 use Rattle.gate_vcd.proofs.declarations.read_command.Goals as goal
 

@@ -1,4 +1,4 @@
-use Rattle.std.proofs.Common.{◌≡◌, ◌∙◌, refl, sym, ap, None, ℕ, List, Bor, option_map}
+use Rattle.std.proofs.Common.{ap, ℕ, List, Bor, option_map}
 use Rattle.gate_vcd.specs.Declarations.{no_header}
 use Rattle.gate_vcd.specs.Headers.{asked_of}
 use Rattle.gate_vcd.proofs.DeclarationLaws.{declaring-end}

@@ -1,4 +1,4 @@
-use Rattle.std.proofs.Common.{◌≡◌, ℕ, List, None, length, option_map, Bor}
+use Rattle.std.proofs.Common.{◌≡◌, None, length}
 use Rattle.gate_vcd.specs.Declarations.{Header, declaring, no_header}
 use Rattle.gate_vcd.specs.Headers.{IsHeader, asked_of}
 use Rattle.gate_vcd.proofs.declarations.read_declarations.Given as goal

@@ -1,4 +1,3 @@
-use Rattle.std.proofs.Common.{◌≡◌}
 use Rattle.gate_vcd.specs.Items.{is_known}
 use Rattle.gate_vcd.proofs.InputLaws.{more_codes}
 use Rattle.gate_vcd.proofs.inputs.codes_of.Goals as goal

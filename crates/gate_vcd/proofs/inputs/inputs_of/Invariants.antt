@@ -1,4 +1,3 @@
-use Rattle.std.proofs.Common.{◌≡◌}
 use Rattle.gate_vcd.specs.Commands.{variables}
 use Rattle.gate_vcd.specs.Inputs.{codes_below}
 use Rattle.gate_vcd.specs.Scalars.{AreNumbers}

@@ -1,4 +1,4 @@
-use Rattle.std.proofs.Common.{◌∙◌, sym, codes, refl}
+use Rattle.std.proofs.Common.{◌∙◌, codes, refl}
 use Rattle.gate_vcd.proofs.ScopeLaws.{begins-append}
 use Rattle.gate_vcd.proofs.inputs.is_indexed.Goals as goal
 

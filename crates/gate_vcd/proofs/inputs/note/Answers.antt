@@ -1,4 +1,4 @@
-use Rattle.std.proofs.Common.{◌≡◌, ◌∙◌, sym, ℕ, List, Bor}
+use Rattle.std.proofs.Common.{◌∙◌, sym, ℕ, List, Bor}
 use Rattle.std.specs.Str.{bytes_eq}
 use Rattle.indexmap.specs.IndexMap.{get_by}
 use Rattle.gate_vcd.proofs.InputLaws.{noted}

@@ -1,4 +1,4 @@
-use Rattle.std.proofs.Common.{◌≡◌, ◌∙◌, sym, ap, refl, true, Some}
+use Rattle.std.proofs.Common.{◌≡◌, ◌∙◌, sym, refl, true, Some}
 use Rattle.gate_netlist.specs.Circuit.{driver_of, is_input}
 use Rattle.gate_vcd.proofs.inputs.number_of_net.Goals as goal
 

@@ -1,6 +1,5 @@
-use Rattle.std.proofs.Common.{◌≡◌, ◌*◌, ◌+◌, ◌∙◌, sym, drop, length, arith}
+use Rattle.std.proofs.Common.{◌*◌, ◌+◌, ◌∙◌, sym, drop, arith}
 use Rattle.std.proofs.lemmas.List.{drop_all}
-use Rattle.gate_vcd.specs.Numbers.{number, number_after}
 use Rattle.gate_vcd.proofs.NumberLaws.{number-drop, too_large, all_read}
 use Rattle.gate_vcd.proofs.numbers.number_up_to.Goals as goal
 

@@ -1,13 +1,11 @@
-use Rattle.std.proofs.Common.{◌≡◌, ◌∙◌, sym, ap, refl, None, Ok, Result, ℕ, List, Bor, option_map}
+use Rattle.std.proofs.Common.{◌≡◌, ◌∙◌, sym, Ok, Result, List}
 use Rattle.std.proofs.lemmas.Result.{err_from_is_err_and}
-use Rattle.gate_netlist.specs.Circuit.{nets_of}
 use Rattle.gate_vcd.specs.declared.fault.StimFault.{StimFault}
-use Rattle.gate_vcd.specs.Tokens.{Token, tokens_of}
+use Rattle.gate_vcd.specs.Tokens.{Token}
 use Rattle.gate_vcd.specs.Reading.{Fails}
-use Rattle.gate_vcd.specs.Declarations.{Header, declaring, no_header}
-use Rattle.gate_vcd.specs.Changes.{items, nothing, events_from}
+use Rattle.gate_vcd.specs.Declarations.{Header}
+use Rattle.gate_vcd.specs.Changes.{items, nothing}
 use Rattle.gate_vcd.specs.Items.{is_known}
-use Rattle.gate_vcd.specs.Inputs.{codes_below}
 use Rattle.gate_vcd.specs.Stimulus.{has_code}
 use Rattle.gate_vcd.proofs.Meaning.{declared-fails, changes-fail, inputs-fail, reads, means, laid, declared-read, known-codes, events-fail, events-read, below-same}
 use Rattle.gate_vcd.proofs.reading.read_stimulus.Goals as goal

@@ -1,4 +1,3 @@
-use Rattle.std.proofs.Common.{◌∙◌, ℕ, List, Bor, option_map}
 use Rattle.gate_vcd.proofs.ScopeLaws.{counted}
 use Rattle.gate_vcd.proofs.scopes.Scopes.are_counted.Goals as goal
 

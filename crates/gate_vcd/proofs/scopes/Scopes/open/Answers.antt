@@ -1,4 +1,4 @@
-use Rattle.std.proofs.Common.{◌∙◌, ℕ, List, Bor, option_map}
+use Rattle.std.proofs.Common.{ℕ, List, Bor, option_map}
 use Rattle.gate_vcd.proofs.ScopeLaws.{opened}
 use Rattle.gate_vcd.proofs.scopes.Scopes.open.Goals as goal
 

@@ -1,4 +1,4 @@
-use Rattle.std.proofs.Common.{◌≡◌, ◌<◌, arith}
+use Rattle.std.proofs.Common.{◌<◌, arith}
 use Rattle.gate_vcd.proofs.TokenLaws.{next_none, next_word}
 use Rattle.gate_vcd.proofs.words.Words.next.Goals as goal
 
