@@ -13,6 +13,8 @@ mod reading;
 mod settings;
 mod statement;
 mod token;
+#[cfg(test)]
+mod settings_tests;
 
 pub use bench::{Bench, Definition};
 pub use circuit::Circuit;
