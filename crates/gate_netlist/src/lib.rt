@@ -11,10 +11,10 @@ mod lines;
 mod nets;
 mod reading;
 mod settings;
-mod statement;
-mod token;
 #[cfg(test)]
 mod settings_tests;
+mod statement;
+mod token;
 
 pub use bench::{Bench, Definition};
 pub use circuit::Circuit;

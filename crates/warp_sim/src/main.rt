@@ -3,6 +3,8 @@
 
 mod counts;
 mod dump;
+#[cfg(test)]
+mod dump_tests;
 mod evaluate;
 mod failure;
 mod fault;
@@ -14,8 +16,6 @@ mod program;
 mod reply;
 mod request;
 mod simulate;
-#[cfg(test)]
-mod dump_tests;
 #[cfg(test)]
 mod tests;
 mod texts;
