@@ -1,5 +1,5 @@
 -- The names of the causes of refusal.
-use Rattle.std.specs.Prelude.{ℕ, List, codes}
+use Rattle.std.specs.Prelude.{◌≡◌, ℕ, List, codes}
 use Rattle.gate_netlist.specs.declared.fault.BenchCause.{BenchCause}
 use Rattle.gate_netlist.specs.declared.fault.BenchCause.TheVariants as bench
 use Rattle.gate_netlist.specs.declared.fault.BenchFault.{BenchFault}
@@ -33,3 +33,7 @@ out_of_memory = record { line = 0; cause = bench.Memory }
 abbrev pub fault_at : ℕ → BenchCause → BenchFault
 fault_at line bench.Memory = out_of_memory
 fault_at line cause = record { line = line; cause = cause }
+
+-- want of memory is at no line
+abbrev pub MemoryHasNoLine : BenchFault → Type 0
+MemoryHasNoLine fault = fault.cause ≡ bench.Memory → fault ≡ out_of_memory

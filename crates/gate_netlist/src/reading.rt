@@ -1,12 +1,11 @@
-ghost use Rattle.std.specs.Prelude.{◌≡◌, ◌+◌, ◌<◌, ◌≤◌, ◌++◌, ◌∷◌, [], length, map, not, position, Some, IfOk, OnOk, OnErr, option_to_list, option_map};
+ghost use Rattle.std.specs.Prelude.{◌≡◌, ◌+◌, ◌<◌, ◌≤◌, ◌++◌, ◌∷◌, [], length, map, not, position, Some, IfOk, IfErr, OnOk, OnErr, option_to_list, option_map};
 ghost use Rattle.std.specs.List.{list_all, filter_map};
 ghost use Rattle.gate_netlist.specs.declared.fault.BenchCause.TheVariants as cause;
-ghost use Rattle.gate_netlist.specs.Faults.{out_of_memory};
+ghost use Rattle.gate_netlist.specs.Faults.{out_of_memory, fault_at, MemoryHasNoLine};
 ghost use Rattle.gate_netlist.specs.Gives.{Gives};
 ghost use Rattle.gate_netlist.specs.Lines.{lines_of};
 ghost use Rattle.gate_netlist.specs.Meant.{meant};
 ghost use Rattle.gate_netlist.specs.Keys.{names_in};
-ghost use Rattle.gate_netlist.specs.Faults.{fault_at};
 ghost use Rattle.gate_netlist.specs.Bench.{net_of, nets_of, refusal, unless, stated, is_among, uses_other, number_of, definition_of, output_of, each_once, accepted, bench_of};
 
 use crate::bench::{Bench, Definition};
@@ -98,6 +97,7 @@ fn statements(alloc: Global, text: &[u8]) -> Result<(Names, Vec<Statement<'_>>),
     ensures gives { Gives out_of_memory (λ x. map meant x.1.items) result (accepted [] 1 (lines_of text.now)) }
     ensures names { IfOk result (λ x. names_in x.0 ≡ nets_of (map meant x.1.items)) }
     ensures within { IfOk result (λ x. length (names_in x.0) ≤ 999999) }
+    ensures memory { IfErr result MemoryHasNoLine }
 {
     let mut names = IndexSet::new(alloc);
     let mut statements = Vec::new(alloc);
@@ -252,7 +252,8 @@ fn each_once(alloc: Global, numbers: &[u32]) -> Result<Vec<u32>, AllocError>
 /// first line that uses a net which no line defines. Want of memory is answered as soon as a growth is refused, with line 0.
 #[tactic(auto, unfolding(crate::specs::Bench::bench_of))]
 pub fn read_bench(alloc: Global, text: &[u8]) -> Result<Bench, BenchFault>
-    ensures { Gives out_of_memory (λ bench. bench) result (bench_of text.now) }
+    ensures exact { Gives out_of_memory (λ bench. bench) result (bench_of text.now) }
+    ensures memory { IfErr result MemoryHasNoLine }
 {
     let (names, statements) = statements(alloc, text)?;
     if let Some(line) = undriven(&names, &statements) {

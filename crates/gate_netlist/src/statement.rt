@@ -146,6 +146,7 @@ fn named<'a>(alloc: Global, tokens: &[Token<'a>]) -> Result<Option<Vec<&'a str>>
         if !has_comma(after) {
             return Ok(None);
         }
+        // A name and its comma.
         at += 2;
     }
     Ok(None)
