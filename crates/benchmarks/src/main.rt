@@ -8,12 +8,12 @@
 mod reading;
 mod texts;
 mod timer;
-mod writing;
+mod waves;
 
 use anyhow::{Result, bail};
 use std::rt::Clock;
 
-const NAMES: [&str; 9] = [
+const NAMES: [&str; 8] = [
     "bench",
     "bench-refused",
     "circuit",
@@ -22,7 +22,6 @@ const NAMES: [&str; 9] = [
     "stimulus-shared",
     "waves-by-net",
     "waves-by-time",
-    "write",
 ];
 
 fn run_one<R: Print + Eprint + Clock + AllocGlobal>(rt: &R, name: &str, size: u32) -> Result<()> {
@@ -33,9 +32,8 @@ fn run_one<R: Print + Eprint + Clock + AllocGlobal>(rt: &R, name: &str, size: u3
         "stimulus" => reading::stimulus(rt, size)?,
         "stimulus-codes" => reading::stimulus_codes(rt, size)?,
         "stimulus-shared" => reading::stimulus_shared(rt, size)?,
-        "waves-by-net" => writing::waves_by_net(rt, size)?,
-        "waves-by-time" => writing::waves_by_time(rt, size)?,
-        "write" => writing::write(rt, size)?,
+        "waves-by-net" => waves::waves_by_net(rt, size)?,
+        "waves-by-time" => waves::waves_by_time(rt, size)?,
         _ => bail!("no benchmark is called {name}"),
     };
     println!(rt; "{name} {size} {checksum}")?;

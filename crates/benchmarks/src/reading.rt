@@ -49,8 +49,7 @@ fn read<R: Eprint + Clock + AllocGlobal>(
     size: u32,
     inputs: u32,
     is_shared: bool,
-) -> Result<u64>
-{
+) -> Result<u64> {
     let bench = texts::inputs(rt.alloc(), inputs)?;
     let bench = read_bench(rt.alloc(), bench.as_bytes())?;
     let circuit = Circuit::of(rt.alloc(), bench, b"")?;

@@ -54,12 +54,15 @@ pub fn stimulus(
     inputs: u32,
     changes: u32,
     is_shared: bool,
-) -> Result<String, AllocError>
-{
+) -> Result<String, AllocError> {
     let mut text = String::new(alloc);
     push_variables(&mut text, inputs, is_shared)?;
     for time in 0..changes {
-        let code = if is_shared || inputs == 0 { 0 } else { time % inputs };
+        let code = if is_shared || inputs == 0 {
+            0
+        } else {
+            time % inputs
+        };
         let value = (time / 3) % 2;
         writeln!(text, "#{time}\n{value}c{code}")?;
     }
