@@ -5,15 +5,18 @@
 //! Peak memory is measured from outside (`bench/measure`).
 #![tactic(auto)]
 
+ghost use Rattle.std.specs.Prelude.{◌<◌};
+
 mod reading;
 mod texts;
 mod timer;
 mod waves;
+mod writing;
 
 use anyhow::{Result, bail};
 use std::rt::Clock;
 
-const NAMES: [&str; 8] = [
+const NAMES: [&str; 9] = [
     "bench",
     "bench-refused",
     "circuit",
@@ -22,9 +25,12 @@ const NAMES: [&str; 8] = [
     "stimulus-shared",
     "waves-by-net",
     "waves-by-time",
+    "write",
 ];
 
-fn run_one<R: Print + Eprint + Clock + AllocGlobal>(rt: &R, name: &str, size: u32) -> Result<()> {
+fn run_one<R: Print + Eprint + Clock + AllocGlobal>(rt: &R, name: &str, size: u32) -> Result<()>
+    requires { 0 < size }
+{
     let checksum = match name {
         "bench" => reading::bench(rt, size)?,
         "bench-refused" => reading::bench_refused(rt, size)?,
@@ -34,6 +40,7 @@ fn run_one<R: Print + Eprint + Clock + AllocGlobal>(rt: &R, name: &str, size: u3
         "stimulus-shared" => reading::stimulus_shared(rt, size)?,
         "waves-by-net" => waves::waves_by_net(rt, size)?,
         "waves-by-time" => waves::waves_by_time(rt, size)?,
+        "write" => writing::write(rt, size)?,
         _ => bail!("no benchmark is called {name}"),
     };
     println!(rt; "{name} {size} {checksum}")?;

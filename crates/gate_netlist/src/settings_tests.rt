@@ -1,4 +1,5 @@
-use crate::{Bench, Circuit, Counts, Cut, SettingsFault, read_bench};
+use crate::{Bench, Circuit, Counts, Cut, Driver, SettingsFault, read_bench};
+use gate_values::Kind;
 use std::alloc::Global;
 use std::test::Fail;
 
@@ -24,6 +25,37 @@ fn fault_of(alloc: Global, settings: &str) -> Option<SettingsFault> {
 fn clock_of(alloc: Global, bench: &str, settings: &str) -> Result<Option<u32>, SettingsFault> {
     let circuit = circuit_of(alloc, bench, settings)?;
     Ok(circuit.clock())
+}
+
+fn net_of(alloc: Global, bench: &str, name: &str) -> Result<Option<u32>, SettingsFault> {
+    let circuit = circuit_of(alloc, bench, "")?;
+    Ok(circuit.find(name))
+}
+
+/// Whether a net has this name and is a gate of this kind over these nets.
+fn is_gate(
+    alloc: Global,
+    net: u32,
+    name: &str,
+    kind: Kind,
+    inputs: &[u32],
+) -> Result<bool, SettingsFault> {
+    let circuit = circuit_of(alloc, S27, "")?;
+    if net >= circuit.nets() || circuit.name(net) != name {
+        return Ok(false);
+    }
+    match circuit.driver(net) {
+        Driver::Gate {
+            kind: found,
+            inputs: nets,
+        } => Ok(*found == kind && nets.as_slice() == inputs),
+        _ => Ok(false),
+    }
+}
+
+fn marks_of_s27(alloc: Global) -> Result<Vec<u32>, SettingsFault> {
+    let circuit = circuit_of(alloc, S27, "")?;
+    Ok(Vec::from_slice(alloc, circuit.outputs())?)
 }
 
 fn counts_of(alloc: Global, bench: &str, settings: &str) -> Result<Counts, SettingsFault> {
@@ -244,5 +276,25 @@ fn an_even_cut_of_s27(rt: HostRuntime) -> Result<(), Fail> {
     ] {
         assert_eq!(rt; even_owner(rt.alloc(), net)?, owner, "at {net}");
     }
+    Ok(())
+}
+
+#[test]
+fn nets_of_s27(rt: HostRuntime) -> Result<(), Fail> {
+    for (name, want) in [
+        ("G0", Some(0)),
+        ("G5", Some(4)),
+        ("G13", Some(16)),
+        ("CK", Some(17)),
+        ("G4", None),
+        ("ck", None),
+    ] {
+        assert!(rt; net_of(rt.alloc(), S27, name) == Ok(want), "{name}");
+    }
+    assert!(rt; clock_of(rt.alloc(), S27, "") == Ok(Some(17)));
+    assert!(rt; is_gate(rt.alloc(), 9, "G8", Kind::And, &[7, 5]) == Ok(true));
+    assert!(rt; is_gate(rt.alloc(), 12, "G9", Kind::Nand, &[11, 10]) == Ok(true));
+    let marks = marks_of_s27(rt.alloc())?;
+    assert!(rt; marks.as_slice() == [8].as_slice());
     Ok(())
 }

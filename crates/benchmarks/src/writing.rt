@@ -1,0 +1,95 @@
+//! What the writer of dumps costs.
+
+ghost use Rattle.std.specs.Prelude.{◌≡◌, ℕ, ◌+◌, ◌<◌, ◌≤◌, length, IfOk, OnOk};
+ghost use Rattle.gate_vcd.specs.Waves.{wave_of, end_time};
+
+use crate::texts;
+use crate::timer::report;
+use anyhow::Result;
+use gate_netlist::{Circuit, read_bench};
+use gate_values::{Change, Logic};
+use gate_vcd::{Grow, Waves, read_stimulus, write_vcd};
+use std::alloc::{AllocError, Global};
+use std::rt::Clock;
+use std::time::Instant;
+
+/// The other of 0 and 1 than the last value of a net.
+fn other_value(changes: &[Change]) -> Logic {
+    match changes.last() {
+        Some(change) if change.value == Logic::One => Logic::Zero,
+        _ => Logic::One,
+    }
+}
+
+/// Changes a net at a time, where it hasn't changed there.
+fn toggle(waves: &mut Waves, net: u32, time: u64) -> Result<(), AllocError>
+    requires known { net < length waves.old }
+    requires until { (n : ℕ) → end_time 0 (wave_of waves.old n) ≤ time + 1 }
+    ensures count { OnOk result (length waves.new ≡ length waves.old) }
+    ensures until { OnOk result ((n : ℕ) → end_time 0 (wave_of waves.new n) ≤ time + 1) }
+{
+    let change = Change {
+        time,
+        value: other_value(waves.changes(net)),
+    };
+    if !waves.follows(net, change) {
+        return Ok(());
+    }
+    waves.push(net, change)?;
+    Ok(())
+}
+
+/// Changes three nets at a time.
+fn toggle_three(waves: &mut Waves, nets: u32, time: u32) -> Result<(), AllocError>
+    requires nets { length waves.old ≡ nets }
+    requires some { 0 < nets }
+    requires until { (n : ℕ) → end_time 0 (wave_of waves.old n) ≤ time }
+    ensures count { OnOk result (length waves.new ≡ nets) }
+    ensures until { OnOk result ((n : ℕ) → end_time 0 (wave_of waves.new n) ≤ time + 1) }
+{
+    for part in 0..3 {
+        let net = (time as u64 * 7 + part * 13) % nets as u64;
+        toggle(waves, net as u32, time as u64)?;
+    }
+    Ok(())
+}
+
+/// Waves of which three change at each of as many times as there are nets.
+fn sparse(alloc: Global, nets: u32) -> Result<Waves, AllocError>
+    requires { 0 < nets }
+    ensures until { IfOk result (λ waves. (n : ℕ) → end_time 0 (wave_of waves n) ≤ nets) }
+{
+    let mut waves = Waves::new(alloc, nets)?;
+    for time in 0..nets {
+        toggle_three(&mut waves, nets, time)?;
+    }
+    Ok(waves)
+}
+
+/// The dump of `size` nets of which three change at each of `size` times; the answer is its length.
+pub fn write<R: Eprint + Clock + AllocGlobal>(rt: &R, size: u32) -> Result<u64>
+    requires { 0 < size }
+{
+    let bench = texts::inputs(rt.alloc(), size)?;
+    let bench = read_bench(rt.alloc(), bench.as_bytes())?;
+    let circuit = Circuit::of(rt.alloc(), bench, b"")?;
+    let text = texts::stimulus(rt.alloc(), size, 0, true)?;
+    let stimulus = read_stimulus(rt.alloc(), text.as_bytes(), &circuit)?;
+    let waves = sparse(rt.alloc(), size)?;
+    if waves.nets() != circuit.nets() {
+        return Ok(0);
+    }
+    let mut sink = Grow::new(rt.alloc());
+    let start = Instant::now(rt)?;
+    let answer = write_vcd(
+        &mut sink,
+        "top",
+        &circuit,
+        &stimulus,
+        &waves,
+        size as u64 - 1,
+    );
+    report(rt, "write", size, start)?;
+    answer?;
+    Ok(sink.into_vec().len() as u64)
+}
