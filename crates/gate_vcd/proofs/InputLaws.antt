@@ -13,7 +13,7 @@ use Rattle.gate_vcd.specs.Inputs.{is_scalar_of, scalar_code, is_named_for, code_
 use Rattle.gate_netlist.specs.Circuit.{Design}
 use Rattle.gate_vcd.specs.declared.fault.StimFault.{StimFault}
 use Rattle.gate_vcd.specs.Items.{Codes, number_of}
-use Rattle.gate_vcd.specs.Scalars.{or_else, code_if, without_index, AreNumbers, IsNumber}
+use Rattle.gate_vcd.specs.Scalars.{or_else, bytes_of, code_if, codes_in, is_code_of, is_used, numbers_of, without_index}
 use Rattle.gate_vcd.proofs.Keeping.{same_bytes}
 
 pub same_tests : (a b : Bool) → (a ≡ true → b ≡ true) → (b ≡ true → a ≡ true) → a ≡ b
@@ -24,7 +24,7 @@ same_tests false false f g = refl
 turned : (a b : List ℕ) → bytes_eq a b ≡ bytes_eq b a
 turned a b = same_tests (bytes_eq a b) (bytes_eq b a) (λ h. (bytes_eq-Decides b a).1 (sym (same_bytes a b h))) (λ h. (bytes_eq-Decides a b).1 (sym (same_bytes b a h)))
 
-any-more : {X : Type 0} (p : X → Bool) (xs : List X) (x : X) → list_any p (xs ++ x ∷ []) ≡ (list_any p xs || p x)
+pub any-more : {X : Type 0} (p : X → Bool) (xs : List X) (x : X) → list_any p (xs ++ x ∷ []) ≡ (list_any p xs || p x)
 any-more p [] x = elim (p x) as (λ b. (b || false) ≡ (false || b)) [ true ↦ refl | false ↦ refl ]
 any-more p (y ∷ xs) x = elim (p y) as (λ b. (b || list_any p (xs ++ x ∷ [])) ≡ ((b || list_any p xs) || p x)) [ true ↦ refl | false ↦ any-more p xs x ]
 
@@ -32,12 +32,15 @@ any-more p (y ∷ xs) x = elim (p y) as (λ b. (b || list_any p (xs ++ x ∷ [])
 more_variables : (all : List Held) (i : ℕ) (item : Held) → i < length all → item ≡ get_or all i item → variables (take (i + 1) all) ≡ variables (take i all) ++ variable item ∷ []
 more_variables all i item h e = rw (take_more all i item h, ← e) (map-append variable (take i all) (item ∷ []))
 
+-- a set of codes with one more
+pub one_code : (taken code : List ℕ) (old new : Bool) → new ≡ cond (bytes_eq taken code) true old → new ≡ (old || bytes_eq code taken)
+one_code taken code old new e = rw (e, turned taken code) (elim (bytes_eq code taken) as (λ b. cond b true old ≡ (old || b)) [ true ↦ (elim old as (λ o. true ≡ (o || true)) [ true ↦ refl | false ↦ refl ]) | false ↦ (elim old as (λ o. o ≡ (o || false)) [ true ↦ refl | false ↦ refl ]) ])
+
 pub more_codes : (code : List ℕ) (all : List Held) (i : ℕ) (item : Held) (old new : Bool) → i < length all → item ≡ get_or all i item
     → old ≡ list_any (λ (v : Variable). bytes_eq code v.code) (variables (take i all)) → new ≡ cond (bytes_eq item.code.now code) true old
     → new ≡ list_any (λ (v : Variable). bytes_eq code v.code) (variables (take (i + 1) all))
 more_codes code all i item old new h e eo en =
-    rw (more_variables all i item h e, any-more (λ (v : Variable). bytes_eq code v.code) (variables (take i all)) (variable item), ← eo, en, turned item.code.now code)
-    (elim (bytes_eq code item.code.now) as (λ b. cond b true old ≡ (old || b)) [ true ↦ (elim old as (λ o. true ≡ (o || true)) [ true ↦ refl | false ↦ refl ]) | false ↦ (elim old as (λ o. o ≡ (o || false)) [ true ↦ refl | false ↦ refl ]) ])
+    rw (more_variables all i item h e, any-more (λ (v : Variable). bytes_eq code v.code) (variables (take i all)) (variable item), ← eo) (one_code item.code.now code old new en)
 
 -- a code is kept for a name that had none
 pub noted : (name other : List ℕ) (code : Bor (List ℕ)) (old : List ℕ → Option (Bor (List ℕ))) (new : Option (Bor (List ℕ))) → is_some (old name) ≡ false → new ≡ cond (bytes_eq name other) (Some code) (old other)
@@ -132,15 +135,15 @@ pub noted-short : (v : Held) (name short : List ℕ) (old mid new : Option (List
 noted-short v name short old mid new c s e em h = rw (c, s, with_index name v.reference.items short e) (h ∙ rw em (both_noted old (bytes_eq name v.reference.items) (bytes_eq name short) v.code.now))
 
 -- the nets from the first on
-module _ (d : Design) (vs : List Variable) (codes_kept : Codes) where
-  pub below-start : (ns : List (Option ℕ)) → ns ≡ [] → AreNumbers codes_kept ns (codes_below d vs 0)
+module _ (d : Design) (vs : List Variable) where
+  pub below-start : (codes : List (Option (Bor (List ℕ)))) → codes ≡ [] → codes_below d vs 0 ≡ Ok (codes_in codes)
   unfolding codes_below
-  below-start ns e = ([], refl, e)
+  below-start codes e = rw e refl
 
-  pub below-more : (i : ℕ) (ns new : List (Option ℕ)) (n : Option ℕ) → AreNumbers codes_kept ns (codes_below d vs i) → IsNumber codes_kept n (code_of_net d vs i) → new ≡ ns ++ n ∷ [] → AreNumbers codes_kept new (codes_below d vs (i + 1))
+  pub below-more : (i : ℕ) (codes new : List (Option (Bor (List ℕ)))) (code : Option (Bor (List ℕ))) → codes_below d vs i ≡ Ok (codes_in codes) → code_of_net d vs i ≡ Ok (bytes_of code) → new ≡ codes ++ code ∷ []
+      → codes_below d vs (i + 1) ≡ Ok (codes_in new)
   unfolding codes_below
-  below-more i ns new n (found, read, are) (code, coded, is) e =
-      (found ++ code ∷ [], rw (add-one i, read, coded) refl, rw (e, are, is) (sym (map-append (option_and_then (number_of codes_kept)) found (code ∷ []))))
+  below-more i codes new code read coded e = rw (add-one i, read, coded, e, map-append bytes_of codes (code ∷ [])) refl
 
   one_refused : (k : ℕ) (e : StimFault) → codes_below d vs k ≡ Err e → codes_below d vs (suc k) ≡ Err e
   unfolding codes_below
@@ -154,7 +157,21 @@ module _ (d : Design) (vs : List Variable) (codes_kept : Codes) where
   refused_from k zero e h = rw (add-zero k) h
   refused_from k (suc j) e h = rw (add-suc k j) (one_refused (k + j) e (refused_from k j e h))
 
-  pub below-refused : (i m : ℕ) (e : StimFault) (ns : List (Option ℕ)) → i < m → AreNumbers codes_kept ns (codes_below d vs i) → code_of_net d vs i ≡ Err e → codes_below d vs m ≡ Err e
-  below-refused i m e ns l (found, read, are) r =
+  pub below-refused : (i m : ℕ) (e : StimFault) (found : List (Option (List ℕ))) → i < m → codes_below d vs i ≡ Ok found → code_of_net d vs i ≡ Err e → codes_below d vs m ≡ Err e
+  below-refused i m e found l read r =
       let k : m ≡ suc i + (m - suc i) = omega arith in
       rw k (refused_from (suc i) (m - suc i) e (here_refused i e found read r))
+
+-- the codes that are used, and their numbers, a net at a time
+more_nets : {X Y : Type 0} (f : X → Y) (nets : List X) (i : ℕ) (d : X) → i < length nets → map f (take (i + 1) nets) ≡ map f (take i nets) ++ f (get_or nets i d) ∷ []
+more_nets f nets i d h = rw (take_more nets i d h) (map-append f (take i nets) (get_or nets i d ∷ []))
+
+pub more_used : (code : List ℕ) (nets : List (Option (Bor (List ℕ)))) (i : ℕ) (old new : Bool) → i < length nets
+    → old ≡ is_used (codes_in (take i nets)) code → new ≡ (old || is_code_of (bytes_of (get_or nets i None)) code) → new ≡ is_used (codes_in (take (i + 1) nets)) code
+more_used code nets i old new h eo en =
+    rw (more_nets bytes_of nets i None h, any-more (λ taken. is_code_of taken code) (codes_in (take i nets)) (bytes_of (get_or nets i None)), ← eo) en
+
+pub more_numbers : (used : Codes) (nets : List (Option (Bor (List ℕ)))) (i : ℕ) (old new : List (Option ℕ)) → i < length nets
+    → old ≡ numbers_of used (codes_in (take i nets)) → new ≡ old ++ option_and_then (number_of used) (bytes_of (get_or nets i None)) ∷ [] → new ≡ numbers_of used (codes_in (take (i + 1) nets))
+more_numbers used nets i old new h eo en =
+    rw (more_nets bytes_of nets i None h, map-append (option_and_then (number_of used)) (codes_in (take i nets)) (bytes_of (get_or nets i None) ∷ []), ← eo) en

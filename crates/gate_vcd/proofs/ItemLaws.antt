@@ -8,11 +8,12 @@ use Rattle.gate_values.specs.declared.logic.Logic.{Logic}
 use Rattle.gate_values.specs.declared.logic.Change.{Change}
 use Rattle.gate_vcd.specs.declared.fault.StimFault.{StimFault}
 use Rattle.gate_vcd.specs.declared.fault.StimCause.TheVariants as causes
+use Rattle.gate_vcd.specs.declared.known.KnownCodes.{KnownCodes}
 use Rattle.gate_vcd.specs.Tokens.{Token, fault_at}
 use Rattle.gate_vcd.specs.Numbers.{number}
 use Rattle.gate_vcd.specs.Reading.{◌>>=◌, Fails, Gives}
 use Rattle.gate_vcd.specs.Changes.{Item, stamp, change, wrong, Event, events_from, event_at, stamped, last_stamp}
-use Rattle.gate_vcd.specs.Items.{Codes, AreKept, IsTaken, TakesItem, is_known, fault_of}
+use Rattle.gate_vcd.specs.Items.{AreKept, IsTaken, TakesItem, fault_of, knows}
 use Rattle.gate_vcd.proofs.DeclarationLaws.{fails_then}
 use Rattle.gate_vcd.proofs.Keeping.{past-later, kept-none}
 
@@ -43,50 +44,45 @@ bind-more es more (Ok x) = ap (λ ys. Ok ys) (sym (append_assoc es more x))
 bind-more es more (Err e) = refl
 
 -- a stamp
-pub takes-stamp : (codes : Codes) (now : ℕ) (t : Token) (others : List Item) (es : List Event) (lists : List (List Change)) (r : Result ℕ StimFault) → Gives (λ n. n) r (stamped t now) → AreKept codes now es lists → TakesItem codes now (stamp t) others es lists r
+pub takes-stamp : (known : KnownCodes) (now : ℕ) (t : Token) (others : List Item) (es : List Event) (lists : List (List Change)) (r : Result ℕ StimFault) → Gives (λ n. n) r (stamped t now) → AreKept known.used now es lists → TakesItem known now (stamp t) others es lists r
 unfolding events_from
-takes-stamp codes now t others es lists (Ok next) g kept =
+takes-stamp known now t others es lists (Ok next) g kept =
     let after = stamp_after (number (drop 1 t.text)) now next (fault_at t causes.StampTooLarge) (fault_at t causes.StampFalls) g in
-    ([], record { count = kept.count; past = rw (events-nil es) (past-later now next es after.0 kept.past); within = after.1; changes = rw (events-nil es) kept.changes }, rw g (bind-unit (events_from (is_known codes) next others)))
-takes-stamp codes now t others es lists (Err e) g kept = fails_then e (stamped t now) (λ next. events_from (is_known codes) next others) g
+    ([], record { count = kept.count; past = rw (events-nil es) (past-later now next es after.0 kept.past); within = after.1; changes = rw (events-nil es) kept.changes }, rw g (bind-unit (events_from (knows known) next others)))
+takes-stamp known now t others es lists (Err e) g kept = fails_then e (stamped t now) (λ next. events_from (knows known) next others) g
 
 -- a change
-pub takes-change : (codes : Codes) (now : ℕ) (t : Token) (code : List ℕ) (value : Option Logic) (others : List Item) (es : List Event) (lists : List (List Change)) → IsTaken codes now t code value es lists (Ok tt)
-    → TakesItem codes now (change t code value) others es lists (Ok now)
+pub takes-change : (known : KnownCodes) (now : ℕ) (t : Token) (code : List ℕ) (value : Option Logic) (others : List Item) (es : List Event) (lists : List (List Change)) → IsTaken known now t code value es lists (Ok tt)
+    → TakesItem known now (change t code value) others es lists (Ok now)
 unfolding events_from
-takes-change codes now t code value others es lists (known, kept) = (event_at now code value, kept, rw known refl)
+takes-change known now t code value others es lists (has, kept) = (event_at now code value, kept, rw has refl)
 
-pub refuses-change : (codes : Codes) (now : ℕ) (t : Token) (code : List ℕ) (value : Option Logic) (others : List Item) (es : List Event) (lists : List (List Change)) (e : StimFault) → IsTaken codes now t code value es lists (Err e)
-    → TakesItem codes now (change t code value) others es lists (Err e)
+pub refuses-change : (known : KnownCodes) (now : ℕ) (t : Token) (code : List ℕ) (value : Option Logic) (others : List Item) (es : List Event) (lists : List (List Change)) (e : StimFault) → IsTaken known now t code value es lists (Err e)
+    → TakesItem known now (change t code value) others es lists (Err e)
 unfolding events_from
-refuses-change codes now t code value others es lists e (inl m) = inl m
-refuses-change codes now t code value others es lists e (inr (unknown, is)) = inr (rw (unknown, is) refl)
+refuses-change known now t code value others es lists e (inl m) = inl m
+refuses-change known now t code value others es lists e (inr (unknown, is)) = inr (rw (unknown, is) refl)
 
 -- The changes so far are kept, and the others are those of these items.
-abbrev pub GoesOn : Codes → ℕ → List (List Change) → List Item → Result (List Event) StimFault → Type 0
-GoesOn codes now lists is reading = (es : List Event) × AreKept codes now es lists × (reading ≡ (events_from (is_known codes) now is >>= λ later. Ok (es ++ later)))
+abbrev pub GoesOn : KnownCodes → ℕ → List (List Change) → List Item → Result (List Event) StimFault → Type 0
+GoesOn known now lists is reading = (es : List Event) × AreKept known.used now es lists × (reading ≡ (events_from (knows known) now is >>= λ later. Ok (es ++ later)))
 
-pub goes-start : (codes : Codes) (n : ℕ) (lists : List (List Change)) (is : List Item) → n ≡ length codes.keys → lists ≡ replicate {A = List Change} n [] → GoesOn codes 0 lists is (events_from (is_known codes) 0 is)
-goes-start codes n lists is e el = ([], rw el (kept-none codes n e), bind-unit (events_from (is_known codes) 0 is))
+pub goes-start : (known : KnownCodes) (n : ℕ) (lists : List (List Change)) (is : List Item) → n ≡ length known.used.keys → lists ≡ replicate {A = List Change} n [] → GoesOn known 0 lists is (events_from (knows known) 0 is)
+goes-start known n lists is e el = ([], rw el (kept-none known.used n e), bind-unit (events_from (knows known) 0 is))
 
-pub goes-on : (codes : Codes) (now next : ℕ) (lists new : List (List Change)) (item : Item) (is others : List Item) (reading : Result (List Event) StimFault) → is ≡ item ∷ others
-    → GoesOn codes now lists is reading → ((es : List Event) → AreKept codes now es lists → TakesItem codes now item others es new (Ok next)) → GoesOn codes next new others reading
-goes-on codes now next lists new item is others reading e (es, kept, read) take =
+pub goes-on : (known : KnownCodes) (now next : ℕ) (lists new : List (List Change)) (item : Item) (is others : List Item) (reading : Result (List Event) StimFault) → is ≡ item ∷ others
+    → GoesOn known now lists is reading → ((es : List Event) → AreKept known.used now es lists → TakesItem known now item others es new (Ok next)) → GoesOn known next new others reading
+goes-on known now next lists new item is others reading e (es, kept, read) take =
     let (more, now_kept, makes) = take es kept in
-    (es ++ more, now_kept, read ∙ rw (e, makes) (bind-more es more (events_from (is_known codes) next others)))
+    (es ++ more, now_kept, read ∙ rw (e, makes) (bind-more es more (events_from (knows known) next others)))
 
-pub goes-wrong : (codes : Codes) (now : ℕ) (lists : List (List Change)) (is : List Item) (e : StimFault) (reading : Result (List Event) StimFault) → fault_of is ≡ Some e → GoesOn codes now lists is reading → Fails e reading
+pub goes-wrong : (known : KnownCodes) (now : ℕ) (lists : List (List Change)) (is : List Item) (e : StimFault) (reading : Result (List Event) StimFault) → fault_of is ≡ Some e → GoesOn known now lists is reading → Fails e reading
 unfolding events_from
-goes-wrong codes now lists [] e reading h g = cc
-goes-wrong codes now lists (stamp t ∷ is) e reading h g = cc
-goes-wrong codes now lists (change t code value ∷ is) e reading h g = cc
-goes-wrong codes now lists (wrong t cause ∷ is) e reading h (es, kept, read) = let is_e : fault_at t cause ≡ e = same_Some _ _ h in inr (read ∙ ap Err is_e)
+goes-wrong known now lists [] e reading h g = cc
+goes-wrong known now lists (stamp t ∷ is) e reading h g = cc
+goes-wrong known now lists (change t code value ∷ is) e reading h g = cc
+goes-wrong known now lists (wrong t cause ∷ is) e reading h (es, kept, read) = let is_e : fault_at t cause ≡ e = same_Some _ _ h in inr (read ∙ ap Err is_e)
 
-pub goes-refused : (codes : Codes) (now : ℕ) (lists new : List (List Change)) (item : Item) (is others : List Item) (e : StimFault) (reading : Result (List Event) StimFault) → is ≡ item ∷ others
-    → GoesOn codes now lists is reading → ((es : List Event) → AreKept codes now es lists → TakesItem codes now item others es new (Err e)) → Fails e reading
-goes-refused codes now lists new item is others e reading ei (es, kept, read) take =
-    rw (read, ei) (fails_then e (events_from (is_known codes) now (item ∷ others)) (λ later. Ok (es ++ later)) (take es kept))
-
-pub goes-out : (codes : Codes) (now : ℕ) (lists : List (List Change)) (is : List Item) (reading : Result (List Event) StimFault) → is ≡ [] → GoesOn codes now lists is reading → (es : List Event) × (last : ℕ) × (reading ≡ Ok es) × AreKept codes last es lists
+pub goes-out : (known : KnownCodes) (now : ℕ) (lists : List (List Change)) (is : List Item) (reading : Result (List Event) StimFault) → is ≡ [] → GoesOn known now lists is reading → (es : List Event) × (last : ℕ) × (reading ≡ Ok es) × AreKept known.used last es lists
 unfolding events_from
-goes-out codes now lists is reading e (es, kept, read) = (es, now, read ∙ rw (e, events-nil es) refl, kept)
+goes-out known now lists is reading e (es, kept, read) = (es, now, read ∙ rw (e, events-nil es) refl, kept)

@@ -1,5 +1,5 @@
 -- The lists of changes, a change at a time.
-use Rattle.std.proofs.Common.{◌≡◌, ◌≢◌, ℕ, zero, suc, ◌+◌, ◌<◌, ◌≤◌, Bool, true, false, not, cond, nat_lt, List, [], ◌∷◌, ◌++◌, length, map, filter, set, get_or, replicate, Some, None, Vec, Global, Bor, refl, ap, sym, ◌∙◌, arith, get_or-set_same, get_or-set_other, length-set, add-one, inl, inr}
+use Rattle.std.proofs.Common.{◌≡◌, ◌≢◌, ℕ, zero, suc, ◌+◌, ◌<◌, ◌≤◌, Bool, true, false, ◌||◌, not, cond, nat_lt, List, [], ◌∷◌, ◌++◌, length, map, filter, set, get_or, replicate, Option, Some, None, Vec, Global, Bor, refl, ap, sym, ◌∙◌, arith, get_or-set_same, get_or-set_other, length-set, add-one, inl, inr}
 use Rattle.std.proofs.lemmas.Bool.{cases_eq}
 use Rattle.std.proofs.lemmas.Option.{same_Some}
 use Rattle.std.specs.List.{AllByRecursion, position, prefix_len}
@@ -14,10 +14,14 @@ use Rattle.gate_values.specs.declared.logic.Logic.{Logic}
 use Rattle.gate_values.specs.declared.logic.Logic.TheVariants.{X}
 use Rattle.gate_values.specs.declared.logic.Change.{Change}
 use Rattle.gate_values.specs.Changes.{changes, latest}
-use Rattle.gate_vcd.specs.Changes.{Event, changes_with, change_of, value_with, last_stamp}
-use Rattle.gate_vcd.specs.Items.{Codes, AreKept, number_of, settled}
+use Rattle.gate_vcd.specs.declared.known.KnownCodes.{KnownCodes}
+use Rattle.gate_vcd.specs.Changes.{Event, event_at, changes_with, change_of, value_with, last_stamp}
+use Rattle.gate_vcd.specs.Items.{Codes, AreKept, is_known, knows, number_of, settled}
 use Rattle.gate_vcd.specs.Lists.{lists_in}
 use Rattle.gate_vcd.proofs.Settling.{AreUpTo, settled-changes}
+
+events-none : (es : List Event) → es ++ [] ≡ es
+events-none es = grind (arith, common_steps)
 
 append-nil : (xs : List Change) → xs ++ [] ≡ xs
 append-nil xs = grind (arith, common_steps)
@@ -92,6 +96,16 @@ other_code codes a b i k ea eb ne = go (bytes_eq a b) refl
         let two : Some k ≡ Some i = sym ea ∙ ap (number_of codes) one ∙ eb in
         absurd (ne (same_Some k i two))
 
+-- a code with a number isn't one without
+no_code : (codes : Codes) (a b : List ℕ) (k : ℕ) → number_of codes a ≡ Some k → number_of codes b ≡ None → bytes_eq a b ≡ false
+no_code codes a b k ea eb = go (bytes_eq a b) refl
+  where
+    go : (s : Bool) → bytes_eq a b ≡ s → s ≡ false
+    go false e = refl
+    go true e =
+        let bad : Some k ≡ None = sym ea ∙ ap (number_of codes) (same_bytes a b e) ∙ eb in
+        cc
+
 own_code : (a : List ℕ) → bytes_eq a a ≡ true
 own_code a = (bytes_eq-Decides a a).1 refl
 
@@ -124,6 +138,29 @@ kept-more codes now i code v es lists at kept =
       past = past-more now es (record { time = now; code = code; value = v }) (omega arith) kept.past;
       within = kept.within;
       changes = kept_at codes now i code v es lists at kept;
+    }
+
+pub used-known : (known : KnownCodes) (code : List ℕ) → is_known known.used code ≡ true → knows known code ≡ true
+used-known known code h = rw h refl
+
+pub all-known : (known : KnownCodes) (code : List ℕ) → is_known known.all code ≡ true → knows known code ≡ true
+all-known known code h = rw h (elim (is_known known.used code) as (λ b. (b || true) ≡ true) [ true ↦ refl | false ↦ refl ])
+
+pub unknown : (known : KnownCodes) (code : List ℕ) → is_known known.used code ≡ false → is_known known.all code ≡ false → knows known code ≡ false
+unknown known code u a = rw (u, a) refl
+
+-- a change of a code without a number leaves the lists as they are
+pub kept-other : (codes : Codes) (now : ℕ) (code : List ℕ) (value : Option Logic) (es : List Event) (lists : List (List Change)) → number_of codes code ≡ None → AreKept codes now es lists → AreKept codes now (es ++ event_at now code value) lists
+kept-other codes now code None es lists absent kept = rw (events-none es) kept
+kept-other codes now code (Some v) es lists absent kept =
+    let ev : Event = record { time = now; code = code; value = v } in
+    record {
+      count = kept.count;
+      past = past-more now es ev (omega arith) kept.past;
+      within = kept.within;
+      changes = λ other k ko. (
+          let listed : changes_with other (es ++ ev ∷ []) ≡ changes_with other es = more_changes other code es ev refl ∙ rw (no_code codes other code k ko absent) (append-nil (changes_with other es)) in
+          kept.changes other k ko ∙ ap (λ cs. changes (λ t. latest X cs t) (last_stamp + 1)) (sym listed));
     }
 
 -- the same of the vectors that hold the lists

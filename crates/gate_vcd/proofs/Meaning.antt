@@ -1,5 +1,5 @@
 -- What is kept of a stimulus text means what the text does.
-use Rattle.std.proofs.Common.{◌≡◌, ◌⊎◌, inl, inr, ℕ, zero, suc, ◌+◌, ◌<◌, ◌≤◌, Bool, true, false, not, cond, ◌||◌, nat_le, nat_lt, List, [], ◌∷◌, ◌++◌, length, get_or, Option, Some, None, IfSome, option_map, option_and_then, unwrap_or, is_some, Result, Ok, Err, Vec, Global, Bor, refl, ap, sym, ◌∙◌, subst, arith, length-append, add-one}
+use Rattle.std.proofs.Common.{◌≡◌, ◌⊎◌, inl, inr, ℕ, zero, suc, ◌+◌, ◌<◌, ◌≤◌, Bool, true, false, not, cond, ◌||◌, nat_le, nat_lt, List, [], ◌∷◌, ◌++◌, length, get_or, Option, Some, None, IfSome, option_map, option_and_then, unwrap_or, is_some, Result, Ok, Err, MatchResult, Vec, Global, Bor, refl, ap, sym, ◌∙◌, subst, arith, length-append, add-one}
 use Rattle.std.specs.List.{list_any, find, prefix_len}
 use Rattle.std.specs.Str.{bytes_eq}
 use Rattle.std.proofs.lemmas.Bool.{cases_eq}
@@ -17,21 +17,23 @@ use Rattle.gate_vcd.specs.declared.fault.StimFault.{StimFault}
 use Rattle.gate_vcd.specs.declared.fault.StimCause.{StimCause}
 use Rattle.std.proofs.lemmas.Slice.Eq.{bytes_eq-Decides}
 use Rattle.gate_vcd.specs.Tokens.{Token, tokens_of}
-use Rattle.gate_vcd.specs.Reading.{◌>>=◌, Fails}
+use Rattle.gate_vcd.specs.Reading.{◌>>=◌, Fails, Gives}
 use Rattle.gate_vcd.specs.Declarations.{Header, Variable, no_header, declaring}
 use Rattle.gate_vcd.specs.Changes.{Item, stamp, change, wrong, Event, items, nothing, events_from, stamped, changes_with, value_with, last_stamp}
-use Rattle.gate_vcd.specs.Items.{Codes, AreKept, number_of, is_known}
+use Rattle.gate_vcd.specs.Items.{Codes, AreKept, is_known, knows, number_of}
+use Rattle.gate_vcd.specs.declared.known.KnownCodes.{KnownCodes}
 use Rattle.gate_vcd.specs.declared.variable.Variable.{Variable as Held}
 use Rattle.gate_vcd.specs.Commands.{variables}
 use Rattle.gate_vcd.specs.Inputs.{codes_below, code_of_net, code_or_fault, scalar_code, is_scalar_of}
 use Rattle.gate_vcd.specs.Lists.{lists_in, IsRising}
 use Rattle.gate_vcd.specs.Given.{Given, Fits, changes_of, value_at}
 use Rattle.gate_vcd.specs.Held.{given_by, AreLaidOut}
-use Rattle.gate_vcd.specs.Scalars.{numbers_of}
+use Rattle.gate_vcd.specs.Scalars.{codes_in, is_code_of, is_used, numbers_of}
 use Rattle.gate_vcd.specs.Stimulus.{reading_of, has_code, value_of_code, Means}
 use Rattle.gate_vcd.proofs.DeclarationLaws.{fails_then}
 use Rattle.gate_vcd.proofs.Settling.{AreBelow, latest-flat, changes-below}
-use Rattle.gate_vcd.proofs.Keeping.{up_to_with, past-later, number_within, changes-none, latest-none}
+use Rattle.gate_vcd.proofs.InputLaws.{any-more}
+use Rattle.gate_vcd.proofs.Keeping.{same_bytes, up_to_with, past-later, number_within, changes-none, latest-none}
 use Rattle.gate_vcd.proofs.Latest.{latest-split, fits-all, some-mapped}
 use Rattle.std.proofs.Math.Seq.{get_or-append_seam}
 use Rattle.std.proofs.Math.ListN.{get_or-append, get_or-map as map-at}
@@ -204,26 +206,29 @@ lt_or_not n m = grind arith
 none_some : {A : Type 0} {x : A} → None ≡ Some x → ⊥
 none_some e = cc
 
+-- the code of a net is used
+used-at : (found : List (Option (List ℕ))) (n : ℕ) (code : List ℕ) → get_or found n None ≡ Some code → is_used found code ≡ true
+used-at [] n code e = cc
+used-at (o ∷ found) zero code e = rw (e, (bytes_eq-Decides code code).1 refl) refl
+used-at (o ∷ found) (suc n) code e = rw (used-at found n code e) (elim (is_code_of o code) as (λ b. (b || true) ≡ true) [ true ↦ refl | false ↦ refl ])
+
 -- What is kept of a text whose reading is this one.
-module _ (d : Design) (h : Header) (codes : Codes) (lists : List (Vec Change Global)) (list_of : List (Option ℕ)) (es : List Event) (now : ℕ) (found : List (Option (List ℕ)))
-    (known : (code : List ℕ) → is_known codes code ≡ has_code h.variables code) (kept : AreKept codes now es (lists_in lists)) (numbers : list_of ≡ numbers_of codes found)
+module _ (d : Design) (h : Header) (used : Codes) (lists : List (Vec Change Global)) (list_of : List (Option ℕ)) (es : List Event) (now : ℕ) (found : List (Option (List ℕ)))
+    (takes : (code : List ℕ) → is_known used code ≡ is_used found code) (kept : AreKept used now es (lists_in lists)) (numbers : list_of ≡ numbers_of used found)
     (read : codes_below d h.variables (nets_of d) ≡ Ok found) (drivers : length d.drivers ≡ nets_of d) where
   coded : (n : ℕ) → n < nets_of d → (is_some (get_or found n None) ≡ is_input (driver_of d n)) × ((code : List ℕ) → get_or found n None ≡ Some code → has_code h.variables code ≡ true)
   coded n l = coded-by (is_input (driver_of d n)) h.variables (name_of d n) n _ (get_or found n None) (found-at d h.variables (nets_of d) n found read l)
 
-  known-at : (n : ℕ) (code : List ℕ) → get_or found n None ≡ Some code → (k : ℕ) × (number_of codes code ≡ Some k)
-  known-at n code e = elim (lt_or_not n (nets_of d)) [
-    | inl l ↦ number-some codes code (known code ∙ (coded n l).1 code e)
-    | inr g ↦ absurd (none_some (sym (get_or_past found n None (omega (arith, found-length d h.variables (nets_of d) found read))) ∙ e))
-  ]
+  known-at : (n : ℕ) (code : List ℕ) → get_or found n None ≡ Some code → (k : ℕ) × (number_of used code ≡ Some k)
+  known-at n code e = number-some used code (takes code ∙ used-at found n code e)
 
-  number-at : (n : ℕ) → get_or list_of n None ≡ option_and_then (number_of codes) (get_or found n None)
-  number-at n = rw numbers (map-at (option_and_then (number_of codes)) found n None)
+  number-at : (n : ℕ) → get_or list_of n None ≡ option_and_then (number_of used) (get_or found n None)
+  number-at n = rw numbers (map-at (option_and_then (number_of used)) found n None)
 
   abbrev given : Given
   given = given_by h.timescale lists list_of
 
-  wave_of : (o : Option (List ℕ)) → ((code : List ℕ) → o ≡ Some code → (k : ℕ) × (number_of codes code ≡ Some k)) → unwrap_or (option_map (λ k. get_or (lists_in lists) k []) (option_and_then (number_of codes) o)) [] ≡ changes (value_of_code es o) (last_stamp + 1)
+  wave_of : (o : Option (List ℕ)) → ((code : List ℕ) → o ≡ Some code → (k : ℕ) × (number_of used code ≡ Some k)) → unwrap_or (option_map (λ k. get_or (lists_in lists) k []) (option_and_then (number_of used) o)) [] ≡ changes (value_of_code es o) (last_stamp + 1)
   wave_of None has = sym (changes-none (value_of_code es None) (last_stamp + 1) (λ t. refl))
   wave_of (Some code) has = let (k, e) = has code refl in rw e (kept.changes code k e)
 
@@ -237,12 +242,12 @@ module _ (d : Design) (h : Header) (codes : Codes) (lists : List (Vec Change Glo
   value-is : (n t : ℕ) → value_at given n t ≡ value_of_code es (get_or found n None) t
   value-is n t = ap (λ cs. latest X cs t) (wave-at n) ∙ latest-all (value_of_code es (get_or found n None)) last_stamp t (flat-code (get_or found n None))
 
-  some-number : (o : Option (List ℕ)) → ((code : List ℕ) → o ≡ Some code → (k : ℕ) × (number_of codes code ≡ Some k)) → is_some (option_and_then (number_of codes) o) ≡ is_some o
+  some-number : (o : Option (List ℕ)) → ((code : List ℕ) → o ≡ Some code → (k : ℕ) × (number_of used code ≡ Some k)) → is_some (option_and_then (number_of used) o) ≡ is_some o
   some-number None has = refl
   some-number (Some code) has = let (k, e) = has code refl in rw e refl
 
   lengths : length list_of ≡ nets_of d
-  lengths = ap length numbers ∙ length-map found (option_and_then (number_of codes)) ∙ found-length d h.variables (nets_of d) found read
+  lengths = ap length numbers ∙ length-map found (option_and_then (number_of used)) ∙ found-length d h.variables (nets_of d) found read
 
   fits-circuit : Fits given d
   fits-circuit = some-mapped (λ k. get_or (lists_in lists) k []) list_of ∙ fits-all list_of d.drivers (lengths ∙ sym drivers)
@@ -251,12 +256,12 @@ module _ (d : Design) (h : Header) (codes : Codes) (lists : List (Vec Change Glo
   pub means : Means d (record { timescale = h.timescale; events = es; codes = found }) given
   means = record { timescale = refl; fits = fits-circuit; values = value-is; changes = wave-at }
 
-  laid-by : (o : Option ℕ) (code : Option (List ℕ)) → o ≡ option_and_then (number_of codes) code → IfSome o (λ k. (k < length lists) × IsRising (get_or (lists_in lists) k []))
+  laid-by : (o : Option ℕ) (code : Option (List ℕ)) → o ≡ option_and_then (number_of used) code → IfSome o (λ k. (k < length lists) × IsRising (get_or (lists_in lists) k []))
   laid-by None code e = tt
   laid-by (Some k) None e = absurd (none_some (sym e))
   laid-by (Some k) (Some code) e =
-      let at : number_of codes code ≡ Some k = sym e in
-      (omega (arith, number_within codes code k at, kept.count, length-map lists (λ (v : Vec Change Global). v.items)), rw (kept.changes code k at) (changes-rising (value_with code es) (last_stamp + 1)))
+      let at : number_of used code ≡ Some k = sym e in
+      (omega (arith, number_within used code k at, kept.count, length-map lists (λ (v : Vec Change Global). v.items)), rw (kept.changes code k at) (changes-rising (value_with code es) (last_stamp + 1)))
 
   pub laid : AreLaidOut lists list_of
   laid n o l = laid-by (get_or list_of n o) (get_or found n None) (get_or_default list_of n o None l ∙ number-at n)
@@ -266,14 +271,44 @@ pub declared-read : (d : Design) (text : List ℕ) (asked : Option (List ℕ)) (
     → P (declaring asked no_header None ts) → P (declaring d.scope no_header None (tokens_of text))
 declared-read d text asked ts P ea et p = subst (λ (s : Option (List ℕ)). P (declaring s no_header None (tokens_of text))) ea (subst (λ (xs : List Token). P (declaring asked no_header None xs)) et p)
 
-pub known-codes : (codes : Codes) (all held : List Held) (vs : List Variable) → all ≡ held → variables held ≡ vs → ((code : List ℕ) → is_known codes code ≡ has_code (variables all) code) → (code : List ℕ) → is_known codes code ≡ has_code vs code
-known-codes codes all held vs ea ev h code = h code ∙ ap (λ xs. has_code xs code) (ap variables ea ∙ ev)
+-- the codes that nets take are those of variables
+some-coded : (d : Design) (vs : List Variable) (m : ℕ) (found : List (Option (List ℕ))) → codes_below d vs m ≡ Ok found → (code : List ℕ) → is_used found code ≡ true → has_code vs code ≡ true
+unfolding codes_below
+some-coded d vs zero found e code u =
+    let is : [] ≡ found = cc in
+    let bad : false ≡ true = ap (λ f. is_used f code) is ∙ u in
+    cc
+some-coded d vs (suc m) found e code u =
+    let (before, last, r, c, is) = opened_up (codes_below d vs m) (code_of_net d vs m) found e in
+    let by : (is_used before code || is_code_of last code) ≡ true = sym (any-more (λ taken. is_code_of taken code) before last) ∙ ap (λ f. is_used f code) is ∙ u in
+    go (is_used before code) last (some-coded d vs m before r code) c by
+  where
+    go : (b : Bool) (last : Option (List ℕ)) → (b ≡ true → has_code vs code ≡ true) → code_of_net d vs m ≡ Ok last → (b || is_code_of last code) ≡ true → has_code vs code ≡ true
+    go true last earlier c by = earlier refl
+    go false None earlier c by = cc
+    go false (Some taken) earlier c by = rw (same_bytes code taken by) ((coded-by (is_input (driver_of d m)) vs (name_of d m) m _ (Some taken) c).1 taken refl)
+
+-- also where the nets have no codes, since some input has none
+pub used-coded : (d : Design) (vs : List Variable) (inputs : Result (Vec (Option (Bor (List ℕ))) Global) StimFault) (shown : List (Option (Bor (List ℕ)))) → Gives (λ v. codes_in v.items) inputs (codes_below d vs (nets_of d))
+    → MatchResult inputs (λ v. shown ≡ v.items) (λ e. shown ≡ []) → (code : List ℕ) → is_used (codes_in shown) code ≡ true → has_code vs code ≡ true
+used-coded d vs (Ok v) shown read is code u = some-coded d vs (nets_of d) (codes_in v.items) read code (ap (λ cs. is_used (codes_in cs) code) (sym is) ∙ u)
+used-coded d vs (Err e) shown read is code u =
+    let bad : false ≡ true = ap (λ cs. is_used (codes_in cs) code) (sym is) ∙ u in
+    cc
+
+either-known : (a b : Bool) → (a ≡ true → b ≡ true) → (a || b) ≡ b
+either-known true b f = sym (f refl)
+either-known false b f = refl
+
+-- the known codes are those of the variables
+pub known-codes : (d : Design) (vs : List Variable) (known : KnownCodes) (inputs : Result (Vec (Option (Bor (List ℕ))) Global) StimFault) (shown : List (Option (Bor (List ℕ))))
+    → ((code : List ℕ) → is_known known.all code ≡ has_code vs code) → ((code : List ℕ) → is_known known.used code ≡ is_used (codes_in shown) code)
+    → Gives (λ v. codes_in v.items) inputs (codes_below d vs (nets_of d)) → MatchResult inputs (λ v. shown ≡ v.items) (λ e. shown ≡ []) → (code : List ℕ) → knows known code ≡ has_code vs code
+known-codes d vs known inputs shown all used read is code =
+    rw (all code) (either-known (is_known known.used code) (has_code vs code) (λ u. used-coded d vs inputs shown read is code (sym (used code) ∙ u)))
 
 pub events-fail : (p q : List ℕ → Bool) (is : List Item) (e : StimFault) → ((code : List ℕ) → p code ≡ q code) → Fails e (events_from p 0 is) → Fails e (events_from q 0 is)
 events-fail p q is e h f = rw (← events-same p q h 0 is) f
 
 pub events-read : (p q : List ℕ → Bool) (is : List Item) (es : List Event) → ((code : List ℕ) → p code ≡ q code) → events_from p 0 is ≡ Ok es → events_from q 0 is ≡ Ok es
 events-read p q is es h r = sym (events-same p q h 0 is) ∙ r
-
-pub below-same : (d : Design) (all held : List Held) (vs : List Variable) → all ≡ held → variables held ≡ vs → codes_below d (variables all) (nets_of d) ≡ codes_below d vs (nets_of d)
-below-same d all held vs ea ev = ap (λ xs. codes_below d xs (nets_of d)) (ap variables ea ∙ ev)

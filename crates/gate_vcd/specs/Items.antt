@@ -1,5 +1,5 @@
 -- What a reader of changes answers, and what it keeps.
-use Rattle.std.specs.Prelude.{◌≡◌, ◌⊎◌, ℕ, ◌+◌, ◌-◌, ◌≤◌, Bool, true, false, nat_eq, if◌then◌else◌, List, [], ◌∷◌, ◌++◌, length, take, get_or, slice_get, position, Option, Some, None, Result, Ok, Err}
+use Rattle.std.specs.Prelude.{◌≡◌, ◌⊎◌, ℕ, ◌+◌, ◌-◌, ◌≤◌, Bool, true, false, ◌||◌, nat_eq, if◌then◌else◌, List, [], ◌∷◌, ◌++◌, length, take, get_or, slice_get, position, Option, Some, None, Result, Ok, Err}
 use Rattle.std.specs.Option.{option_map_or}
 use Rattle.std.specs.Borrow.{Bor}
 use Rattle.std.specs.List.{list_any, AllByRecursion}
@@ -15,6 +15,7 @@ use Rattle.gate_vcd.specs.declared.fault.StimFault.{StimFault}
 use Rattle.gate_vcd.specs.declared.fault.StimCause.TheVariants as causes
 use Rattle.gate_vcd.specs.Faults.{out_of_memory}
 use Rattle.gate_vcd.specs.Reading.{◌>>=◌, Fails}
+use Rattle.gate_vcd.specs.declared.known.KnownCodes.{KnownCodes}
 use Rattle.gate_vcd.specs.declared.items.Item.{Item as Read}
 use Rattle.gate_vcd.specs.declared.items.Item.TheVariants as read
 use Rattle.gate_vcd.specs.Tokens.{Token, fault_at}
@@ -68,25 +69,30 @@ undone time cs = if ends_at time (slice_get cs (length cs - 1)) then take (lengt
 abbrev pub settled : List Change → Change → List Change
 settled cs c = undone c.time cs ++ (if same c.value (value_after (undone c.time cs)) then [] else c ∷ [])
 
--- For each number of a code there is a list of the changes that its values make, as far as these are read.
-pub record AreKept (codes : Codes) (now : ℕ) (es : List Event) (lists : List (List Change)) : Type 0 where
-  pub count : length lists ≡ length codes.keys
+-- For each number of a code that is used there is a list of the changes that its values make, as far as these
+-- are read.
+pub record AreKept (used : Codes) (now : ℕ) (es : List Event) (lists : List (List Change)) : Type 0 where
+  pub count : length lists ≡ length used.keys
   pub past : AllByRecursion (λ (e : Event). e.time ≤ now) es
   pub within : now ≤ last_stamp
-  pub changes : (code : List ℕ) (k : ℕ) → number_of codes code ≡ Some k → get_or lists k [] ≡ changes (value_with code es) (last_stamp + 1)
+  pub changes : (code : List ℕ) (k : ℕ) → number_of used code ≡ Some k → get_or lists k [] ≡ changes (value_with code es) (last_stamp + 1)
+
+-- some variable or some net has the code
+abbrev pub knows : KnownCodes → List ℕ → Bool
+knows known code = is_known known.used code || is_known known.all code
 
 -- a change of a code is taken in, or its code isn't known
-abbrev pub IsTaken : Codes → ℕ → Token → List ℕ → Option Logic → List Event → List (List Change) → Result (Unit {0}) StimFault → Type 0
-IsTaken codes now first code value es new (Ok _) = (is_known codes code ≡ true) × AreKept codes now (es ++ event_at now code value) new
-IsTaken codes now first code value es new (Err e) = (e ≡ out_of_memory) ⊎ ((is_known codes code ≡ false) × (e ≡ fault_at first causes.UnknownCode))
+abbrev pub IsTaken : KnownCodes → ℕ → Token → List ℕ → Option Logic → List Event → List (List Change) → Result (Unit {0}) StimFault → Type 0
+IsTaken known now first code value es new (Ok _) = (knows known code ≡ true) × AreKept known.used now (es ++ event_at now code value) new
+IsTaken known now first code value es new (Err e) = (e ≡ out_of_memory) ⊎ ((knows known code ≡ false) × (e ≡ fault_at first causes.UnknownCode))
 
 -- the changes that were read are kept
 abbrev pub AreTaken : Codes → List (List Change) → Result (List Event) StimFault → Type 0
-AreTaken codes lists reading = (es : List Event) × (now : ℕ) × (reading ≡ Ok es) × AreKept codes now es lists
+AreTaken used lists reading = (es : List Event) × (now : ℕ) × (reading ≡ Ok es) × AreKept used now es lists
 
 -- An item is taken in: the changes that it makes, and the time after it, from which the other items go on.
-abbrev pub TakesItem : Codes → ℕ → Item → List Item → List Event → List (List Change) → Result ℕ StimFault → Type 0
-TakesItem codes now item others es new (Ok next) =
-    (more : List Event) × AreKept codes next (es ++ more) new
-    × (events_from (is_known codes) now (item ∷ others) ≡ (events_from (is_known codes) next others >>= λ later. Ok (more ++ later)))
-TakesItem codes now item others es new (Err e) = Fails e (events_from (is_known codes) now (item ∷ others))
+abbrev pub TakesItem : KnownCodes → ℕ → Item → List Item → List Event → List (List Change) → Result ℕ StimFault → Type 0
+TakesItem known now item others es new (Ok next) =
+    (more : List Event) × AreKept known.used next (es ++ more) new
+    × (events_from (knows known) now (item ∷ others) ≡ (events_from (knows known) next others >>= λ later. Ok (more ++ later)))
+TakesItem known now item others es new (Err e) = Fails e (events_from (knows known) now (item ∷ others))

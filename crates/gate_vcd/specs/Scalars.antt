@@ -1,12 +1,12 @@
 -- What a reader keeps of the variables: the codes with their numbers, and the scalars by their names.
-use Rattle.std.specs.Prelude.{◌≡◌, ℕ, ◌-◌, Bool, nat_eq, if◌then◌else◌, List, length, take, codes, Option, Some, None, option_map, option_and_then, map, Result, Ok}
-use Rattle.std.specs.List.{ends_with}
+use Rattle.std.specs.Prelude.{◌≡◌, ℕ, ◌-◌, Bool, nat_eq, if◌then◌else◌, List, length, take, codes, Option, Some, None, option_map, option_and_then, map, false}
+use Rattle.std.specs.Option.{option_map_or}
+use Rattle.std.specs.List.{ends_with, list_any}
 use Rattle.std.specs.Borrow.{Bor}
 use Rattle.std.specs.Str.{bytes_eq}
 use Rattle.std.specs.declared.hash.FoldHasher.{FoldHasher}
 use Rattle.std.specs.declared.hash.BuildHasherDefault.{BuildHasherDefault}
 use Rattle.indexmap.specs.IndexMap.{IndexMap, get_by}
-use Rattle.gate_vcd.specs.declared.fault.StimFault.{StimFault}
 use Rattle.gate_vcd.specs.Declarations.{Variable}
 use Rattle.gate_vcd.specs.Items.{Codes, number_of}
 use Rattle.gate_vcd.specs.Inputs.{scalar_code}
@@ -28,16 +28,24 @@ or_else None y = y
 abbrev pub AreScalars : Scalars → List Variable → Type 0
 AreScalars scalars vs = (name : List ℕ) → code_in scalars name ≡ scalar_code vs name
 
+-- codes, without where they lie in memory
+abbrev pub bytes_of : Option (Bor (List ℕ)) → Option (List ℕ)
+bytes_of code = option_map (λ (bytes : Bor (List ℕ)). bytes.now) code
+
+abbrev pub codes_in : List (Option (Bor (List ℕ))) → List (Option (List ℕ))
+codes_in codes = map bytes_of codes
+
+-- this is the code
+abbrev pub is_code_of : Option (List ℕ) → List ℕ → Bool
+is_code_of taken code = option_map_or (bytes_eq code) taken false
+
+-- some net takes the code
+abbrev pub is_used : List (Option (List ℕ)) → List ℕ → Bool
+is_used nets code = list_any (λ taken. is_code_of taken code) nets
+
 -- the numbers of codes
 abbrev pub numbers_of : Codes → List (Option (List ℕ)) → List (Option ℕ)
-numbers_of codes found = map (option_and_then (number_of codes)) found
-
--- the numbers of the codes that were found
-abbrev pub AreNumbers : Codes → List (Option ℕ) → Result (List (Option (List ℕ))) StimFault → Type 0
-AreNumbers codes numbers reading = (found : List (Option (List ℕ))) × (reading ≡ Ok found) × (numbers ≡ numbers_of codes found)
-
-abbrev pub IsNumber : Codes → Option ℕ → Result (Option (List ℕ)) StimFault → Type 0
-IsNumber codes number reading = (found : Option (List ℕ)) × (reading ≡ Ok found) × (number ≡ option_and_then (number_of codes) found)
+numbers_of used nets = map (option_and_then (number_of used)) nets
 
 -- the text before an index of 0 of 0, where it ends with one
 abbrev pub without_index : List ℕ → Option (List ℕ)

@@ -2,18 +2,18 @@ ghost use Rattle.std.specs.Prelude.{◌≡◌, ◌<◌, ◌≤◌, ◌-◌, ℕ,
 ghost use Rattle.gate_values.specs.Changes.{same};
 ghost use Rattle.gate_vcd.specs.Changes.{Event, Item as TextItem, events_from, items, nothing, stamped, last_stamp};
 ghost use Rattle.gate_vcd.specs.Faults.{out_of_memory};
-ghost use Rattle.gate_vcd.specs.Items.{AreKept, AreTaken, IsTaken, TakesItem, ends_at, is_known, item_of, settled, undone, value_after};
+ghost use Rattle.gate_vcd.specs.Items.{AreKept, AreTaken, IsTaken, TakesItem, ends_at, item_of, knows, settled, undone, value_after};
 ghost use Rattle.gate_vcd.specs.Lists.{lists_in};
 ghost use Rattle.gate_vcd.specs.Reading.{Fails, Gives};
 ghost use Rattle.gate_vcd.specs.Words.{token_of};
 
 use crate::fault::{StimCause, StimFault};
 use crate::items::{Item, next_item};
+use crate::known::KnownCodes;
 use crate::numbers::number_up_to;
 use crate::sort::after_first;
 use crate::words::{Word, Words};
 use gate_values::{Change, Logic};
-use indexmap::IndexSet;
 use std::alloc::Global;
 
 /// The greatest time of a stimulus.
@@ -95,19 +95,20 @@ fn empty_lists(alloc: Global, count: usize) -> Result<Vec<Vec<Change>>, StimFaul
     Ok(lists)
 }
 
-/// Takes in a change of a code at a time. The code must be known; a change that is read over has no value.
+/// Takes in a change of a code at a time. The code must be known; a change that is read over has no value, and
+/// one of a code that no input takes leaves the lists as they are.
 fn take_change(
-    codes: &IndexSet<&[u8]>,
+    codes: &KnownCodes,
     lists: &mut Vec<Vec<Change>>,
     now: u64,
     first: Word,
     code: &[u8],
     value: Option<Logic>,
 ) -> Result<(), StimFault>
-    requires { length lists.old.items ≡ length codes.now.keys }
-    ensures { (es : List Event) → AreKept codes.now now es (lists_in lists.old.items) → IsTaken codes.now now (token_of first.entry) code.now value es (lists_in lists.new.items) result }
+    requires { length lists.old.items ≡ length codes.now.used.keys }
+    ensures { (es : List Event) → AreKept codes.now.used now es (lists_in lists.old.items) → IsTaken codes.now now (token_of first.entry) code.now value es (lists_in lists.new.items) result }
 {
-    match codes.get_index_of(code) {
+    match codes.used.get_index_of(code) {
         Some(number) => match value {
             Some(value) => {
                 settle(&mut lists[number], Change { time: now, value })?;
@@ -115,19 +116,20 @@ fn take_change(
             }
             None => Ok(()),
         },
+        None if codes.all.contains(code) => Ok(()),
         None => Err(first.fault(StimCause::UnknownCode)),
     }
 }
 
 /// Takes in an item after a time, and answers the time after it.
 fn take_item(
-    codes: &IndexSet<&[u8]>,
+    codes: &KnownCodes,
     lists: &mut Vec<Vec<Change>>,
     now: u64,
     item: Item,
 ) -> Result<u64, StimFault>
-    requires { length lists.old.items ≡ length codes.now.keys }
-    ensures { (es : List Event) (others : List TextItem) → AreKept codes.now now es (lists_in lists.old.items) → TakesItem codes.now now (item_of item.entry) others es (lists_in lists.new.items) result }
+    requires { length lists.old.items ≡ length codes.now.used.keys }
+    ensures { (es : List Event) (others : List TextItem) → AreKept codes.now.used now es (lists_in lists.old.items) → TakesItem codes.now now (item_of item.entry) others es (lists_in lists.new.items) result }
 {
     match item {
         Item::Stamp(word) => next_stamp(now, word),
@@ -138,15 +140,15 @@ fn take_item(
     }
 }
 
-/// Reads the changes of a stimulus: for each number of a code the list of its changes.
+/// Reads the changes of a stimulus: for each number of a code that inputs take the list of its changes.
 pub fn read_changes<'a>(
     alloc: Global,
     words: &mut Words<'a>,
-    codes: &IndexSet<&'a [u8]>,
+    codes: &KnownCodes<'a>,
 ) -> Result<Vec<Vec<Change>>, StimFault>
-    ensures { MatchResult result (λ lists. AreTaken codes.now (lists_in lists.items) (events_from (is_known codes.now) 0 (items nothing words.old))) (λ e. Fails e (events_from (is_known codes.now) 0 (items nothing words.old))) }
+    ensures { MatchResult result (λ lists. AreTaken codes.now.used (lists_in lists.items) (events_from (knows codes.now) 0 (items nothing words.old))) (λ e. Fails e (events_from (knows codes.now) 0 (items nothing words.old))) }
 {
-    let mut lists = empty_lists(alloc, codes.len())?;
+    let mut lists = empty_lists(alloc, codes.used.len())?;
     let mut now = 0;
     while let Some(item) = next_item(words)? {
         now = take_item(codes, &mut lists, now, item)?;

@@ -1,4 +1,4 @@
-ghost use Rattle.std.specs.Prelude.{◌≡◌, ◌<◌, ◌++◌, ℕ, List, Err, None, Ok, Some, codes, option_map, IfErr, IfOk, MatchResult, OnOk, if◌then◌else◌};
+ghost use Rattle.std.specs.Prelude.{◌≡◌, ◌<◌, ◌++◌, ℕ, List, Err, None, Ok, Some, codes, option_and_then, option_map, IfErr, IfOk, MatchResult, OnOk, if◌then◌else◌};
 ghost use Rattle.std.specs.List.{list_any};
 ghost use Rattle.std.specs.Str.{bytes_eq};
 ghost use Rattle.gate_netlist.specs.Circuit.{nets_of, driver_of, is_input};
@@ -6,9 +6,9 @@ ghost use Rattle.gate_vcd.specs.Commands.{variable as variable_of, variables};
 ghost use Rattle.gate_vcd.specs.Declarations.{begins};
 ghost use Rattle.gate_vcd.specs.Faults.{out_of_memory};
 ghost use Rattle.gate_vcd.specs.Inputs.{is_named_for, is_scalar_of, scalar_code, cause_without, code_or_fault, code_of_net, codes_below};
-ghost use Rattle.gate_vcd.specs.Items.{is_known};
-ghost use Rattle.gate_vcd.specs.Reading.{Fails};
-ghost use Rattle.gate_vcd.specs.Scalars.{AreScalars, AreNumbers, IsNumber, code_if, code_in, or_else, without_index};
+ghost use Rattle.gate_vcd.specs.Items.{number_of};
+ghost use Rattle.gate_vcd.specs.Reading.{Gives};
+ghost use Rattle.gate_vcd.specs.Scalars.{AreScalars, bytes_of, code_if, code_in, codes_in, numbers_of, or_else, without_index};
 
 use crate::fault::{StimCause, StimFault};
 use crate::keyword::{begins, is_word};
@@ -16,18 +16,6 @@ use crate::variable::Variable;
 use gate_netlist::{Circuit, Driver};
 use indexmap::{IndexMap, IndexSet};
 use std::alloc::Global;
-
-/// The codes of variables, each with a number.
-pub fn codes_of<'a>(alloc: Global, all: &[Variable<'a>]) -> Result<IndexSet<&'a [u8]>, StimFault>
-    ensures ok { (code : List ℕ) → IfOk result (λ codes. is_known codes code ≡ list_any (λ v. bytes_eq code v.code) (variables all.now)) }
-    ensures err { IfErr result (λ e. e ≡ out_of_memory) }
-{
-    let mut codes = IndexSet::new(alloc);
-    for variable in all {
-        codes.insert(variable.code)?;
-    }
-    Ok(codes)
-}
 
 /// Keeps a code for a name that has none yet.
 fn note<'v, 'a>(
@@ -146,40 +134,64 @@ pub fn is_input(circuit: &Circuit, net: u32) -> bool
     matches!(circuit.driver(net), Driver::Input)
 }
 
-/// The number of the code of a net, which only an input has.
-fn number_of_net<'a>(
+/// The code of a net, which only an input has.
+fn code_of_net<'a>(
     circuit: &Circuit,
     net: u32,
     scalars: &IndexMap<&[u8], &'a [u8]>,
     all: &[Variable<'a>],
-    codes: &IndexSet<&'a [u8]>,
-) -> Result<Option<usize>, StimFault>
+) -> Result<Option<&'a [u8]>, StimFault>
     requires within { net < nets_of circuit.now }
     requires scalars { AreScalars scalars.now (variables all.now) }
-    ensures { MatchResult result (λ number. IsNumber codes.now number (code_of_net circuit.now (variables all.now) net)) (λ e. code_of_net circuit.now (variables all.now) net ≡ Err e) }
+    ensures { MatchResult result (λ code. code_of_net circuit.now (variables all.now) net ≡ Ok (bytes_of code)) (λ e. code_of_net circuit.now (variables all.now) net ≡ Err e) }
 {
     if !is_input(circuit, net) {
         return Ok(None);
     }
     match code_of_input(scalars, all, net, circuit.name(net).as_bytes()) {
-        Ok(code) => Ok(codes.get_index_of(code)),
+        Ok(code) => Ok(Some(code)),
         Err(fault) => Err(fault),
     }
 }
 
-/// The numbers of the codes of the nets, which only inputs have.
+/// The codes of the nets, which only inputs have.
 pub fn inputs_of<'a>(
     alloc: Global,
     circuit: &Circuit,
     all: &[Variable<'a>],
-    codes: &IndexSet<&'a [u8]>,
-) -> Result<Vec<Option<usize>>, StimFault>
-    ensures { MatchResult result (λ numbers. AreNumbers codes.now numbers.items (codes_below circuit.now (variables all.now) (nets_of circuit.now))) (λ e. Fails e (codes_below circuit.now (variables all.now) (nets_of circuit.now))) }
+) -> Result<Vec<Option<&'a [u8]>>, StimFault>
+    ensures { Gives (λ codes. codes_in codes.items) result (codes_below circuit.now (variables all.now) (nets_of circuit.now)) }
 {
     let scalars = scalars_of(alloc, all)?;
-    let mut numbers = Vec::new(alloc);
+    let mut codes = Vec::new(alloc);
     for net in 0..circuit.nets() {
-        numbers.push(number_of_net(circuit, net, &scalars, all, codes)?)?;
+        codes.push(code_of_net(circuit, net, &scalars, all)?)?;
+    }
+    Ok(codes)
+}
+
+/// The number of a code.
+fn number_of(used: &IndexSet<&[u8]>, code: Option<&[u8]>) -> Option<usize>
+    ensures { result ≡ option_and_then (number_of used.now) (bytes_of code.entry) }
+{
+    match code {
+        Some(code) => used.get_index_of(code),
+        None => None,
+    }
+}
+
+/// The numbers of the codes of the nets.
+pub fn numbers_of(
+    alloc: Global,
+    nets: &[Option<&[u8]>],
+    used: &IndexSet<&[u8]>,
+) -> Result<Vec<Option<usize>>, StimFault>
+    ensures ok { IfOk result (λ numbers. numbers.items ≡ numbers_of used.now (codes_in nets.now)) }
+    ensures err { IfErr result (λ e. e ≡ out_of_memory) }
+{
+    let mut numbers = Vec::new(alloc);
+    for code in nets {
+        numbers.push(number_of(used, *code))?;
     }
     Ok(numbers)
 }

@@ -16,6 +16,7 @@ mod fault;
 mod inputs;
 mod items;
 mod keyword;
+mod known;
 mod laws;
 mod lines;
 mod numbers;

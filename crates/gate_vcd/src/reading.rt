@@ -1,10 +1,11 @@
-ghost use Rattle.std.specs.Prelude.{◌≡◌, option_map};
+ghost use Rattle.std.specs.Prelude.{◌≡◌, [], option_map, MatchResult};
 ghost use Rattle.gate_vcd.specs.Stimulus.{IsAnswer};
 
 use crate::changes::read_changes;
 use crate::declarations::read_declarations;
 use crate::fault::StimFault;
-use crate::inputs::{codes_of, inputs_of};
+use crate::inputs::{inputs_of, numbers_of};
+use crate::known::KnownCodes;
 use crate::stimulus::Stimulus;
 use crate::words::Words;
 use gate_netlist::Circuit;
@@ -20,10 +21,21 @@ pub fn read_stimulus(alloc: Global, text: &[u8], circuit: &Circuit) -> Result<St
     circuit.law();
     let mut words = Words::new(text);
     let declared = read_declarations(alloc, &mut words, asked_scope(circuit))?;
-    let codes = codes_of(alloc, &declared.variables)?;
+    let inputs = inputs_of(alloc, circuit, &declared.variables);
+    let codes = KnownCodes::of(alloc, &declared.variables, found(&inputs))?;
     let lists = read_changes(alloc, &mut words, &codes)?;
-    let list_of = inputs_of(alloc, circuit, &declared.variables, &codes)?;
+    let list_of = numbers_of(alloc, &inputs?, &codes.used)?;
     Ok(Stimulus::new(declared.timescale, lists, list_of))
+}
+
+/// The codes of nets, none where some input has none.
+fn found<'v, 'a>(inputs: &'v Result<Vec<Option<&'a [u8]>>, StimFault>) -> &'v [Option<&'a [u8]>]
+    ensures { MatchResult inputs.now (λ codes. result.now ≡ codes.items) (λ e. result.now ≡ []) }
+{
+    match inputs {
+        Ok(codes) => codes.as_slice(),
+        Err(_) => &[],
+    }
 }
 
 /// The scope whose variables alone count.

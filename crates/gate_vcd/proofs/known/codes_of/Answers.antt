@@ -1,6 +1,6 @@
 use Rattle.gate_vcd.specs.Items.{is_known}
 use Rattle.gate_vcd.proofs.InputLaws.{more_codes}
-use Rattle.gate_vcd.proofs.inputs.codes_of.Goals as goal
+use Rattle.gate_vcd.proofs.known.codes_of.Goals as goal
 
 pub loop-variable-preserved : goal.loop-variable-preserved
 loop-variable-preserved c code =

@@ -3,7 +3,7 @@ use Rattle.std.specs.List.{list_any}
 use Rattle.std.specs.Str.{bytes_eq}
 use Rattle.gate_vcd.specs.Commands.{variables}
 use Rattle.gate_vcd.specs.Items.{is_known}
-use Rattle.gate_vcd.proofs.inputs.codes_of.Given as goal
+use Rattle.gate_vcd.proofs.known.codes_of.Given as goal
 
 -- the codes of the variables so far are known
 abbrev pub invariant-loop-variable : goal.invariant-loop-variable

@@ -1,8 +1,0 @@
-use Rattle.std.proofs.Common.{◌≡◌, ◌∙◌, sym, refl, true, Some}
-use Rattle.gate_netlist.specs.Circuit.{driver_of, is_input}
-use Rattle.gate_vcd.proofs.inputs.number_of_net.Goals as goal
-
-pub returns-in-Ok : goal.returns-in-Ok
-returns-in-Ok c =
-    let input : is_input (driver_of c.args.circuit.now c.args.net) ≡ true = sym c.is_input.ensures ∙ c.if-not-is_input.false in
-    (Some c.in-Ok.code.now, rw (input, ← c.name.ensures, ← c.as_bytes.ensures.value, c.in-Ok.ensures) refl, c.get_index_of.ensures.index)
