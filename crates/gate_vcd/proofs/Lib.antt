@@ -1,3 +1,4 @@
+pub mod Laid
 pub mod Latest
 pub mod DumpRows
 pub mod Compared

@@ -5,30 +5,28 @@ use Rattle.std.specs.Str.{bytes_eq}
 use Rattle.std.proofs.lemmas.Bool.{cases_eq}
 use Rattle.std.proofs.lemmas.Bool.Decides.{nat_tests}
 use Rattle.std.proofs.lemmas.Grind.{common_steps}
-use Rattle.std.proofs.lemmas.List.{length-map, get_or_past, get_or_default}
+use Rattle.std.proofs.lemmas.List.{length-map, get_or_default}
 use Rattle.std.proofs.lemmas.Option.{same_Some}
 use Rattle.gate_values.specs.declared.logic.Logic.{Logic}
 use Rattle.gate_values.specs.declared.logic.Logic.TheVariants.{X}
 use Rattle.gate_values.specs.declared.logic.Change.{Change}
 use Rattle.gate_values.specs.Changes.{changes, change_at, just_before, latest, same}
-use Rattle.gate_values.proofs.ChangeLists.{same_is}
+use Rattle.gate_values.proofs.ChangeLists.{changes-agree, same_is}
 use Rattle.gate_netlist.specs.Circuit.{Design, nets_of, driver_of, name_of, is_input}
 use Rattle.gate_vcd.specs.declared.fault.StimFault.{StimFault}
 use Rattle.gate_vcd.specs.declared.fault.StimCause.{StimCause}
 use Rattle.std.proofs.lemmas.Slice.Eq.{bytes_eq-Decides}
 use Rattle.gate_vcd.specs.Tokens.{Token, tokens_of}
-use Rattle.gate_vcd.specs.Reading.{◌>>=◌, Fails, Gives}
+use Rattle.gate_vcd.specs.Reading.{◌>>=◌, Fails}
 use Rattle.gate_vcd.specs.Declarations.{Header, Variable, no_header, declaring}
 use Rattle.gate_vcd.specs.Changes.{Item, stamp, change, wrong, Event, items, nothing, events_from, stamped, changes_with, value_with, last_stamp}
 use Rattle.gate_vcd.specs.Items.{Codes, AreKept, is_known, knows, number_of}
 use Rattle.gate_vcd.specs.declared.known.KnownCodes.{KnownCodes}
-use Rattle.gate_vcd.specs.declared.variable.Variable.{Variable as Held}
-use Rattle.gate_vcd.specs.Commands.{variables}
 use Rattle.gate_vcd.specs.Inputs.{codes_below, code_of_net, code_or_fault, scalar_code, is_scalar_of}
 use Rattle.gate_vcd.specs.Lists.{lists_in, IsRising}
-use Rattle.gate_vcd.specs.Given.{Given, Fits, changes_of, value_at}
+use Rattle.gate_vcd.specs.Given.{Given, AreItsChanges, Fits, changes_of, value_at}
 use Rattle.gate_vcd.specs.Held.{given_by, AreLaidOut}
-use Rattle.gate_vcd.specs.Scalars.{codes_in, is_code_of, is_used, numbers_of}
+use Rattle.gate_vcd.specs.Scalars.{AreInputs, codes_in, is_code_of, is_used, numbers_of}
 use Rattle.gate_vcd.specs.Stimulus.{reading_of, has_code, value_of_code, Means}
 use Rattle.gate_vcd.proofs.DeclarationLaws.{fails_then}
 use Rattle.gate_vcd.proofs.Settling.{AreBelow, latest-flat, changes-below}
@@ -135,6 +133,10 @@ changes-rising f zero = λ i j d h l. absurd (omega arith)
 changes-rising f (suc b) =
     elim (same (f b) (just_before f b)) as (λ s. IsRising (changes f b ++ cond s [] (record { time = b; value = f b } ∷ [])))
     [ true ↦ rw (append-nil (changes f b)) (changes-rising f b) | false ↦ rising-push (changes f b) (record { time = b; value = f b }) (changes-rising f b) (changes-below f b) ]
+
+-- the changes of a function are those of the values that they leave
+its-changes : (f : ℕ → Logic) (b : ℕ) → changes f b ≡ changes (latest X (changes f b)) b
+its-changes f b = sym (changes-agree (latest X (changes f b)) f b (latest-changes f b))
 
 -- the codes of the nets
 opened_up : (r : Result (List (Option (List ℕ))) StimFault) (c : Result (Option (List ℕ)) StimFault) (found : List (Option (List ℕ))) → (r >>= λ before. (c >>= λ code. Ok (before ++ code ∷ []))) ≡ Ok found
@@ -256,12 +258,12 @@ module _ (d : Design) (h : Header) (used : Codes) (lists : List (Vec Change Glob
   pub means : Means d (record { timescale = h.timescale; events = es; codes = found }) given
   means = record { timescale = refl; fits = fits-circuit; values = value-is; changes = wave-at }
 
-  laid-by : (o : Option ℕ) (code : Option (List ℕ)) → o ≡ option_and_then (number_of used) code → IfSome o (λ k. (k < length lists) × IsRising (get_or (lists_in lists) k []))
+  laid-by : (o : Option ℕ) (code : Option (List ℕ)) → o ≡ option_and_then (number_of used) code → IfSome o (λ k. (k < length lists) × AreItsChanges (get_or (lists_in lists) k []))
   laid-by None code e = tt
   laid-by (Some k) None e = absurd (none_some (sym e))
   laid-by (Some k) (Some code) e =
       let at : number_of used code ≡ Some k = sym e in
-      (omega (arith, number_within used code k at, kept.count, length-map lists (λ (v : Vec Change Global). v.items)), rw (kept.changes code k at) (changes-rising (value_with code es) (last_stamp + 1)))
+      (omega (arith, number_within used code k at, kept.count, length-map lists (λ (v : Vec Change Global). v.items)), rw (kept.changes code k at) (its-changes (value_with code es) (last_stamp + 1)))
 
   pub laid : AreLaidOut lists list_of
   laid n o l = laid-by (get_or list_of n o) (get_or found n None) (get_or_default list_of n o None l ∙ number-at n)
@@ -289,7 +291,7 @@ some-coded d vs (suc m) found e code u =
     go false (Some taken) earlier c by = rw (same_bytes code taken by) ((coded-by (is_input (driver_of d m)) vs (name_of d m) m _ (Some taken) c).1 taken refl)
 
 -- also where the nets have no codes, since some input has none
-pub used-coded : (d : Design) (vs : List Variable) (inputs : Result (Vec (Option (Bor (List ℕ))) Global) StimFault) (shown : List (Option (Bor (List ℕ)))) → Gives (λ v. codes_in v.items) inputs (codes_below d vs (nets_of d))
+pub used-coded : (d : Design) (vs : List Variable) (inputs : Result (Vec (Option (Bor (List ℕ))) Global) StimFault) (shown : List (Option (Bor (List ℕ)))) → AreInputs inputs (codes_below d vs (nets_of d))
     → MatchResult inputs (λ v. shown ≡ v.items) (λ e. shown ≡ []) → (code : List ℕ) → is_used (codes_in shown) code ≡ true → has_code vs code ≡ true
 used-coded d vs (Ok v) shown read is code u = some-coded d vs (nets_of d) (codes_in v.items) read code (ap (λ cs. is_used (codes_in cs) code) (sym is) ∙ u)
 used-coded d vs (Err e) shown read is code u =
@@ -303,7 +305,7 @@ either-known false b f = refl
 -- the known codes are those of the variables
 pub known-codes : (d : Design) (vs : List Variable) (known : KnownCodes) (inputs : Result (Vec (Option (Bor (List ℕ))) Global) StimFault) (shown : List (Option (Bor (List ℕ))))
     → ((code : List ℕ) → is_known known.all code ≡ has_code vs code) → ((code : List ℕ) → is_known known.used code ≡ is_used (codes_in shown) code)
-    → Gives (λ v. codes_in v.items) inputs (codes_below d vs (nets_of d)) → MatchResult inputs (λ v. shown ≡ v.items) (λ e. shown ≡ []) → (code : List ℕ) → knows known code ≡ has_code vs code
+    → AreInputs inputs (codes_below d vs (nets_of d)) → MatchResult inputs (λ v. shown ≡ v.items) (λ e. shown ≡ []) → (code : List ℕ) → knows known code ≡ has_code vs code
 known-codes d vs known inputs shown all used read is code =
     rw (all code) (either-known (is_known known.used code) (has_code vs code) (λ u. used-coded d vs inputs shown read is code (sym (used code) ∙ u)))
 

@@ -5,8 +5,8 @@ use Rattle.std.specs.declared.alloc.Global.{Global}
 use Rattle.gate_values.specs.declared.logic.Change.{Change}
 use Rattle.gate_vcd.specs.declared.stimulus.Stimulus.TheInside.{Inside}
 use Rattle.gate_vcd.specs.declared.timescale.Timescale.{Timescale}
-use Rattle.gate_vcd.specs.Given.{Given}
-use Rattle.gate_vcd.specs.Lists.{lists_in, IsRising}
+use Rattle.gate_vcd.specs.Given.{Given, AreItsChanges}
+use Rattle.gate_vcd.specs.Lists.{lists_in}
 
 -- Nets whose changes have one code share a list.
 abbrev pub given_by : Timescale → List (Vec Change Global) → List (Option ℕ) → Given
@@ -15,9 +15,9 @@ given_by timescale lists list_of = record {
   waves = map (option_map (λ k. get_or (lists_in lists) k [])) list_of;
 }
 
--- each net that has a list refers to one, whose times rise
+-- each net that has a list refers to one, which is that of the changes of its values
 abbrev pub AreLaidOut : List (Vec Change Global) → List (Option ℕ) → Type 0
-AreLaidOut lists list_of = All (λ o. IfSome o (λ k. (k < length lists) × IsRising (get_or (lists_in lists) k []))) list_of
+AreLaidOut lists list_of = All (λ o. IfSome o (λ k. (k < length lists) × AreItsChanges (get_or (lists_in lists) k []))) list_of
 
 abbrev pub given_of : Inside → Given
 given_of s = given_by s.timescale s.lists.items s.list_of.items

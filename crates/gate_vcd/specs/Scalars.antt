@@ -1,5 +1,5 @@
 -- What a reader keeps of the variables: the codes with their numbers, and the scalars by their names.
-use Rattle.std.specs.Prelude.{◌≡◌, ℕ, ◌-◌, Bool, nat_eq, if◌then◌else◌, List, length, take, codes, Option, Some, None, option_map, option_and_then, map, false}
+use Rattle.std.specs.Prelude.{◌≡◌, ℕ, ◌-◌, Bool, nat_eq, if◌then◌else◌, List, length, take, codes, Option, Some, None, option_map, option_and_then, map, false, Result, Ok, Err, Vec}
 use Rattle.std.specs.Option.{option_map_or}
 use Rattle.std.specs.List.{ends_with, list_any}
 use Rattle.std.specs.Borrow.{Bor}
@@ -7,6 +7,8 @@ use Rattle.std.specs.Str.{bytes_eq}
 use Rattle.std.specs.declared.hash.FoldHasher.{FoldHasher}
 use Rattle.std.specs.declared.hash.BuildHasherDefault.{BuildHasherDefault}
 use Rattle.indexmap.specs.IndexMap.{IndexMap, get_by}
+use Rattle.std.specs.declared.alloc.Global.{Global}
+use Rattle.gate_vcd.specs.declared.fault.StimFault.{StimFault}
 use Rattle.gate_vcd.specs.Declarations.{Variable}
 use Rattle.gate_vcd.specs.Items.{Codes, number_of}
 use Rattle.gate_vcd.specs.Inputs.{scalar_code}
@@ -34,6 +36,11 @@ bytes_of code = option_map (λ (bytes : Bor (List ℕ)). bytes.now) code
 
 abbrev pub codes_in : List (Option (Bor (List ℕ))) → List (Option (List ℕ))
 codes_in codes = map bytes_of codes
+
+-- these are the codes of the nets, or the fault of the first input without one
+abbrev pub AreInputs : Result (Vec (Option (Bor (List ℕ))) Global) StimFault → Result (List (Option (List ℕ))) StimFault → Type 0
+AreInputs (Ok codes) reading = reading ≡ Ok (codes_in codes.items)
+AreInputs (Err e) reading = reading ≡ Err e
 
 -- this is the code
 abbrev pub is_code_of : Option (List ℕ) → List ℕ → Bool

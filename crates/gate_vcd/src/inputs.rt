@@ -7,8 +7,7 @@ ghost use Rattle.gate_vcd.specs.Declarations.{begins};
 ghost use Rattle.gate_vcd.specs.Faults.{out_of_memory};
 ghost use Rattle.gate_vcd.specs.Inputs.{is_named_for, is_scalar_of, scalar_code, cause_without, code_or_fault, code_of_net, codes_below};
 ghost use Rattle.gate_vcd.specs.Items.{number_of};
-ghost use Rattle.gate_vcd.specs.Reading.{Gives};
-ghost use Rattle.gate_vcd.specs.Scalars.{AreScalars, bytes_of, code_if, code_in, codes_in, numbers_of, or_else, without_index};
+ghost use Rattle.gate_vcd.specs.Scalars.{AreInputs, AreScalars, bytes_of, code_if, code_in, codes_in, numbers_of, or_else, without_index};
 
 use crate::fault::{StimCause, StimFault};
 use crate::keyword::{begins, is_word};
@@ -154,20 +153,25 @@ fn code_of_net<'a>(
     }
 }
 
-/// The codes of the nets, which only inputs have.
+/// The codes of the nets, which only inputs have, or the fault of the first input that has none. Only want of
+/// memory is an error of the function itself, since the faults of the changes come before those of the inputs.
 pub fn inputs_of<'a>(
     alloc: Global,
     circuit: &Circuit,
     all: &[Variable<'a>],
-) -> Result<Vec<Option<&'a [u8]>>, StimFault>
-    ensures { Gives (λ codes. codes_in codes.items) result (codes_below circuit.now (variables all.now) (nets_of circuit.now)) }
+) -> Result<Result<Vec<Option<&'a [u8]>>, StimFault>, StimFault>
+    ensures ok { IfOk result (λ inputs. AreInputs inputs (codes_below circuit.now (variables all.now) (nets_of circuit.now))) }
+    ensures err { IfErr result (λ e. e ≡ out_of_memory) }
 {
     let scalars = scalars_of(alloc, all)?;
     let mut codes = Vec::new(alloc);
     for net in 0..circuit.nets() {
-        codes.push(code_of_net(circuit, net, &scalars, all)?)?;
+        match code_of_net(circuit, net, &scalars, all) {
+            Ok(code) => codes.push(code)?,
+            Err(fault) => return Ok(Err(fault)),
+        }
     }
-    Ok(codes)
+    Ok(Ok(codes))
 }
 
 /// The number of a code.

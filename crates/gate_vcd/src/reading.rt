@@ -21,10 +21,11 @@ pub fn read_stimulus(alloc: Global, text: &[u8], circuit: &Circuit) -> Result<St
     circuit.law();
     let mut words = Words::new(text);
     let declared = read_declarations(alloc, &mut words, asked_scope(circuit))?;
-    let inputs = inputs_of(alloc, circuit, &declared.variables);
+    let inputs = inputs_of(alloc, circuit, &declared.variables)?;
     let codes = KnownCodes::of(alloc, &declared.variables, found(&inputs))?;
     let lists = read_changes(alloc, &mut words, &codes)?;
-    let list_of = numbers_of(alloc, &inputs?, &codes.used)?;
+    let taken = inputs?;
+    let list_of = numbers_of(alloc, &taken, &codes.used)?;
     Ok(Stimulus::new(declared.timescale, lists, list_of))
 }
 

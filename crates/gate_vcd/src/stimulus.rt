@@ -1,7 +1,7 @@
-ghost use Rattle.std.specs.Prelude.{◌≡◌, ◌≤◌, ◌↔◌, IsTrue, true, false, is_some, length, map, nat_le};
+ghost use Rattle.std.specs.Prelude.{◌≡◌, ◌≤◌, ◌↔◌, ℕ, IsTrue, true, false, is_some, length, map, nat_le};
 ghost use Rattle.std.specs.List.Sorted.{IsPartitionPoint};
 ghost use Rattle.gate_netlist.specs.Circuit.{is_input};
-ghost use Rattle.gate_vcd.specs.Given.{changes_of, value_at, Fits};
+ghost use Rattle.gate_vcd.specs.Given.{AreItsChanges, changes_of, value_at, Fits};
 ghost use Rattle.gate_vcd.specs.Lists.{IsRising};
 
 use crate::inputs::is_input;
@@ -49,6 +49,13 @@ impl Stimulus {
         }
     }
 
+    /// What is true of every stimulus: its changes are those of its values.
+    pub fn law(&self)
+        ensures { (n : ℕ) → AreItsChanges (changes_of self.now n) }
+    {
+        let _ = &self.lists;
+    }
+
     /// The timescale of the text, `1 ns` where it has none.
     pub fn timescale(&self) -> Timescale
         ensures { result ≡ self.now.timescale }
@@ -56,9 +63,10 @@ impl Stimulus {
         self.timescale
     }
 
-    fn rising_changes(&self, net: u32) -> &[Change]
-        ensures list { result.now ≡ changes_of self.now net }
-        ensures rising { IsRising result.now }
+    /// The changes of an input, at rising times, each to another value than the one before, `X` at first; none
+    /// for a number that is no input. Times are in units of the timescale.
+    pub fn changes(&self, net: u32) -> &[Change]
+        ensures { result.now ≡ changes_of self.now net }
     {
         match self.list_of.get(net as usize) {
             Some(Some(list)) => self.lists[*list].as_slice(),
@@ -66,18 +74,12 @@ impl Stimulus {
         }
     }
 
-    /// The changes of an input, at rising times; none for a number that is no input.
-    pub fn changes(&self, net: u32) -> &[Change]
-        ensures { result.now ≡ changes_of self.now net }
-    {
-        self.rising_changes(net)
-    }
-
-    /// The value of an input at a time; `X` for a number that is no input.
+    /// The value of an input at a time, in units of the timescale; `X` for a number that is no input.
     pub fn at(&self, net: u32, time: u64) -> Logic
         ensures { result ≡ value_at self.now net time }
     {
-        let changes = self.rising_changes(net);
+        self.law();
+        let changes = self.changes(net);
         let count = count_until(changes, time);
         if count == 0 {
             Logic::X

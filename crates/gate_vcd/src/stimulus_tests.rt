@@ -19,7 +19,7 @@ fn stimulus(alloc: Global, bench: &[u8], text: &[u8]) -> Result<Stimulus, Fail> 
     Ok(read_stimulus(alloc, text, &circuit)?)
 }
 
-/// Whether the text is refused so, or memory ran out.
+/// Whether the text is refused so.
 fn is_refused(
     alloc: Global,
     bench: &[u8],
@@ -31,9 +31,7 @@ fn is_refused(
     let circuit = circuit(alloc, bench, settings)?;
     match read_stimulus(alloc, text, &circuit) {
         Ok(_) => Ok(false),
-        Err(fault) => {
-            Ok((fault.at == at && fault.cause == cause) || fault.cause == StimCause::Memory)
-        }
+        Err(fault) => Ok(fault.at == at && fault.cause == cause),
     }
 }
 

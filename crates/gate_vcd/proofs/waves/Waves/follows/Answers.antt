@@ -1,4 +1,3 @@
-use Rattle.std.proofs.Common.{false, ◌<◌, length}
 use Rattle.gate_values.specs.declared.logic.Logic.TheVariants.{Zero}
 use Rattle.gate_values.specs.declared.logic.Change.{Change}
 use Rattle.gate_vcd.proofs.Following.{early, later}
