@@ -10,6 +10,7 @@ use Rattle.gate_netlist.specs.Netlist.{Netlist, IsNetlist, IsDefinition}
 use Rattle.gate_netlist.specs.Causes.{number_of, has_flop}
 use Rattle.gate_netlist.specs.Meaning.{with_clock}
 use Rattle.gate_netlist.specs.Clocked.{HasClock}
+use Rattle.gate_netlist.proofs.Distinct.{length-le-bound}
 
 -- ---- places in a list
 
@@ -55,36 +56,39 @@ found_unless true (Some x) e t = refl
 found_unless true None e t = absurd cc
 found_unless false o e t = absurd cc
 
-clocked_as_it_is : (name : List ℕ) (b : Netlist) → IsNetlist b → length b.outputs ≤ length b.names → (has_flop b && is_none (number_of b name)) ≡ false → HasClock name b
-clocked_as_it_is name b h marks e = record {
+-- no more nets are marked than there are
+marks_within : (b : Netlist) → IsNetlist b → length b.outputs ≤ length b.names
+marks_within b h = length-le-bound b.outputs (length b.names) h.distinct h.outputs
+
+clocked_as_it_is : (name : List ℕ) (b : Netlist) → IsNetlist b → (has_flop b && is_none (number_of b name)) ≡ false → HasClock name b
+clocked_as_it_is name b h e = record {
   within = omega (arith, h.within);
   definitions = h.definitions;
   defined = h.defined;
   outputs = h.outputs;
-  marks = marks;
+  marks = marks_within b h;
   clocked = found_unless (has_flop b) (number_of b name) e;
 }
 
-clocked_by_one_more : (name : List ℕ) (b : Netlist) → IsNetlist b → length b.outputs ≤ length b.names
-    → HasClock name (record { names = b.names ++ name ∷ []; definitions = b.definitions ++ Input ∷ []; outputs = b.outputs })
-clocked_by_one_more name b h marks = record {
+clocked_by_one_more : (name : List ℕ) (b : Netlist) → IsNetlist b → HasClock name (record { names = b.names ++ name ∷ []; definitions = b.definitions ++ Input ∷ []; outputs = b.outputs })
+clocked_by_one_more name b h = record {
   within = omega (arith, h.within, length-append b.names (name ∷ []));
   definitions = omega (arith, h.definitions, length-append b.names (name ∷ []), length-append b.definitions (Input ∷ []));
   defined = λ n l. rw (get_or-and_input b.definitions n) (IsDefinition-wider (length b.names) _ _ (omega (arith, length-append b.names (name ∷ []))) (IsDefinition-anywhere b n h));
   outputs = λ k d l. omega (arith, h.outputs k d l, length-append b.names (name ∷ []));
-  marks = omega (arith, marks, length-append b.names (name ∷ []));
+  marks = omega (arith, marks_within b h, length-append b.names (name ∷ []));
   clocked = λ f. position-last (λ other. bytes_eq name other) b.names name (bytes_eq-itself name);
 }
 
-pub has_clock : (name : List ℕ) (b : Netlist) → IsNetlist b → length b.outputs ≤ length b.names → HasClock name (with_clock name b)
-has_clock name b h marks =
+pub has_clock : (name : List ℕ) (b : Netlist) → IsNetlist b → HasClock name (with_clock name b)
+has_clock name b h =
     elim (cases_Bool (has_flop b && is_none (number_of b name))) [
-      | inl added ↦ rw added (clocked_by_one_more name b h marks)
-      | inr stays ↦ rw stays (clocked_as_it_is name b h marks stays)
+      | inl added ↦ rw added (clocked_by_one_more name b h)
+      | inr stays ↦ rw stays (clocked_as_it_is name b h stays)
     ]
 
 -- the same, as the code comes to it: by the parts of the bench, and the name that it found
-pub has_clock_by : (name given : List ℕ) (more parts b : Netlist) → more ≡ with_clock name parts → name ≡ given → parts ≡ b → IsNetlist b → length parts.outputs ≤ length parts.names → HasClock given more
-has_clock_by name given more parts b added named same h marks =
+pub has_clock_by : (name given : List ℕ) (more parts b : Netlist) → more ≡ with_clock name parts → name ≡ given → parts ≡ b → IsNetlist b → HasClock given more
+has_clock_by name given more parts b added named same h =
     let law : IsNetlist parts = rw same h in
-    rw (← named, added) (has_clock name parts law marks)
+    rw (← named, added) (has_clock name parts law)

@@ -4,6 +4,7 @@ pub mod Positions
 pub mod EvenCuts
 pub mod Members
 pub mod SettingNets
+pub mod Distinct
 pub mod Clocks
 pub mod SettingValues
 pub mod Circuits

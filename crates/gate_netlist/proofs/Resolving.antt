@@ -24,6 +24,7 @@ use Rattle.gate_netlist.specs.Lines.{lines_of}
 use Rattle.gate_netlist.specs.Meant.{meant}
 use Rattle.gate_netlist.proofs.Positions.{position-map}
 use Rattle.gate_netlist.proofs.Naming.{place_none}
+use Rattle.gate_netlist.proofs.Distinct.{each_once-distinct}
 
 -- ---- what a line says has inputs enough
 
@@ -241,6 +242,7 @@ is_netlist ss a e =
       definitions = as_many (nets_of ss) ss;
       defined = λ n lt. at-place (length (nets_of ss)) (filter_map (definition_of (nets_of ss)) ss) n defined;
       outputs = All-from_recursion (λ i. i < length (nets_of ss)) (each_once (filter_map (output_of (nets_of ss)) ss)) (once-below (length (nets_of ss)) [] (filter_map (output_of (nets_of ss)) ss) tt (outputs-below (nets_of ss) ss driven));
+      distinct = each_once-distinct (filter_map (output_of (nets_of ss)) ss);
     }
 
 -- ---- by the statements as they were written

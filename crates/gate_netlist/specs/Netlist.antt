@@ -1,6 +1,6 @@
 -- What a bench text says: nets in the order of their defining lines.
-use Rattle.std.specs.Prelude.{◌≡◌, ℕ, ◌<◌, ◌≤◌, List, length, get_or}
-use Rattle.std.specs.List.{All}
+use Rattle.std.specs.Prelude.{◌≡◌, ℕ, ◌<◌, ◌≤◌, nat_eq, List, length, get_or}
+use Rattle.std.specs.List.{All, IsDistinct}
 use Rattle.gate_values.specs.Tables.{HasInputs}
 use Rattle.gate_netlist.specs.declared.bench.Definition.{Definition}
 use Rattle.gate_netlist.specs.declared.bench.Definition.TheVariants.{Input, Gate, Flop}
@@ -23,3 +23,4 @@ pub record IsNetlist (b : Netlist) : Type 0 where
   pub definitions : length b.definitions ≡ length b.names
   pub defined : (n : ℕ) → n < length b.names → IsDefinition (length b.names) (get_or b.definitions n Input)
   pub outputs : All (λ n. n < length b.names) b.outputs
+  pub distinct : IsDistinct nat_eq b.outputs

@@ -28,11 +28,6 @@ pub(super) fn build(alloc: Global, bench: Bench, table: &Table) -> Result<Circui
     ensures { IfOk result (λ circuit. circuit ≡ circuit_of bench (table_view table.now)) }
 {
     let parts = parts_of(bench);
-    // A bench that was read marks each net once at most. The type `Bench` doesn't say so yet, and
-    // the number of outputs is to fit.
-    if parts.outputs.len() > parts.names.len() {
-        return Err(AllocError);
-    }
     let clocked = with_clock(alloc, parts, clock_name(table))?;
     circuit_of_parts(alloc, clocked, table)
 }
