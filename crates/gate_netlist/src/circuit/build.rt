@@ -4,7 +4,6 @@ ghost use Rattle.gate_netlist.specs.Causes.{is_flop_line};
 ghost use Rattle.std.specs.Str.{bytes_eq};
 ghost use Rattle.toml.specs.Data.{get_member, as_table};
 ghost use Rattle.toml.specs.View.{table_view};
-ghost use Rattle.gate_netlist.specs.Netlist.{IsNetlist};
 ghost use Rattle.gate_netlist.specs.Settings.{clock_name, text_at};
 ghost use Rattle.gate_netlist.specs.Clocked.{HasClock};
 ghost use Rattle.gate_netlist.specs.HeldParts.{parts_netlist};
