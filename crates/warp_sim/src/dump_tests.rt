@@ -29,74 +29,76 @@ struct Dump<'a> {
     changes: &'a str,
 }
 
+const DUMPS: [Dump; 8] = [
+    Dump {
+        line: "warp_sim run --until 10 b v",
+        bench: INVERTER,
+        settings: "",
+        stimulus: RISE_AT_5,
+        head: INVERTER_DUMP,
+        changes: "",
+    },
+    Dump {
+        line: "warp_sim run --until 8 b v",
+        bench: LOOP,
+        settings: "",
+        stimulus: ENABLE_AT_4,
+        head: LOOP_HEAD,
+        changes: "#1\n1\"\n#4\n1!\n#5\n0\"\n#6\n1\"\n#7\n0\"\n#8\n1\"\n",
+    },
+    Dump {
+        line: "warp_sim run --until 12 --settings s b v",
+        bench: LOOP,
+        settings: "[net]\nY = 2\n",
+        stimulus: ENABLE_AT_4,
+        head: LOOP_HEAD,
+        changes: "#2\n1\"\n#4\n1!\n#6\n0\"\n#8\n1\"\n#10\n0\"\n#12\n1\"\n",
+    },
+    Dump {
+        line: "warp_sim run --until 0 --settings s b v",
+        bench: LOOP,
+        settings: "[net]\nY = 2\n",
+        stimulus: ENABLE_AT_4,
+        head: LOOP_HEAD,
+        changes: "",
+    },
+    Dump {
+        line: "warp_sim run --until 0 b v",
+        bench: "",
+        settings: "",
+        stimulus: "",
+        head: EMPTY_DUMP,
+        changes: "",
+    },
+    Dump {
+        line: "warp_sim run --until 3 b v",
+        bench: "",
+        settings: "",
+        stimulus: "",
+        head: EMPTY_DUMP,
+        changes: "#3\n",
+    },
+    Dump {
+        line: "warp_sim run --until 20 --settings s b v",
+        bench: "INPUT(A)\nY = BUFF(A)\n",
+        settings: "default = 5\n",
+        stimulus: "$var wire 1 ! A $end $enddefinitions $end #0 0! #10 1! #11 0!",
+        head: "$timescale 1 ns $end\n$scope module top $end\n$var wire 1 ! A $end\n$var wire 1 \" Y $end\n$upscope $end\n$enddefinitions $end\n#0\n$dumpvars\n0!\nx\"\n$end\n",
+        changes: "#5\n0\"\n#10\n1!\n#11\n0!\n#15\n1\"\n#16\n0\"\n#20\n",
+    },
+    Dump {
+        line: "warp_sim run --until 8 b v",
+        bench: "INPUT(D)\nQ = DFF(D)\n",
+        settings: "",
+        stimulus: "$var wire 1 d D $end $var wire 1 k CK $end $enddefinitions $end #0 0d 0k #5 1d 1k",
+        head: "$timescale 1 ns $end\n$scope module top $end\n$var wire 1 ! D $end\n$var wire 1 \" Q $end\n$var wire 1 # CK $end\n$upscope $end\n$enddefinitions $end\n#0\n$dumpvars\n0!\nx\"\n0#\n$end\n",
+        changes: "#5\n1!\n1#\n#6\n0\"\n#8\n",
+    },
+];
+
 #[test]
 fn dumps_are_exact(rt: HostRuntime) -> Result<(), Fail> {
-    for dump in [
-        Dump {
-            line: "warp_sim run --until 10 b v",
-            bench: INVERTER,
-            settings: "",
-            stimulus: RISE_AT_5,
-            head: INVERTER_DUMP,
-            changes: "",
-        },
-        Dump {
-            line: "warp_sim run --until 8 b v",
-            bench: LOOP,
-            settings: "",
-            stimulus: ENABLE_AT_4,
-            head: LOOP_HEAD,
-            changes: "#1\n1\"\n#4\n1!\n#5\n0\"\n#6\n1\"\n#7\n0\"\n#8\n1\"\n",
-        },
-        Dump {
-            line: "warp_sim run --until 12 --settings s b v",
-            bench: LOOP,
-            settings: "[net]\nY = 2\n",
-            stimulus: ENABLE_AT_4,
-            head: LOOP_HEAD,
-            changes: "#2\n1\"\n#4\n1!\n#6\n0\"\n#8\n1\"\n#10\n0\"\n#12\n1\"\n",
-        },
-        Dump {
-            line: "warp_sim run --until 0 --settings s b v",
-            bench: LOOP,
-            settings: "[net]\nY = 2\n",
-            stimulus: ENABLE_AT_4,
-            head: LOOP_HEAD,
-            changes: "",
-        },
-        Dump {
-            line: "warp_sim run --until 0 b v",
-            bench: "",
-            settings: "",
-            stimulus: "",
-            head: EMPTY_DUMP,
-            changes: "",
-        },
-        Dump {
-            line: "warp_sim run --until 3 b v",
-            bench: "",
-            settings: "",
-            stimulus: "",
-            head: EMPTY_DUMP,
-            changes: "#3\n",
-        },
-        Dump {
-            line: "warp_sim run --until 20 --settings s b v",
-            bench: "INPUT(A)\nY = BUFF(A)\n",
-            settings: "default = 5\n",
-            stimulus: "$var wire 1 ! A $end $enddefinitions $end #0 0! #10 1! #11 0!",
-            head: "$timescale 1 ns $end\n$scope module top $end\n$var wire 1 ! A $end\n$var wire 1 \" Y $end\n$upscope $end\n$enddefinitions $end\n#0\n$dumpvars\n0!\nx\"\n$end\n",
-            changes: "#5\n0\"\n#10\n1!\n#11\n0!\n#15\n1\"\n#16\n0\"\n#20\n",
-        },
-        Dump {
-            line: "warp_sim run --until 8 b v",
-            bench: "INPUT(D)\nQ = DFF(D)\n",
-            settings: "",
-            stimulus: "$var wire 1 d D $end $var wire 1 k CK $end $enddefinitions $end #0 0d 0k #5 1d 1k",
-            head: "$timescale 1 ns $end\n$scope module top $end\n$var wire 1 ! D $end\n$var wire 1 \" Q $end\n$var wire 1 # CK $end\n$upscope $end\n$enddefinitions $end\n#0\n$dumpvars\n0!\nx\"\n0#\n$end\n",
-            changes: "#5\n1!\n1#\n#6\n0\"\n#8\n",
-        },
-    ] {
+    for dump in DUMPS {
         let texts = [
             ("b", dump.bench.as_bytes()),
             ("s", dump.settings.as_bytes()),
@@ -137,43 +139,52 @@ fn circuits_are_counted(rt: HostRuntime) -> Result<(), Fail> {
     Ok(())
 }
 
+/// Bench, settings and stimulus, and the line that tells the refusal.
+const REFUSED: [(&str, &str, &str, &str); 9] = [
+    (
+        "y = NOT(b)\n",
+        "speed = 1",
+        "q!",
+        "bench line 1: Undriven\n",
+    ),
+    (INVERTER, "speed = 1", "q!", "settings: UnknownKey\n"),
+    (INVERTER, "[net]\nA = 2\n", "q!", "settings: UnknownNet\n"),
+    (
+        "Q = DFF(Q)\nCK = NOT(Q)\n",
+        "",
+        "q!",
+        "settings: ClockNotInput\n",
+    ),
+    (
+        INVERTER,
+        "",
+        "$enddefinitions $end q!",
+        "stimulus at 21: BadToken\n",
+    ),
+    (
+        INVERTER,
+        "",
+        "$var wire 1 ! A",
+        "stimulus at 0: UnclosedCommand\n",
+    ),
+    (INVERTER, "", "", "stimulus net 0: MissingInput\n"),
+    (
+        INVERTER,
+        "scope = \"top.dut\"",
+        RISE_AT_5,
+        "stimulus net 0: MissingInput\n",
+    ),
+    (
+        INVERTER,
+        "",
+        "$var wire 4 ! A [3:0] $end",
+        "stimulus net 0: NotScalar\n",
+    ),
+];
+
 #[test]
 fn refused_texts_are_told(rt: HostRuntime) -> Result<(), Fail> {
-    for (bench, settings, stimulus, message) in [
-        (
-            "y = NOT(b)\n",
-            "speed = 1",
-            "q!",
-            "bench line 1: Undriven\n",
-        ),
-        (INVERTER, "speed = 1", "q!", "settings: UnknownKey\n"),
-        (INVERTER, "[net]\nA = 2\n", "q!", "settings: UnknownNet\n"),
-        (
-            INVERTER,
-            "",
-            "$enddefinitions $end q!",
-            "stimulus at 21: BadToken\n",
-        ),
-        (
-            INVERTER,
-            "",
-            "$var wire 1 ! A",
-            "stimulus at 0: UnclosedCommand\n",
-        ),
-        (INVERTER, "", "", "stimulus net 0: MissingInput\n"),
-        (
-            INVERTER,
-            "scope = \"top.dut\"",
-            RISE_AT_5,
-            "stimulus net 0: MissingInput\n",
-        ),
-        (
-            INVERTER,
-            "",
-            "$var wire 4 ! A [3:0] $end",
-            "stimulus net 0: NotScalar\n",
-        ),
-    ] {
+    for (bench, settings, stimulus, message) in REFUSED {
         let texts = [
             ("b", bench.as_bytes()),
             ("s", settings.as_bytes()),

@@ -1,4 +1,9 @@
 //! The program: gate-level simulation from a command line to a value change dump.
+//!
+//! [`simulate_text`] answers the dump of a circuit's values for a bench text (ISCAS'89), a settings text (TOML) and
+//! a stimulus text (IEEE 1364-2005, section 18), or the first fault among them; [`counts_of_texts`] answers what a circuit
+//! has. [`program`] reads a command line and the texts that it names, and says the status with which the process
+//! ends. What is promised stands in `specs/`: `Answer` for the dump, `Replies` and `Endings` for the program.
 #![tactic(auto)]
 
 mod counts;
@@ -15,6 +20,8 @@ mod outside;
 mod program;
 mod reply;
 mod request;
+#[cfg(test)]
+mod s27_tests;
 mod simulate;
 #[cfg(test)]
 mod tests;
@@ -28,7 +35,7 @@ pub use outside::{Outside, read_all};
 pub use program::{execute, program, show};
 pub use reply::reply_to;
 pub use request::{Check, MOST_UNTIL, Request, Run, Sources};
-pub use simulate::{counts_text, simulate_text};
+pub use simulate::{counts_of_texts, simulate_text};
 use std::alloc::Global;
 use std::env;
 use std::io::ErrorKind;

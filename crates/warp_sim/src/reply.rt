@@ -18,7 +18,7 @@ use crate::failure::Failure;
 use crate::fault::Fault;
 use crate::joined::split_joined;
 use crate::request::{Check, Request, Run, Sources};
-use crate::simulate::{counts_text, simulate_text};
+use crate::simulate::{counts_of_texts, simulate_text};
 use crate::texts::{FetchFault, Texts};
 use std::alloc::Global;
 
@@ -129,7 +129,7 @@ fn reply_to_run<'a, T: Texts>(
 fn counted<'a>(alloc: Global, bench: &[u8], settings: &[u8]) -> Result<Vec<u8>, Failure<'a>>
     ensures { IsCountReply bench.now settings.now result }
 {
-    let counts = match counts_text(alloc, bench, settings) {
+    let counts = match counts_of_texts(alloc, bench, settings) {
         Ok(counts) => counts,
         Err(fault) => return Err(Failure::Fault(fault)),
     };

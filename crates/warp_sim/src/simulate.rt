@@ -54,7 +54,7 @@ pub fn simulate_text(
 
 /// How many parts a circuit has.
 #[tactic(auto, unfolding(crate::specs::Answer::IsCounted))]
-pub fn counts_text(alloc: Global, bench: &[u8], settings: &[u8]) -> Result<Counts, Fault>
+pub fn counts_of_texts(alloc: Global, bench: &[u8], settings: &[u8]) -> Result<Counts, Fault>
     ensures { IsCounted bench.now settings.now result }
 {
     match circuit_of(alloc, bench, settings) {
