@@ -22,6 +22,8 @@ mod lines;
 mod numbers;
 mod put;
 mod reading;
+#[cfg(test)]
+mod real_dump_tests;
 mod scopes;
 mod sink;
 mod sort;
