@@ -9,8 +9,8 @@ use Rattle.gate_values.specs.Changes.{latest}
 use Rattle.gate_vcd.specs.declared.fault.StimFault.{StimFault}
 use Rattle.gate_vcd.specs.declared.fault.StimCause.{StimCause}
 use Rattle.gate_vcd.specs.declared.fault.StimCause.TheVariants as causes
-use Rattle.gate_vcd.specs.declared.sort.Sort.{Sort}
-use Rattle.gate_vcd.specs.declared.sort.Sort.TheVariants as sorts
+use Rattle.gate_vcd.specs.declared.form.Form.{Form}
+use Rattle.gate_vcd.specs.declared.form.Form.TheVariants as forms
 use Rattle.gate_vcd.specs.Tokens.{Token, is_end, fault_at}
 use Rattle.gate_vcd.specs.Reading.{◌>>=◌}
 use Rattle.gate_vcd.specs.Numbers.{is_numeral, number}
@@ -35,24 +35,24 @@ is_mark text =
     bytes_eq text (codes "$dumpvars") || bytes_eq text (codes "$dumpall") || bytes_eq text (codes "$dumpon")
     || bytes_eq text (codes "$dumpoff") || is_end text
 
-abbrev pub or_bad : Option Logic → (Logic → Sort) → Sort
+abbrev pub or_bad : Option Logic → (Logic → Form) → Form
 or_bad (Some v) f = f v
-or_bad None f = sorts.Bad
+or_bad None f = forms.Bad
 
 -- what a token is, by its first byte and the bytes after it
-abbrev pub sort_by : ℕ → List ℕ → Sort
-sort_by first rest =
-    if nat_eq first 35 then (if is_numeral rest then sorts.Stamp else sorts.Bad)
-    else if nat_eq first 98 || nat_eq first 66 then or_bad (last_value_in rest) sorts.Vector
-    else if nat_eq first 114 || nat_eq first 82 then (if nat_eq (length rest) 0 then sorts.Bad else sorts.Unvalued)
-    else if nat_eq first 115 || nat_eq first 83 then sorts.Unvalued
-    else if nat_eq (length rest) 0 then sorts.Bad
-    else or_bad (value_of first) sorts.Scalar
+abbrev pub form_by : ℕ → List ℕ → Form
+form_by first rest =
+    if nat_eq first 35 then (if is_numeral rest then forms.Stamp else forms.Bad)
+    else if nat_eq first 98 || nat_eq first 66 then or_bad (last_value_in rest) forms.Vector
+    else if nat_eq first 114 || nat_eq first 82 then (if nat_eq (length rest) 0 then forms.Bad else forms.Unvalued)
+    else if nat_eq first 115 || nat_eq first 83 then forms.Unvalued
+    else if nat_eq (length rest) 0 then forms.Bad
+    else or_bad (value_of first) forms.Scalar
 
-abbrev pub sort_of : List ℕ → Sort
-sort_of text =
-    if begins (codes "$") text then (if is_mark text then sorts.Mark else sorts.Command)
-    else sort_by (get_or text 0 0) (drop 1 text)
+abbrev pub form_of : List ℕ → Form
+form_of text =
+    if begins (codes "$") text then (if is_mark text then forms.Mark else forms.Command)
+    else form_by (get_or text 0 0) (drop 1 text)
 
 -- What stands among the changes: a stamp; a change of a code to a value, or one that is read over, by its
 -- first token; something that may not stand there.
@@ -67,22 +67,22 @@ pub data Awaited : Type 0 where
   code_of : Token → Option Logic → Awaited
   end_of : Token → Awaited
 
--- a token by its sort, and the items after it by what is awaited then
-abbrev pub item_by : Token → Sort → (Awaited → List Item) → List Item
-item_by t sorts.Stamp next = stamp t ∷ next nothing
-item_by t (sorts.Scalar v) next = change t (drop 1 t.text) (Some v) ∷ next nothing
-item_by t (sorts.Vector v) next = next (code_of t (Some v))
-item_by t sorts.Unvalued next = next (code_of t None)
-item_by t sorts.Mark next = next nothing
-item_by t sorts.Command next = next (end_of t)
-item_by t sorts.Bad next = wrong t causes.BadToken ∷ []
+-- a token by its form, and the items after it by what is awaited then
+abbrev pub item_by : Token → Form → (Awaited → List Item) → List Item
+item_by t forms.Stamp next = stamp t ∷ next nothing
+item_by t (forms.Scalar v) next = change t (drop 1 t.text) (Some v) ∷ next nothing
+item_by t (forms.Vector v) next = next (code_of t (Some v))
+item_by t forms.Unvalued next = next (code_of t None)
+item_by t forms.Mark next = next nothing
+item_by t forms.Command next = next (end_of t)
+item_by t forms.Bad next = wrong t causes.BadToken ∷ []
 
 -- the items of these tokens
 unfoldable pub items : Awaited → List Token → List Item
 items nothing [] = []
 items (code_of first value) [] = wrong first causes.BadToken ∷ []
 items (end_of first) [] = wrong first causes.UnclosedCommand ∷ []
-items nothing (t ∷ ts) = item_by t (sort_of t.text) (λ awaited. items awaited ts)
+items nothing (t ∷ ts) = item_by t (form_of t.text) (λ awaited. items awaited ts)
 items (code_of first value) (t ∷ ts) = change first t.text value ∷ items nothing ts
 items (end_of first) (t ∷ ts) = items (if is_end t.text then nothing else end_of first) ts
 

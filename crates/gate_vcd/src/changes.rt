@@ -1,5 +1,4 @@
 ghost use Rattle.std.specs.Prelude.{◌≡◌, ◌<◌, ◌≤◌, ◌-◌, ℕ, List, [], length, slice_get, replicate, IfErr, IfOk, MatchResult, OnOk};
-ghost use Rattle.gate_values.specs.Changes.{same};
 ghost use Rattle.gate_vcd.specs.Changes.{Event, Item as TextItem, events_from, items, nothing, stamped, last_stamp};
 ghost use Rattle.gate_vcd.specs.Faults.{out_of_memory};
 ghost use Rattle.gate_vcd.specs.Items.{AreKept, AreTaken, IsTaken, TakesItem, ends_at, item_of, knows, settled, undone, value_after};
@@ -8,28 +7,16 @@ ghost use Rattle.gate_vcd.specs.Reading.{Fails, Gives};
 ghost use Rattle.gate_vcd.specs.Words.{token_of};
 
 use crate::fault::{StimCause, StimFault};
+use crate::form::after_first;
 use crate::items::{Item, next_item};
 use crate::known::KnownCodes;
 use crate::numbers::number_up_to;
-use crate::sort::after_first;
 use crate::words::{Word, Words};
 use gate_values::{Change, Logic};
 use std::alloc::Global;
 
 /// The greatest time of a stimulus.
 const LAST_STAMP: u64 = 1_000_000_000_000_000_000;
-
-fn same(a: Logic, b: Logic) -> bool
-    ensures { result ≡ same a b }
-{
-    matches!(
-        (a, b),
-        (Logic::Zero, Logic::Zero)
-            | (Logic::One, Logic::One)
-            | (Logic::X, Logic::X)
-            | (Logic::Z, Logic::Z)
-    )
-}
 
 /// The value that changes leave.
 fn value_after(list: &[Change]) -> Logic
@@ -66,7 +53,7 @@ fn settle(list: &mut Vec<Change>, change: Change) -> Result<(), StimFault>
     ensures err { IfErr result (λ e. e ≡ out_of_memory) }
 {
     undo(list, change.time);
-    if !same(change.value, value_after(list.as_slice())) {
+    if change.value != value_after(list.as_slice()) {
         list.push(change)?;
     }
     Ok(())

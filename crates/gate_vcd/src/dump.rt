@@ -21,8 +21,9 @@ use gate_netlist::Circuit;
 use gate_values::{Change, Logic};
 use std::collections::BTreeMap;
 
-/// Writes the dump of the waves up to the horizon: behind what the sink has taken, the timescale, the
-/// scope `top` with the code and name of each net, the values at 0, and then the changes, time by time.
+/// Writes the dump of the waves up to the horizon, which is at most 10^12, in units of the stimulus's timescale
+/// (IEEE 1364-2005, section 18): behind what the sink has taken, the timescale, the scope `top` with the code and
+/// name of each net, the values at 0, and then the changes, time by time.
 ///
 /// At an error the sink has failed, and has taken the first `written` bytes of the text and no others.
 /// No memory is taken, and the work grows with the nets and the text.

@@ -4,8 +4,8 @@ ghost use Rattle.gate_vcd.specs.Items.{IsNext, IsPassed};
 ghost use Rattle.gate_vcd.specs.Words.{token_of};
 
 use crate::fault::{StimCause, StimFault};
+use crate::form::{Form, after_first, form_of};
 use crate::keyword::is_end;
-use crate::sort::{Sort, after_first, sort_of};
 use crate::words::{Word, Words};
 use gate_values::Logic;
 
@@ -63,20 +63,20 @@ pub fn next_item<'a>(words: &mut Words<'a>) -> Result<Option<Item<'a>>, StimFaul
     ensures progress { IfOk result (λ item. IfSome item (λ _. length words.new < length words.old)) }
 {
     while let Some(word) = words.next() {
-        match sort_of(word.text) {
-            Sort::Stamp => return Ok(Some(Item::Stamp(word))),
-            Sort::Scalar(value) => {
+        match form_of(word.text) {
+            Form::Stamp => return Ok(Some(Item::Stamp(word))),
+            Form::Scalar(value) => {
                 return Ok(Some(Item::Change {
                     first: word,
                     code: after_first(word.text),
                     value: Some(value),
                 }));
             }
-            Sort::Vector(value) => return change_of(words, word, Some(value)),
-            Sort::Unvalued => return change_of(words, word, None),
-            Sort::Mark => {}
-            Sort::Command => skip_command(words, word)?,
-            Sort::Bad => return Err(word.fault(StimCause::BadToken)),
+            Form::Vector(value) => return change_of(words, word, Some(value)),
+            Form::Unvalued => return change_of(words, word, None),
+            Form::Mark => {}
+            Form::Command => skip_command(words, word)?,
+            Form::Bad => return Err(word.fault(StimCause::BadToken)),
         }
     }
     Ok(None)

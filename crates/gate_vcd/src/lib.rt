@@ -13,6 +13,7 @@ mod dump;
 #[cfg(test)]
 mod dump_tests;
 mod fault;
+mod form;
 mod inputs;
 mod items;
 mod keyword;
@@ -26,7 +27,6 @@ mod reading;
 mod real_dump_tests;
 mod scopes;
 mod sink;
-mod sort;
 mod stimulus;
 #[cfg(test)]
 mod stimulus_tests;

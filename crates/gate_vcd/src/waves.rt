@@ -35,7 +35,7 @@ fn differs(value: Logic, other: Logic) -> bool
 }
 
 impl Waves {
-    /// Waves without a change.
+    /// Waves without a change, over so many nets. An error is a refused growth.
     pub fn new(alloc: Global, nets: u32) -> Result<Waves, AllocError>
         ensures { IfOk result (λ waves. waves ≡ replicate nets []) }
     {
@@ -87,7 +87,7 @@ impl Waves {
         }
     }
 
-    /// Appends a change to those of a net. After an error nothing has changed.
+    /// Appends a change to those of a net. An error is a refused growth; after it nothing has changed.
     pub fn push(&mut self, net: u32, change: Change) -> Result<(), AllocError>
         requires known { net < length self.old }
         requires follows { Follows (wave_of self.old net) change }

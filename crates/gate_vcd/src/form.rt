@@ -1,6 +1,6 @@
 ghost use Rattle.std.specs.Prelude.{◌≡◌, drop, is_some};
 ghost use Rattle.std.specs.List.{list_all};
-ghost use Rattle.gate_vcd.specs.Changes.{value_of, last_value_in, is_mark, sort_by, sort_of};
+ghost use Rattle.gate_vcd.specs.Changes.{value_of, last_value_in, is_mark, form_by, form_of};
 
 use crate::keyword::{begins, is_end, is_word};
 use crate::numbers::is_numeral;
@@ -8,7 +8,7 @@ use gate_values::Logic;
 
 /// What a word among the changes of a stimulus is.
 #[derive(Clone, Copy, Debug, PartialEq, Eq)]
-pub enum Sort {
+pub enum Form {
     /// `#` and a time.
     Stamp,
     /// A value, and the code that takes it.
@@ -77,39 +77,39 @@ pub fn after_first(text: &[u8]) -> &[u8]
     }
 }
 
-fn sort_by(first: u8, rest: &[u8]) -> Sort
-    ensures { result ≡ sort_by first rest.now }
+fn form_by(first: u8, rest: &[u8]) -> Form
+    ensures { result ≡ form_by first rest.now }
 {
     match first {
-        b'#' if is_numeral(rest) => Sort::Stamp,
-        b'#' => Sort::Bad,
+        b'#' if is_numeral(rest) => Form::Stamp,
+        b'#' => Form::Bad,
         b'b' | b'B' => match last_value_in(rest) {
-            Some(value) => Sort::Vector(value),
-            None => Sort::Bad,
+            Some(value) => Form::Vector(value),
+            None => Form::Bad,
         },
-        b'r' | b'R' if rest.is_empty() => Sort::Bad,
-        b'r' | b'R' | b's' | b'S' => Sort::Unvalued,
-        _ if rest.is_empty() => Sort::Bad,
+        b'r' | b'R' if rest.is_empty() => Form::Bad,
+        b'r' | b'R' | b's' | b'S' => Form::Unvalued,
+        _ if rest.is_empty() => Form::Bad,
         _ => match value_of(first) {
-            Some(value) => Sort::Scalar(value),
-            None => Sort::Bad,
+            Some(value) => Form::Scalar(value),
+            None => Form::Bad,
         },
     }
 }
 
 /// What a word is among the changes.
-pub fn sort_of(text: &[u8]) -> Sort
-    ensures { result ≡ sort_of text.now }
+pub fn form_of(text: &[u8]) -> Form
+    ensures { result ≡ form_of text.now }
 {
     if begins(b"$", text) {
         return if is_mark(text) {
-            Sort::Mark
+            Form::Mark
         } else {
-            Sort::Command
+            Form::Command
         };
     }
     match text {
-        [first, rest @ ..] => sort_by(*first, rest),
-        [] => Sort::Bad,
+        [first, rest @ ..] => form_by(*first, rest),
+        [] => Form::Bad,
     }
 }
