@@ -7,6 +7,7 @@
 
 ghost use Rattle.std.specs.Prelude.{◌<◌};
 
+mod looking;
 mod reading;
 mod texts;
 mod timer;
@@ -16,34 +17,86 @@ mod writing;
 use anyhow::{Result, bail};
 use std::rt::Clock;
 
-const NAMES: [&str; 9] = [
-    "bench",
-    "bench-refused",
-    "circuit",
-    "stimulus",
-    "stimulus-codes",
-    "stimulus-shared",
-    "waves-by-net",
-    "waves-by-time",
-    "write",
+#[derive(Clone, Copy)]
+enum Benchmark {
+    Bench,
+    BenchRefused,
+    Circuit,
+    Stimulus,
+    StimulusCodes,
+    StimulusShared,
+    StimulusUnused,
+    At,
+    Find,
+    CutEven,
+    WavesByNet,
+    WavesByTime,
+    Write,
+}
+
+const BENCHMARKS: [(&str, Benchmark); 13] = [
+    ("bench", Benchmark::Bench),
+    ("bench-refused", Benchmark::BenchRefused),
+    ("circuit", Benchmark::Circuit),
+    ("stimulus", Benchmark::Stimulus),
+    ("stimulus-codes", Benchmark::StimulusCodes),
+    ("stimulus-shared", Benchmark::StimulusShared),
+    ("stimulus-unused", Benchmark::StimulusUnused),
+    ("at", Benchmark::At),
+    ("find", Benchmark::Find),
+    ("cut-even", Benchmark::CutEven),
+    ("waves-by-net", Benchmark::WavesByNet),
+    ("waves-by-time", Benchmark::WavesByTime),
+    ("write", Benchmark::Write),
 ];
 
-fn run_one<R: Print + Eprint + Clock + AllocGlobal>(rt: &R, name: &str, size: u32) -> Result<()>
+fn checksum<R: Eprint + Clock + AllocGlobal>(rt: &R, benchmark: Benchmark, size: u32) -> Result<u64>
     requires { 0 < size }
 {
-    let checksum = match name {
-        "bench" => reading::bench(rt, size)?,
-        "bench-refused" => reading::bench_refused(rt, size)?,
-        "circuit" => reading::circuit(rt, size)?,
-        "stimulus" => reading::stimulus(rt, size)?,
-        "stimulus-codes" => reading::stimulus_codes(rt, size)?,
-        "stimulus-shared" => reading::stimulus_shared(rt, size)?,
-        "waves-by-net" => waves::waves_by_net(rt, size)?,
-        "waves-by-time" => waves::waves_by_time(rt, size)?,
-        "write" => writing::write(rt, size)?,
-        _ => bail!("no benchmark is called {name}"),
-    };
+    match benchmark {
+        Benchmark::Bench => reading::bench(rt, size),
+        Benchmark::BenchRefused => reading::bench_refused(rt, size),
+        Benchmark::Circuit => reading::circuit(rt, size),
+        Benchmark::Stimulus => reading::stimulus(rt, size),
+        Benchmark::StimulusCodes => reading::stimulus_codes(rt, size),
+        Benchmark::StimulusShared => reading::stimulus_shared(rt, size),
+        Benchmark::StimulusUnused => reading::stimulus_unused(rt, size),
+        Benchmark::At => looking::at(rt, size),
+        Benchmark::Find => looking::find(rt, size),
+        Benchmark::CutEven => looking::cut_even(rt, size),
+        Benchmark::WavesByNet => waves::waves_by_net(rt, size),
+        Benchmark::WavesByTime => waves::waves_by_time(rt, size),
+        Benchmark::Write => writing::write(rt, size),
+    }
+}
+
+fn run_one<R: Print + Eprint + Clock + AllocGlobal>(
+    rt: &R,
+    name: &str,
+    benchmark: Benchmark,
+    size: u32,
+) -> Result<()>
+    requires { 0 < size }
+{
+    let checksum = checksum(rt, benchmark, size)?;
     println!(rt; "{name} {size} {checksum}")?;
+    Ok(())
+}
+
+/// Runs the benchmarks of a name; `all` is the name of each.
+fn run_named<R: Print + Eprint + Clock + AllocGlobal>(rt: &R, name: &str, size: u32) -> Result<()>
+    requires { 0 < size }
+{
+    let mut is_known = false;
+    for (known, benchmark) in BENCHMARKS {
+        if name == "all" || name == known {
+            run_one(rt, known, benchmark, size)?;
+            is_known = true;
+        }
+    }
+    if !is_known {
+        bail!("no benchmark is called {name}");
+    }
     Ok(())
 }
 
@@ -55,13 +108,7 @@ fn run<R: Print + Eprint + Clock + AllocGlobal>(rt: &R, words: &[String]) -> Res
     if size < 1 || size > 900_000 {
         bail!("the size is from 1 to 900,000");
     }
-    if name.as_str() != "all" {
-        return run_one(rt, name.as_str(), size);
-    }
-    for name in NAMES {
-        run_one(rt, name, size)?;
-    }
-    Ok(())
+    run_named(rt, name.as_str(), size)
 }
 
 fn main(rt: HostRuntime) -> Result<()> {

@@ -4,7 +4,7 @@ use crate::texts;
 use crate::timer::report;
 use anyhow::Result;
 use gate_netlist::{Circuit, read_bench};
-use gate_vcd::read_stimulus;
+use gate_vcd::{Stimulus, read_stimulus};
 use std::rt::Clock;
 use std::time::Instant;
 
@@ -43,6 +43,15 @@ pub fn circuit<R: Eprint + Clock + AllocGlobal>(rt: &R, size: u32) -> Result<u64
     Ok(counts.gates as u64 + counts.blocks as u64)
 }
 
+/// The number of changes that the inputs have in all.
+fn changes_in_all(stimulus: &Stimulus, inputs: u32) -> u64 {
+    let mut count = 0_u64;
+    for net in 0..inputs {
+        count = count.saturating_add(stimulus.changes(net).len() as u64);
+    }
+    count
+}
+
 fn read<R: Eprint + Clock + AllocGlobal>(
     rt: &R,
     name: &str,
@@ -57,7 +66,7 @@ fn read<R: Eprint + Clock + AllocGlobal>(
     let start = Instant::now(rt)?;
     let stimulus = read_stimulus(rt.alloc(), text.as_bytes(), &circuit)?;
     report(rt, name, size, start)?;
-    Ok(stimulus.changes(0).len() as u64)
+    Ok(changes_in_all(&stimulus, inputs))
 }
 
 /// A stimulus of ten inputs and `size` changes.
@@ -73,4 +82,28 @@ pub fn stimulus_codes<R: Eprint + Clock + AllocGlobal>(rt: &R, size: u32) -> Res
 /// A stimulus of `size` inputs with one code, and `size` changes of it.
 pub fn stimulus_shared<R: Eprint + Clock + AllocGlobal>(rt: &R, size: u32) -> Result<u64> {
     read(rt, "stimulus-shared", size, size, true)
+}
+
+/// The sum of the times at which the inputs change.
+fn times_in_all(stimulus: &Stimulus, inputs: u32) -> u64 {
+    let mut sum = 0_u64;
+    for net in 0..inputs {
+        for change in stimulus.changes(net) {
+            sum = sum.saturating_add(change.time);
+        }
+    }
+    sum
+}
+
+/// A stimulus of ten inputs, each with a change at time 0 and one at time `size`, and `size` changes of
+/// variables that are no inputs; the answer is the sum of the times of the changes.
+pub fn stimulus_unused<R: Eprint + Clock + AllocGlobal>(rt: &R, size: u32) -> Result<u64> {
+    let bench = texts::inputs(rt.alloc(), 10)?;
+    let bench = read_bench(rt.alloc(), bench.as_bytes())?;
+    let circuit = Circuit::of(rt.alloc(), bench, b"")?;
+    let text = texts::stimulus_unused(rt.alloc(), 10, size)?;
+    let start = Instant::now(rt)?;
+    let stimulus = read_stimulus(rt.alloc(), text.as_bytes(), &circuit)?;
+    report(rt, "stimulus-unused", size, start)?;
+    Ok(times_in_all(&stimulus, 10))
 }

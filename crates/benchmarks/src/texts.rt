@@ -3,7 +3,7 @@
 use std::alloc::{AllocError, Global};
 use std::fmt::Write;
 
-/// A chain of gates behind one input: `size` nets in all, and one flip-flop where asked for.
+/// A chain of gates behind one input: `size` nets in all.
 pub fn chain(alloc: Global, size: u32) -> Result<String, AllocError> {
     let mut text = String::new(alloc);
     writeln!(text, "INPUT(n0)")?;
@@ -48,7 +48,8 @@ fn push_variables(text: &mut String, count: u32, is_shared: bool) -> Result<(), 
     writeln!(text, "$enddefinitions $end")
 }
 
-/// A stimulus of so many inputs and so many changes, one change for each stamp.
+/// A stimulus of so many inputs and so many changes, one change for each stamp: the codes take turns, and each
+/// goes to 0, then to 1, and so on.
 pub fn stimulus(
     alloc: Global,
     inputs: u32,
@@ -57,14 +58,38 @@ pub fn stimulus(
 ) -> Result<String, AllocError> {
     let mut text = String::new(alloc);
     push_variables(&mut text, inputs, is_shared)?;
+    let codes = if is_shared { 1 } else { inputs.max(1) };
     for time in 0..changes {
-        let code = if is_shared || inputs == 0 {
-            0
-        } else {
-            time % inputs
-        };
-        let value = (time / 3) % 2;
+        let code = time % codes;
+        let value = time / codes % 2;
         writeln!(text, "#{time}\n{value}c{code}")?;
     }
+    Ok(text)
+}
+
+/// A stamp at which each of so many inputs changes.
+fn push_step(text: &mut String, inputs: u32, time: u32, value: u32) -> Result<(), AllocError> {
+    writeln!(text, "#{time}")?;
+    for net in 0..inputs {
+        writeln!(text, "{value}c{net}")?;
+    }
+    Ok(())
+}
+
+/// A stimulus of so many inputs that change at the first stamp and at the last, and between them so many
+/// changes of ten variables that are no inputs, one change for each stamp.
+pub fn stimulus_unused(alloc: Global, inputs: u32, changes: u32) -> Result<String, AllocError> {
+    let mut text = String::new(alloc);
+    for variable in 0..10 {
+        writeln!(text, "$var wire 1 u{variable} unused{variable} $end")?;
+    }
+    push_variables(&mut text, inputs, false)?;
+    push_step(&mut text, inputs, 0, 0)?;
+    for time in 0..changes {
+        let code = time % 10;
+        let value = time / 10 % 2;
+        writeln!(text, "#{time}\n{value}u{code}")?;
+    }
+    push_step(&mut text, inputs, changes, 1)?;
     Ok(text)
 }

@@ -8,8 +8,8 @@ use std::alloc::{AllocError, Global};
 use std::rt::Clock;
 use std::time::Instant;
 
-/// How many changes each of the ten nets has is `size / 10`.
-const NETS: u32 = 10;
+/// How many changes a net has; the last one may have fewer.
+const TURNS: u32 = 10;
 
 fn value_of(turn: u32) -> Logic {
     if turn % 2 == 0 {
@@ -19,8 +19,11 @@ fn value_of(turn: u32) -> Logic {
     }
 }
 
-/// Appends a change where it follows; the waves that are made here alternate, so that it always does.
-fn push(waves: &mut Waves, net: u32, turn: u32) -> Result<(), AllocError> {
+/// Appends the change of this number, counted net by net, where it follows; the waves that are made here
+/// alternate, so that it always does.
+fn push(waves: &mut Waves, number: u32) -> Result<(), AllocError> {
+    let net = number / TURNS;
+    let turn = number % TURNS;
     let change = Change {
         time: turn as u64,
         value: value_of(turn),
@@ -31,38 +34,45 @@ fn push(waves: &mut Waves, net: u32, turn: u32) -> Result<(), AllocError> {
     Ok(())
 }
 
-fn pushed_by_net(alloc: Global, turns: u32) -> Result<Waves, AllocError> {
-    let mut waves = Waves::new(alloc, NETS)?;
-    for net in 0..NETS {
-        for turn in 0..turns {
-            push(&mut waves, net, turn)?;
+fn pushed_by_net(alloc: Global, size: u32) -> Result<Waves, AllocError> {
+    let mut waves = Waves::new(alloc, size.div_ceil(TURNS))?;
+    for number in 0..size {
+        push(&mut waves, number)?;
+    }
+    Ok(waves)
+}
+
+fn pushed_by_time(alloc: Global, size: u32) -> Result<Waves, AllocError> {
+    let mut waves = Waves::new(alloc, size.div_ceil(TURNS))?;
+    for turn in 0..TURNS {
+        for number in (turn..size).step_by(TURNS as usize) {
+            push(&mut waves, number)?;
         }
     }
     Ok(waves)
 }
 
-fn pushed_by_time(alloc: Global, turns: u32) -> Result<Waves, AllocError> {
-    let mut waves = Waves::new(alloc, NETS)?;
-    for turn in 0..turns {
-        for net in 0..NETS {
-            push(&mut waves, net, turn)?;
-        }
+/// The number of changes that are held.
+fn held(waves: &Waves) -> u64 {
+    let mut count = 0_u64;
+    for net in 0..waves.nets() {
+        count = count.saturating_add(waves.changes(net).len() as u64);
     }
-    Ok(waves)
+    count
 }
 
-/// Ten nets with `size / 10` changes each, one net after another.
+/// `size` changes, ten of each net, one net after another; the answer is how many are held.
 pub fn waves_by_net<R: Eprint + Clock + AllocGlobal>(rt: &R, size: u32) -> Result<u64> {
     let start = Instant::now(rt)?;
-    let waves = pushed_by_net(rt.alloc(), size / NETS)?;
+    let waves = pushed_by_net(rt.alloc(), size)?;
     report(rt, "waves-by-net", size, start)?;
-    Ok(waves.nets() as u64)
+    Ok(held(&waves))
 }
 
-/// The same, one time after another.
+/// The same changes, one time after another.
 pub fn waves_by_time<R: Eprint + Clock + AllocGlobal>(rt: &R, size: u32) -> Result<u64> {
     let start = Instant::now(rt)?;
-    let waves = pushed_by_time(rt.alloc(), size / NETS)?;
+    let waves = pushed_by_time(rt.alloc(), size)?;
     report(rt, "waves-by-time", size, start)?;
-    Ok(waves.nets() as u64)
+    Ok(held(&waves))
 }
