@@ -91,6 +91,15 @@ fn owner_of(alloc: Global, settings: &str, net: u32) -> Result<Option<u32>, Sett
     }
 }
 
+/// The number of blocks of the settings' cut, where that cut is there.
+fn cut_blocks(alloc: Global, settings: &str) -> Result<Option<u32>, SettingsFault> {
+    let circuit = circuit_of(alloc, S27, settings)?;
+    match circuit.cut() {
+        Some(cut) => Ok(Some(cut.blocks())),
+        None => Ok(None),
+    }
+}
+
 /// The owner of a net by the even cut into three blocks, where that cut fits.
 fn even_owner(alloc: Global, net: u32) -> Result<Option<u32>, SettingsFault> {
     let circuit = circuit_of(alloc, S27, "")?;
@@ -152,6 +161,12 @@ fn bad_values(rt: HostRuntime) {
             "at {settings}"
         );
     }
+}
+
+#[test]
+fn a_gate_is_no_clock(rt: HostRuntime) {
+    let circuit = circuit_of(rt.alloc(), "Q = DFF(Q)\nCK = NOT(Q)\n", "");
+    assert_eq!(rt; circuit.err(), Some(SettingsFault::ClockNotInput));
 }
 
 #[test]
@@ -257,7 +272,11 @@ fn cuts(rt: HostRuntime) -> Result<(), Fail> {
     ] {
         assert_eq!(rt; owner_of(rt.alloc(), settings, net)?, owner, "at {net}");
     }
+    for (settings, blocks) in [("", None), ("[block]", Some(1)), (settings, Some(4))] {
+        assert_eq!(rt; cut_blocks(rt.alloc(), settings)?, blocks, "at {settings}");
+    }
     assert_eq!(rt; owner_of(rt.alloc(), "", 4)?, None);
+    assert_eq!(rt; owner_of(rt.alloc(), "[block]", 4)?, Some(0));
     assert!(rt; !fits_another(rt.alloc(), FLIP_FLOP, INVERTER)?);
     Ok(())
 }
