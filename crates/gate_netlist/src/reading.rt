@@ -38,6 +38,7 @@ fn define(alloc: Global, names: &mut Names, name: &str) -> Result<(), BenchCause
     Ok(())
 }
 
+#[tactic(auto, using(crate::proofs::Naming::among_keys))]
 fn is_defined(names: &Names, name: &str) -> bool
     ensures { result ≡ is_among (names_in names.now) name.now }
 {
