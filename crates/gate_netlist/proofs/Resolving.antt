@@ -1,8 +1,8 @@
 -- What is accepted and has no net undriven is a netlist.
-use Rattle.std.proofs.Common.{◌≡◌, ℕ, zero, suc, ◌+◌, ◌<◌, ◌≤◌, Bool, true, false, not, ◌||◌, ◌&&◌, cond, ltb, eqb, List, [], ◌∷◌, ◌++◌, length, map, get_or, Option, Some, None, Result, Ok, Err, refl, ap, sym, ◌∙◌, subst, append_assoc, append-nil, codes, bytes_eq, arith}
+use Rattle.std.proofs.Common.{◌≡◌, ◌⊎◌, ℕ, zero, suc, ◌+◌, ◌<◌, ◌≤◌, Bool, true, false, not, ◌||◌, ◌&&◌, cond, ltb, eqb, List, [], ◌∷◌, ◌++◌, length, map, get_or, Option, Some, None, Result, Ok, Err, refl, ap, sym, ◌∙◌, subst, append_assoc, append-nil, codes, bytes_eq, inl, inr, option_map, arith}
 use Rattle.std.specs.Prelude.{option_to_list}
 use Rattle.std.specs.List.{list_any, list_all, filter_map, cons_option, position, position_or_len, fold, AllByRecursion}
-use Rattle.std.proofs.lemmas.Bool.{eqb-true, leb-true, ltb-true}
+use Rattle.std.proofs.lemmas.Bool.{eqb-true, leb-true, ltb-true, cases_lt, lt-ltb, le-ltb}
 use Rattle.std.proofs.lemmas.List.{length-append, length-map}
 use Rattle.std.proofs.lemmas.List.Elements.{All-from_recursion}
 use Rattle.gate_values.specs.Tables.{HasInputs}
@@ -14,15 +14,15 @@ use Rattle.gate_netlist.specs.declared.fault.BenchCause.{BenchCause}
 use Rattle.gate_netlist.specs.declared.fault.BenchFault.{BenchFault}
 use Rattle.gate_netlist.specs.declared.statement.GateWord.{GateWord}
 use Rattle.gate_netlist.specs.declared.statement.GateWord.TheVariants as word
-use Rattle.gate_netlist.specs.Netlist.{IsDefinition, IsNetlist}
+use Rattle.gate_netlist.specs.Faults.{fault_at, out_of_memory}
+use Rattle.gate_netlist.specs.Netlist.{IsDefinition, Netlist, IsNetlist}
 use Rattle.gate_netlist.specs.Symbols.{Symbol, Open, Close, Equals, Word, code_of, symbols, is_clean}
 use Rattle.gate_netlist.specs.Statements.{Name, Statement, Nothing, Input, Output, Gate, Flop, says, gate_of, arguments, takes, driven, driven_by, statement_of, meaning_of}
-use Rattle.gate_netlist.specs.Bench.{◌>>=◌, net_of, is_among, refusal, unless, stated, at_line, accepted, nets_of, uses_other, number_of, definition_of, output_of, with_last, each_once, netlist_of, bench_of}
+use Rattle.gate_netlist.specs.Bench.{◌>>=◌, net_of, is_among, refusal, unless, stated, at_line, accepted, nets_of, uses_other, number_of, definition_of, output_of, with_last, each_once, netlist_of, names_of, linked, unless_undriven, resolved, bench_of}
 use Rattle.gate_netlist.specs.declared.fault.BenchCause.TheVariants.{Undriven}
-use Rattle.gate_netlist.specs.declared.statement.Statement.{Statement as Written}
+use Rattle.gate_netlist.specs.declared.fault.BenchCause.TheVariants as cause
 use Rattle.gate_netlist.specs.Lines.{lines_of}
-use Rattle.gate_netlist.specs.Meant.{meant}
-use Rattle.gate_netlist.proofs.Positions.{position-map}
+use Rattle.gate_netlist.proofs.Accepting.{front-option, behind}
 use Rattle.gate_netlist.proofs.Naming.{place_none}
 use Rattle.gate_netlist.proofs.Distinct.{each_once-distinct}
 
@@ -126,10 +126,6 @@ pub record AreAccepted (earlier : List Name) (ss : List Statement) : Type 0 wher
   pub within : length (earlier ++ nets_of ss) ≤ 999999
   pub enough : AllByRecursion HasEnough ss
 
-front-option : {X : Type 0} (o : Option X) (xs : List X) → option_to_list o ++ xs ≡ cons_option o xs
-front-option None xs = refl
-front-option (Some x) xs = refl
-
 abbrev listed : List Statement → Result (List Statement) BenchFault
 listed ss = Ok ss
 
@@ -144,8 +140,7 @@ are_accepted earlier line (l ∷ ls) ss le e =
     let b = bind_ok (accepted (earlier ++ option_to_list (net_of a.0)) (line + 1) ls) (λ ss. Ok (a.0 ∷ ss)) ss a.2 in
     let f = follows earlier l a.0 (at_line-ok line (stated earlier l) a.0 a.1) in
     let rest = are_accepted (earlier ++ option_to_list (net_of a.0)) (line + 1) ls b.0 (room earlier (net_of a.0) f.free le) b.1 in
-    let whole : (earlier ++ option_to_list (net_of a.0)) ++ nets_of b.0 ≡ earlier ++ nets_of (a.0 ∷ b.0) = append_assoc earlier (option_to_list (net_of a.0)) (nets_of b.0) ∙ ap (λ (ns : List Name). earlier ++ ns) (front-option (net_of a.0) (nets_of b.0)) in
-    subst (AreAccepted earlier) (same_list (a.0 ∷ b.0) ss b.2) (record { within = subst (λ (ns : List Name). length ns ≤ 999999) whole rest.within; enough = (f.enough, rest.enough) })
+    subst (AreAccepted earlier) (same_list (a.0 ∷ b.0) ss b.2) (record { within = subst (λ (ns : List Name). length ns ≤ 999999) (behind net_of earlier a.0 b.0) rest.within; enough = (f.enough, rest.enough) })
 
 -- ---- the netlist of statements whose nets are all driven
 
@@ -245,27 +240,122 @@ is_netlist ss a e =
       distinct = each_once-distinct (filter_map (output_of (nets_of ss)) ss);
     }
 
--- ---- by the statements as they were written
+-- ---- what a text says
 
-pub undriven_is : (written : List Written) (nets : List Name) (found : Option ℕ) → nets ≡ nets_of (map meant written) → found ≡ position (λ s. uses_other nets (meant s)) written → position (uses_other (nets_of (map meant written))) (map meant written) ≡ found
-undriven_is written nets found e f = rw (← e) (position-map (uses_other nets) meant written ∙ sym f)
+unless-ok : (found : Option ℕ) (ss : List Statement) (b : Netlist) → unless_undriven found ss ≡ Ok b → (found ≡ None) × (netlist_of ss ≡ b)
+unless-ok None ss b e = (refl, ap (value_or b) e)
+unless-ok (Some i) ss b e = absurd cc
 
-filter_map-map : {X Y Z : Type 0} (f : Y → Option Z) (g : X → Y) (xs : List X) → filter_map f (map g xs) ≡ filter_map (λ x. f (g x)) xs
-filter_map-map f g [] = refl
-filter_map-map f g (x ∷ xs) = ap (cons_option (f (g x))) (filter_map-map f g xs)
-
-pub netlist_is : (written : List Written) (nets : List Name) (ds : List Definition) (os : List ℕ) → nets ≡ nets_of (map meant written) → ds ≡ filter_map (λ s. definition_of nets (meant s)) written → os ≡ each_once (filter_map (λ s. output_of nets (meant s)) written)
-    → netlist_of (map meant written) ≡ record { names = nets; definitions = ds; outputs = os }
-netlist_is written nets ds os e f g = rw (f, g, ← filter_map-map (definition_of nets) meant written, ← filter_map-map (output_of nets) meant written, e) refl
-
-pub bench-undriven : (text : List ℕ) (ss : List Statement) (i : ℕ) → accepted [] 1 (lines_of text) ≡ Ok ss → position (uses_other (nets_of ss)) ss ≡ Some i → bench_of text ≡ Err (record { line = i + 1; cause = Undriven })
+pub is_read : (text : List ℕ) (b : Netlist) → bench_of text ≡ Ok b → IsNetlist b
 unfolding bench_of
-bench-undriven text ss i e f = rw (e, f) refl
-
-pub bench-driven : (text : List ℕ) (ss : List Statement) → accepted [] 1 (lines_of text) ≡ Ok ss → position (uses_other (nets_of ss)) ss ≡ None → bench_of text ≡ Ok (netlist_of ss)
-unfolding bench_of
-bench-driven text ss e f = rw (e, f) refl
+is_read text b e =
+    let a = bind_ok (accepted [] 1 (lines_of text)) resolved b e in
+    let r = unless-ok (position (uses_other (nets_of a.0)) a.0) a.0 b a.2 in
+    subst IsNetlist r.1 (is_netlist a.0 (are_accepted [] 1 (lines_of text) a.0 (omega arith) a.1) r.0)
 
 -- the nets of an accepted text are few enough to be numbered
-pub within : (text : List ℕ) (written : List Written) (nets : List Name) → accepted [] 1 (lines_of text) ≡ Ok (map meant written) → nets ≡ nets_of (map meant written) → length nets ≤ 999999
-within text written nets e f = rw f (are_accepted [] 1 (lines_of text) (map meant written) (omega arith) e).within
+pub within : (text : List ℕ) (nets : List Name) → names_of text ≡ Ok nets → length nets ≤ 999999
+within text nets e =
+    let a = bind_ok (accepted [] 1 (lines_of text)) (λ ss. Ok (nets_of ss)) nets e in
+    subst (λ (ns : List Name). length ns ≤ 999999) (ap (value_or nets) a.2) (are_accepted [] 1 (lines_of text) a.0 (omega arith) a.1).within
+
+-- ---- the same, line by line
+
+pub meaning_stated : (earlier : List Name) (l : List ℕ) (s : Statement) → stated earlier l ≡ Ok s → meaning_of l ≡ Ok s
+unfolding stated
+meaning_stated earlier l s e =
+    let m = bind_ok (meaning_of l) (λ s. unless (refusal earlier (net_of s)) s) s e in
+    m.1 ∙ ap said (stated-ok (refusal earlier (net_of m.0)) m.0 s m.2).1
+
+abbrev finished : List Name → List Definition → List ℕ → Netlist
+finished nets ds os = record { names = nets; definitions = ds; outputs = each_once os }
+
+-- what lines say, the first of them having this number, after lines that gave these definitions and outputs
+unfoldable pub linked_lines : List Name → ℕ → List (List ℕ) → List Definition → List ℕ → Result Netlist BenchFault
+linked_lines nets line [] ds os = Ok (finished nets ds os)
+linked_lines nets line (l ∷ ls) ds os = do
+  s ← at_line line (linked nets l)
+  linked_lines nets (line + 1) ls (ds ++ option_to_list (definition_of nets s)) (os ++ option_to_list (output_of nets s))
+
+pub linked_more : (nets : List Name) (line : ℕ) (l : List ℕ) (ls : List (List ℕ)) (ds : List Definition) (os : List ℕ) (s : Statement) (total : Result Netlist BenchFault) → linked nets l ≡ Ok s
+    → linked_lines nets line (l ∷ ls) ds os ≡ total → linked_lines nets (line + 1) ls (ds ++ option_to_list (definition_of nets s)) (os ++ option_to_list (output_of nets s)) ≡ total
+unfolding linked_lines
+linked_more nets line l ls ds os s total e h = rw e at h
+
+pub linked_fault : (nets : List Name) (line : ℕ) (l : List ℕ) (ls : List (List ℕ)) (ds : List Definition) (os : List ℕ) (c : BenchCause) (total : Result Netlist BenchFault) → (c ≡ cause.Memory) ⊎ (linked nets l ≡ Err c)
+    → linked_lines nets line (l ∷ ls) ds os ≡ total → (fault_at line c ≡ out_of_memory) ⊎ (total ≡ Err (fault_at line c))
+unfolding linked_lines
+linked_fault nets line l ls ds os cause.Memory total e h = inl refl
+linked_fault nets line l ls ds os c total (inl m) h = inl (ap (fault_at line) m)
+linked_fault nets line l ls ds os c total (inr e) h = inr (sym h ∙ rw e refl)
+
+pub linked_all : (nets : List Name) (line : ℕ) (ds : List Definition) (os : List ℕ) (total : Result Netlist BenchFault) → linked_lines nets line [] ds os ≡ total → total ≡ Ok (finished nets ds os)
+unfolding linked_lines
+linked_all nets line ds os total h = sym h
+
+-- the end of a text of which this is the first undriven line, where lines are counted from this number on
+abbrev ending : List Name → ℕ → Option ℕ → List Definition → List ℕ → Result Netlist BenchFault
+ending nets line None ds os = Ok (finished nets ds os)
+ending nets line (Some i) ds os = Err (record { line = i + line; cause = Undriven })
+
+position-first : {X : Type 0} (p : X → Bool) (x : X) (xs : List X) → p x ≡ true → position p (x ∷ xs) ≡ Some 0
+position-first p x xs e = rw (e, lt-ltb 0 (suc (length xs)) (omega arith)) refl
+
+position-later : {X : Type 0} (p : X → Bool) (x : X) (xs : List X) → p x ≡ false → position p (x ∷ xs) ≡ option_map (λ i. 1 + i) (position p xs)
+position-later p x xs e = elim (cases_lt (position_or_len p xs) (length xs)) [
+  | inl less ↦ rw (e, lt-ltb _ _ less, lt-ltb (1 + position_or_len p xs) (suc (length xs)) (omega arith)) refl
+  | inr more ↦ rw (e, le-ltb _ _ more, le-ltb (1 + position_or_len p xs) (suc (length xs)) (omega arith)) refl
+]
+
+one_line_on : (nets : List Name) (line : ℕ) (found : Option ℕ) (ds : List Definition) (os : List ℕ) → ending nets (line + 1) found ds os ≡ ending nets line (option_map (λ i. 1 + i) found) ds os
+one_line_on nets line None ds os = refl
+one_line_on nets line (Some i) ds os = let e : i + (line + 1) ≡ 1 + i + line = omega arith in ap (λ n. Err (record { line = n; cause = Undriven })) e
+
+abbrev LinksTo : List Name → ℕ → List (List ℕ) → List Statement → List Definition → List ℕ → Type 0
+LinksTo nets line ls ss ds os = linked_lines nets line ls ds os ≡ ending nets line (position (uses_other nets) ss) (ds ++ filter_map (definition_of nets) ss) (os ++ filter_map (output_of nets) ss)
+
+link-more : (nets : List Name) (line : ℕ) (l : List ℕ) (ls : List (List ℕ)) (s : Statement) (ss : List Statement) (ds : List Definition) (os : List ℕ) (t : Bool) → uses_other nets s ≡ t → meaning_of l ≡ Ok s
+    → LinksTo nets (line + 1) ls ss (ds ++ option_to_list (definition_of nets s)) (os ++ option_to_list (output_of nets s)) → LinksTo nets line (l ∷ ls) (s ∷ ss) ds os
+unfolding linked_lines linked
+link-more nets line l ls s ss ds os true u e h = let z : 0 + line ≡ line = omega arith in rw (position-first (uses_other nets) s ss u, e, u, z) refl
+link-more nets line l ls s ss ds os false u e h =
+    let on = one_line_on nets line (position (uses_other nets) ss) (ds ++ filter_map (definition_of nets) (s ∷ ss)) (os ++ filter_map (output_of nets) (s ∷ ss)) in
+    rw (position-later (uses_other nets) s ss u, ← on, ← behind (definition_of nets) ds s ss, ← behind (output_of nets) os s ss, e, u) h
+
+links : (nets earlier : List Name) (line : ℕ) (ls : List (List ℕ)) (ss : List Statement) (ds : List Definition) (os : List ℕ) → accepted earlier line ls ≡ Ok ss → LinksTo nets line ls ss ds os
+unfolding accepted linked_lines
+links nets earlier line [] ss ds os e = subst (λ ss. LinksTo nets line [] ss ds os) (same_list [] ss e) (rw (append-nil ds, append-nil os) refl)
+links nets earlier line (l ∷ ls) ss ds os e =
+    let a = bind_ok (at_line line (stated earlier l)) (λ s. accepted (earlier ++ option_to_list (net_of s)) (line + 1) ls >>= λ ss. Ok (s ∷ ss)) ss e in
+    let b = bind_ok (accepted (earlier ++ option_to_list (net_of a.0)) (line + 1) ls) (λ ss. Ok (a.0 ∷ ss)) ss a.2 in
+    let is = meaning_stated earlier l a.0 (at_line-ok line (stated earlier l) a.0 a.1) in
+    let rest = links nets (earlier ++ option_to_list (net_of a.0)) (line + 1) ls b.0 (ds ++ option_to_list (definition_of nets a.0)) (os ++ option_to_list (output_of nets a.0)) b.1 in
+    subst (λ ss. LinksTo nets line (l ∷ ls) ss ds os) (same_list (a.0 ∷ b.0) ss b.2) (link-more nets line l ls a.0 b.0 ds os (uses_other nets a.0) refl is rest)
+
+ends : (found : Option ℕ) (ss : List Statement) → ending (nets_of ss) 1 found (filter_map (definition_of (nets_of ss)) ss) (filter_map (output_of (nets_of ss)) ss) ≡ unless_undriven found ss
+ends None ss = refl
+ends (Some i) ss = refl
+
+linked_accepted : (text : List ℕ) (ss : List Statement) → accepted [] 1 (lines_of text) ≡ Ok ss → linked_lines (nets_of ss) 1 (lines_of text) [] [] ≡ bench_of text
+unfolding bench_of
+linked_accepted text ss e =
+    links (nets_of ss) [] 1 (lines_of text) ss [] [] e ∙ ends (position (uses_other (nets_of ss)) ss) ss ∙ sym (ap (λ read. read >>= resolved) e)
+
+-- a text says what its lines say of its nets
+pub linked_text : (text : List ℕ) (nets : List Name) → names_of text ≡ Ok nets → linked_lines nets 1 (lines_of text) [] [] ≡ bench_of text
+linked_text text nets e =
+    let a = bind_ok (accepted [] 1 (lines_of text)) (λ ss. Ok (nets_of ss)) nets e in
+    subst (λ nets. linked_lines nets 1 (lines_of text) [] [] ≡ bench_of text) (ap (value_or nets) a.2) (linked_accepted text a.0 a.1)
+
+abbrev error_or : {X E : Type 0} → E → Result X E → E
+error_or d (Ok x) = d
+error_or d (Err e) = e
+
+unnamed_by : (read : Result (List Statement) BenchFault) (e : BenchFault) → (read >>= λ ss. Ok (nets_of ss)) ≡ Err e → (read >>= resolved) ≡ Err e
+unnamed_by (Ok ss) e h = absurd cc
+unnamed_by (Err f) e h = ap Err (ap (error_or f) h)
+
+-- a text whose lines are refused is refused
+pub unnamed : (text : List ℕ) (e : BenchFault) → names_of text ≡ Err e → bench_of text ≡ Err e
+unfolding bench_of
+unnamed text e h = unnamed_by (accepted [] 1 (lines_of text)) e h

@@ -59,6 +59,12 @@ accepted earlier line (l ∷ ls) = do
 abbrev pub nets_of : List Statement → List Name
 nets_of ss = filter_map net_of ss
 
+-- the nets of a text, where each of its lines is accepted
+abbrev pub names_of : List ℕ → Result (List Name) BenchFault
+names_of text = do
+  ss ← accepted [] 1 (lines_of text)
+  Ok (nets_of ss)
+
 -- the nets that a line speaks of and doesn't define
 abbrev pub uses : Statement → List Name
 uses (Output n) = n ∷ []
@@ -69,6 +75,12 @@ uses _ = []
 -- a net that the line uses is none of these
 abbrev pub uses_other : List Name → Statement → Bool
 uses_other nets s = not (list_all (is_among nets) (uses s))
+
+-- what a line says, where each net that it uses is one of these
+unfoldable pub linked : List Name → List ℕ → Result Statement BenchCause
+linked nets line = do
+  s ← meaning_of line
+  if uses_other nets s then Err Undriven else Ok s
 
 -- how many nets stand before the one of this name
 abbrev pub number_of : List Name → Name → ℕ

@@ -1,12 +1,11 @@
-ghost use Rattle.std.specs.Prelude.{◌≡◌, ◌+◌, ◌<◌, ◌≤◌, ◌++◌, ◌∷◌, [], length, map, not, position, Some, IfOk, IfErr, OnOk, OnErr, option_to_list, option_map};
-ghost use Rattle.std.specs.List.{list_all, filter_map};
+ghost use Rattle.std.specs.Prelude.{◌≡◌, ◌≤◌, ◌++◌, ◌∷◌, [], length, map, Some, Ok, IfOk, IfErr, OnOk, option_to_list, option_map};
+ghost use Rattle.std.specs.List.{list_all};
 ghost use Rattle.gate_netlist.specs.declared.fault.BenchCause.TheVariants as cause;
 ghost use Rattle.gate_netlist.specs.Faults.{out_of_memory, fault_at, MemoryHasNoLine};
 ghost use Rattle.gate_netlist.specs.Gives.{Gives};
-ghost use Rattle.gate_netlist.specs.Lines.{lines_of};
 ghost use Rattle.gate_netlist.specs.Meant.{meant};
 ghost use Rattle.gate_netlist.specs.Keys.{names_in};
-ghost use Rattle.gate_netlist.specs.Bench.{net_of, nets_of, refusal, unless, stated, is_among, uses_other, number_of, definition_of, output_of, each_once, accepted, bench_of};
+ghost use Rattle.gate_netlist.specs.Bench.{net_of, refusal, unless, stated, names_of, is_among, uses_other, linked, number_of, definition_of, output_of, each_once, bench_of};
 
 use crate::bench::{Bench, Definition};
 use crate::fault::{BenchCause, BenchFault};
@@ -93,26 +92,24 @@ fn fault_at(line: u64, cause: BenchCause) -> BenchFault
     }
 }
 
-/// What the lines of a text say, one statement a line, and the names of the nets that they define.
-fn statements(alloc: Global, text: &[u8]) -> Result<(Names, Vec<Statement<'_>>), BenchFault>
-    ensures gives { Gives out_of_memory (λ x. map meant x.1.items) result (accepted [] 1 (lines_of text.now)) }
-    ensures names { IfOk result (λ x. names_in x.0 ≡ nets_of (map meant x.1.items)) }
-    ensures within { IfOk result (λ x. length (names_in x.0) ≤ 999999) }
+/// The nets that the lines of a text define, where no line is faulty by itself or by the lines before it.
+fn names_of(alloc: Global, text: &[u8]) -> Result<Names, BenchFault>
+    ensures gives { Gives out_of_memory (λ names. names_in names) result (names_of text.now) }
+    ensures within { IfOk result (λ names. length (names_in names) ≤ 999999) }
     ensures memory { IfErr result MemoryHasNoLine }
 {
     let mut names = IndexSet::new(alloc);
-    let mut statements = Vec::new(alloc);
+    let mut number = 1;
     let mut rest = Some(text);
     while let Some(text) = rest {
         let (line, after) = next_line(text);
-        let number = statements.len() as u64 + 1;
         match stated(alloc, &mut names, line) {
-            Ok(statement) => statements.push(statement)?,
+            Ok(_) => number += 1,
             Err(cause) => return Err(fault_at(number, cause)),
         }
         rest = after;
     }
-    Ok((names, statements))
+    Ok(names)
 }
 
 fn are_defined(names: &Names, nets: &[&str]) -> bool
@@ -134,13 +131,16 @@ fn uses_other(names: &Names, statement: &Statement) -> bool
     }
 }
 
-/// The first line, from 0 on, that uses a net which is none of these.
-fn undriven(names: &Names, statements: &[Statement]) -> Option<usize>
-    ensures { result ≡ position (λ s. uses_other (names_in names.now) (meant s)) statements.now }
+/// What a line says, where each net that it uses is one of these.
+#[tactic(auto, unfolding(crate::specs::Bench::linked))]
+fn linked<'a>(alloc: Global, names: &Names, line: &'a [u8]) -> Result<Statement<'a>, BenchCause>
+    ensures { Gives cause.Memory meant result (linked (names_in names.now) line.now) }
 {
-    statements
-        .iter()
-        .position(|statement| uses_other(names, statement))
+    let statement = meaning_of(alloc, line)?;
+    if uses_other(names, &statement) {
+        return Err(BenchCause::Undriven);
+    }
+    Ok(statement)
 }
 
 fn numbers_of(alloc: Global, names: &Names, nets: &[&str]) -> Result<Vec<u32>, AllocError>
@@ -196,23 +196,6 @@ fn push_definition(
     }
 }
 
-/// What the lines make of the nets that they define.
-fn definitions(
-    alloc: Global,
-    names: &Names,
-    statements: &[Statement],
-) -> Result<Vec<Definition>, AllocError>
-    requires { length (names_in names.now) ≤ 999999 }
-    ensures { IfOk result (λ found. found.items
-        ≡ filter_map (λ s. definition_of (names_in names.now) (meant s)) statements.now) }
-{
-    let mut definitions = Vec::new(alloc);
-    for statement in statements {
-        push_definition(alloc, names, statement, &mut definitions)?;
-    }
-    Ok(definitions)
-}
-
 /// The net that a line marks.
 fn output_of(names: &Names, statement: &Statement) -> Option<u32>
     requires { length (names_in names.now) ≤ 999999 }
@@ -224,16 +207,23 @@ fn output_of(names: &Names, statement: &Statement) -> Option<u32>
     }
 }
 
-/// The nets that lines mark as outputs, line by line.
-fn marked(alloc: Global, names: &Names, statements: &[Statement]) -> Result<Vec<u32>, AllocError>
+/// Adds the net that a line marks.
+fn push_output(
+    names: &Names,
+    statement: &Statement,
+    marked: &mut Vec<u32>,
+) -> Result<(), AllocError>
     requires { length (names_in names.now) ≤ 999999 }
-    ensures { IfOk result (λ found. found.items
-        ≡ filter_map (λ s. output_of (names_in names.now) (meant s)) statements.now) }
+    ensures { OnOk result (marked.new.items
+        ≡ marked.old.items ++ option_to_list (output_of (names_in names.now) (meant statement.now))) }
 {
-    statements
-        .iter()
-        .filter_map(|statement| output_of(names, statement))
-        .collect(alloc)
+    match output_of(names, statement) {
+        None => Ok(()),
+        Some(net) => {
+            marked.push(net)?;
+            Ok(())
+        }
+    }
 }
 
 /// Each number once, where it first stands.
@@ -247,27 +237,49 @@ fn each_once(alloc: Global, numbers: &[u32]) -> Result<Vec<u32>, AllocError>
     Vec::from_slice(alloc, found.as_slice())
 }
 
-/// What a bench text says: its nets in the order of their defining lines, and the nets marked as outputs.
-///
-/// A refused text gives the first fault: the first faulty line's, with the line's number from 1 on, or else that of the
-/// first line that uses a net which no line defines. Want of memory is answered as soon as a growth is refused, with line 0.
-#[tactic(auto, unfolding(crate::specs::Bench::bench_of))]
-pub fn read_bench(alloc: Global, text: &[u8]) -> Result<Bench, BenchFault>
+/// What a text says whose lines define these nets.
+fn bench_of(alloc: Global, names: Names, text: &[u8]) -> Result<Bench, BenchFault>
+    requires named { names_of text.now ≡ Ok (names_in names) }
+    requires within { length (names_in names) ≤ 999999 }
     ensures exact { Gives out_of_memory (λ bench. bench) result (bench_of text.now) }
     ensures memory { IfErr result MemoryHasNoLine }
 {
-    let (names, statements) = statements(alloc, text)?;
-    if let Some(line) = undriven(&names, &statements) {
-        return Err(BenchFault {
-            line: line as u64 + 1,
-            cause: BenchCause::Undriven,
-        });
+    let mut definitions = Vec::new(alloc);
+    let mut marked = Vec::new(alloc);
+    let mut number = 1;
+    let mut rest = Some(text);
+    while let Some(text) = rest {
+        let (line, after) = next_line(text);
+        match linked(alloc, &names, line) {
+            Ok(statement) => {
+                push_definition(alloc, &names, &statement, &mut definitions)?;
+                push_output(&names, &statement, &mut marked)?;
+            }
+            Err(cause) => return Err(fault_at(number, cause)),
+        }
+        number += 1;
+        rest = after;
     }
-    let definitions = definitions(alloc, &names, &statements)?;
-    let outputs = each_once(alloc, &marked(alloc, &names, &statements)?)?;
+    let outputs = each_once(alloc, &marked)?;
     Ok(Bench {
         names,
         definitions,
         outputs,
     })
+}
+
+/// What a bench text says: its nets in the order of their defining lines, and the nets marked as outputs.
+///
+/// A refused text gives the first fault: the first faulty line's, with the line's number from 1 on, or else that of the
+/// first line that uses a net which no line defines. Want of memory is answered as soon as a growth is refused, with line 0.
+///
+/// The text is read twice, since a net may be used before its line: first for the nets, then for what sets them. So
+/// the memory that reading takes is, but for a line's, that of the bench.
+#[tactic(auto, using(crate::proofs::Resolving::unnamed))]
+pub fn read_bench(alloc: Global, text: &[u8]) -> Result<Bench, BenchFault>
+    ensures exact { Gives out_of_memory (λ bench. bench) result (bench_of text.now) }
+    ensures memory { IfErr result MemoryHasNoLine }
+{
+    let names = names_of(alloc, text)?;
+    bench_of(alloc, names, text)
 }
