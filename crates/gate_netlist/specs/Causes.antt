@@ -1,5 +1,5 @@
 -- Why a settings document is refused.
-use Rattle.std.specs.Prelude.{ℕ, Bool, true, false, ◌&&◌, ◌||◌, not, nat_le, ◌==◌, if◌then◌else◌, List, length, get_or, codes, Option, Some, None, is_none, position}
+use Rattle.std.specs.Prelude.{ℕ, Bool, true, false, ◌&&◌, ◌||◌, not, ◌==◌, if◌then◌else◌, List, length, get_or, codes, Option, Some, None, is_none, position}
 use Rattle.std.specs.List.{list_any, list_all}
 use Rattle.std.specs.Option.{option_map_or}
 use Rattle.std.specs.Str.{bytes_eq}
@@ -9,6 +9,7 @@ use Rattle.gate_netlist.specs.declared.bench.Definition.TheVariants.{Input, Flop
 use Rattle.gate_netlist.specs.declared.fault.SettingsFault.{SettingsFault}
 use Rattle.gate_netlist.specs.declared.fault.SettingsFault.TheVariants.{UnknownKey, UnknownNet, BadDelay, ClockNotInput, BadCut}
 use Rattle.gate_netlist.specs.Netlist.{Netlist}
+use Rattle.gate_netlist.specs.Symbols.{is_letter}
 use Rattle.gate_netlist.specs.Settings.{as_delay, as_block, table_at, clock_name}
 
 -- the line of an input
@@ -74,13 +75,9 @@ has_bad_delay ms =
     || any_member is_bad_delay (table_at (codes "gate") ms)
     || any_member is_bad_delay (table_at (codes "net") ms)
 
--- a byte of a name: 33 to 126 other than the marks ( ) , = and #
-abbrev pub is_name_byte : ℕ → Bool
-is_name_byte b = nat_le 33 b && nat_le b 126 && not (b == 40 || b == 41 || b == 44 || b == 61 || b == 35)
-
--- what may name a net: one or more such bytes, other than the word `$end`
+-- what may name a net: one or more letters, other than the word `$end`
 abbrev pub is_name : List ℕ → Bool
-is_name bytes = not (length bytes == 0) && list_all is_name_byte bytes && not (bytes_eq bytes (codes "$end"))
+is_name bytes = not (length bytes == 0) && list_all is_letter bytes && not (bytes_eq bytes (codes "$end"))
 
 -- there is a flip-flop, and the clock's name is no name or names a net that isn't an input
 abbrev pub has_bad_clock : Netlist → Members → Bool

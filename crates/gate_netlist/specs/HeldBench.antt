@@ -1,11 +1,7 @@
 -- What contracts see of a bench.
-use Rattle.std.specs.Prelude.{map, string_bytes}
 use Rattle.gate_netlist.specs.declared.bench.Bench.TheInside.{Inside}
 use Rattle.gate_netlist.specs.Netlist.{Netlist}
+use Rattle.gate_netlist.specs.HeldParts.{parts_netlist}
 
 abbrev pub netlist_of : Inside → Netlist
-netlist_of b = record {
-  names = map string_bytes b.names.keys;
-  definitions = b.definitions.items;
-  outputs = b.outputs.items;
-}
+netlist_of b = parts_netlist (record { names = b.names; definitions = b.definitions; outputs = b.outputs })

@@ -44,6 +44,8 @@ impl Circuit {
     /// The circuit of a bench and a settings text: each net's delay is that of its name, else that of its kind,
     /// else the default, and the flip-flops' clock is the input of the clock's name, which is added as the last
     /// net where no net has the name. A text is refused for the least cause that applies to it.
+    ///
+    /// The bench is consumed, also where the text is refused. Memory is answered wherever a growth is refused.
     pub fn of(alloc: Global, bench: Bench, settings: &[u8]) -> Result<Circuit, SettingsFault>
         ensures { IsAnswer bench settings.now result }
     {

@@ -41,7 +41,8 @@ impl Cut {
     }
 
     /// The even cut: of the g nets that aren't inputs, in net order, number j goes to block j * blocks / g, rounded
-    /// down. There may be 1 to 1024 blocks; where there are more of them than such nets some are empty.
+    /// down. There may be 1 to 1024 blocks; where there are more of them than such nets some are empty. The one error
+    /// is that a growth was refused.
     pub fn even(alloc: Global, circuit: &Circuit, blocks: u32) -> Result<Cut, AllocError>
         requires some { 1 ≤ blocks }
         requires within { blocks ≤ 1024 }

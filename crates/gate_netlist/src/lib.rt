@@ -1,4 +1,11 @@
-//! Netlists: a `.bench` text and a settings text as a circuit.
+//! Netlists: a bench text and a settings text as a circuit, and a circuit's cut into blocks.
+//!
+//! [`read_bench`] answers what a `.bench` text says, in the language of the ISCAS'89 circuits, or its first fault
+//! with the line. [`Circuit::of`] gives a bench its delays, its clock, a scope and a cut by a settings text in TOML,
+//! or answers the least cause that speaks against the text. [`Cut::even`] makes a cut of a circuit where the settings
+//! give none. Each answer is the one that the definitions in `specs/` give: `Lines`, `Symbols`, `Statements` and
+//! `Bench` for the bench text; `Settings`, `Causes` and `Meaning` for the settings; `Circuit` and `Cut` for what
+//! is true of every circuit and every cut. The one other answer is want of memory, where a growth was refused.
 #![tactic(auto)]
 
 mod bench;

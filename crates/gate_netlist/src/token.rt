@@ -41,7 +41,8 @@ fn mark_of(byte: u8) -> Option<Token<'static>>
     }
 }
 
-fn is_letter(byte: u8) -> bool
+/// Whether a word may have this byte.
+pub(crate) fn is_letter(byte: u8) -> bool
     ensures { result ≡ is_letter byte }
 {
     33 <= byte && byte <= 126 && mark_of(byte).is_none() && byte != b'#'

@@ -6,11 +6,13 @@ ghost use Rattle.toml.specs.Data.{get_member};
 ghost use Rattle.std.specs.BTreeMap.{keys, values};
 ghost use Rattle.toml.specs.View.{view, table_view};
 ghost use Rattle.gate_netlist.specs.Settings.{as_delay, as_block, table_at};
-ghost use Rattle.gate_netlist.specs.Causes.{is_input_line, is_flop_line, number_of, is_driven, has_flop, any_member, is_unknown_top, is_gate_key, has_unknown_key, has_unknown_net, is_bad_delay, has_bad_delay, is_name_byte, is_name, has_bad_clock, has_bad_block, cause_of};
+ghost use Rattle.gate_netlist.specs.Symbols.{is_letter};
+ghost use Rattle.gate_netlist.specs.Causes.{is_input_line, is_flop_line, number_of, is_driven, has_flop, any_member, is_unknown_top, is_gate_key, has_unknown_key, has_unknown_net, is_bad_delay, has_bad_delay, is_name, has_bad_clock, has_bad_block, cause_of};
 
 use super::values::{block_of, clock_name, delay_of, table_at, value_at};
 use crate::bench::{Bench, Definition};
 use crate::fault::SettingsFault;
+use crate::token::is_letter;
 use toml::{Table, Value};
 
 /// The least cause for which the document is refused.
@@ -211,21 +213,13 @@ pub(crate) fn has_flop(definitions: &[Definition]) -> bool
 fn is_name(bytes: &[u8]) -> bool
     ensures { result ≡ is_name bytes.now }
 {
-    !bytes.is_empty() && all_are_name_bytes(bytes) && bytes != b"$end".as_slice()
+    !bytes.is_empty() && all_are_letters(bytes) && bytes != b"$end".as_slice()
 }
 
-fn all_are_name_bytes(bytes: &[u8]) -> bool
-    ensures { result ≡ list_all is_name_byte bytes.now }
+fn all_are_letters(bytes: &[u8]) -> bool
+    ensures { result ≡ list_all is_letter bytes.now }
 {
-    bytes.iter().all(|byte| is_name_byte(*byte))
-}
-
-fn is_name_byte(byte: u8) -> bool
-    ensures { result ≡ is_name_byte byte }
-{
-    byte >= 33
-        && byte <= 126
-        && !(byte == b'(' || byte == b')' || byte == b',' || byte == b'=' || byte == b'#')
+    bytes.iter().all(|byte| is_letter(*byte))
 }
 
 /// Whether a block number of the document is none.
