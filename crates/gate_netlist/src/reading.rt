@@ -237,7 +237,7 @@ fn each_once(alloc: Global, numbers: &[u32]) -> Result<Vec<u32>, AllocError>
     Vec::from_slice(alloc, found.as_slice())
 }
 
-/// What a text says whose lines define these nets.
+/// What a text says, where its lines define these nets.
 fn bench_of(alloc: Global, names: Names, text: &[u8]) -> Result<Bench, BenchFault>
     requires named { names_of text.now ≡ Ok (names_in names) }
     requires within { length (names_in names) ≤ 999999 }
@@ -274,7 +274,7 @@ fn bench_of(alloc: Global, names: Names, text: &[u8]) -> Result<Bench, BenchFaul
 /// first line that uses a net which no line defines. Want of memory is answered as soon as a growth is refused, with line 0.
 ///
 /// The text is read twice, since a net may be used before its line: first for the nets, then for what sets them. So
-/// the memory that reading takes is, but for a line's, that of the bench.
+/// no line needs to be kept.
 #[tactic(auto, using(crate::proofs::Resolving::unnamed))]
 pub fn read_bench(alloc: Global, text: &[u8]) -> Result<Bench, BenchFault>
     ensures exact { Gives out_of_memory (λ bench. bench) result (bench_of text.now) }
