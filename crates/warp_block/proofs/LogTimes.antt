@@ -1,0 +1,92 @@
+-- What lies before a time, and from it on, in a log.
+use Rattle.std.proofs.Common.{◌≡◌, ℕ, zero, suc, ◌-◌, ◌<◌, ◌≤◌, Bool, true, false, cond, List, [], ◌∷◌, length, get_or, take, drop, Some, None, IsSome, refl, sym, subst, arith, nat_lt, nat_le, nat_eq, inl, inr}
+use Rattle.std.specs.List.Sorted.{IsPartitionPoint}
+use Rattle.std.proofs.lemmas.Bool.{false≢true, cases_lt, lt-ltb, le-ltb, le-leb, lt-leb, eq-eqb, eqb-true}
+use Rattle.std.proofs.lemmas.List.Kept.{AllPairs-filter}
+use Rattle.gate_values.specs.declared.logic.Logic.{Logic}
+use Rattle.gate_values.specs.declared.logic.Logic.TheVariants.{X}
+use Rattle.gate_values.specs.declared.logic.Change.{Change}
+use Rattle.gate_values.specs.Changes.{before_time, latest, last_value, pair_at}
+use Rattle.warp_block.specs.View.{IsLeast}
+use Rattle.warp_block.specs.Logs.{IsLog}
+use Rattle.warp_block.specs.Step.{since_time}
+use Rattle.warp_block.proofs.Rising.{rising-not_falling, filter-front, filter-rest}
+
+abbrev pub time_of : Change → ℕ
+time_of c = c.time
+
+-- the changes of a log before a time are a log
+pub before_time-log : (k : ℕ) (cs : List Change) → IsLog cs → IsLog (before_time k cs)
+before_time-log k cs log = record { in_order = AllPairs-filter (λ (a b : Change). a.time < b.time) (λ (c : Change). nat_lt c.time k) cs log.in_order }
+
+pub before_time-take : (t : ℕ) (cs : List Change) (i : ℕ) → IsPartitionPoint (λ c. c.time < t) (λ c. t ≤ c.time) cs i → take i cs ≡ before_time t cs
+before_time-take t cs i (low, high) = sym (filter-front (λ (c : Change). nat_lt c.time t) cs i (λ k d a b. lt-ltb _ _ (low k d a b), λ k d a b. le-ltb _ _ (high k d a b)))
+
+pub since_time-drop : (t : ℕ) (cs : List Change) (i : ℕ) → IsPartitionPoint (λ c. c.time < t) (λ c. t ≤ c.time) cs i → drop i cs ≡ since_time t cs
+since_time-drop t cs i (low, high) = sym (filter-rest (λ (c : Change). nat_le t c.time) cs i (λ k d a b. lt-leb _ _ (low k d a b), λ k d a b. le-leb _ _ (high k d a b)))
+
+-- the value at a time is the one that the changes up to then leave
+pub latest-take : (v : Logic) (cs : List Change) (t i : ℕ) → IsPartitionPoint (λ c. c.time ≤ t) (λ c. t < c.time) cs i → last_value v (take i cs) ≡ latest v cs t
+unfolding latest
+latest-take v [] t zero (low, high) = refl
+latest-take v [] t (suc i) (low, high) = refl
+latest-take v (c ∷ cs) t zero (low, high) =
+    rw (lt-leb c.time t (high 0 c (omega arith) (omega arith))) (latest-take v cs t zero (λ k d a b. absurd (omega arith), λ k d a b. high (suc k) d (omega arith) (omega arith)))
+latest-take v (c ∷ cs) t (suc i) (low, high) =
+    rw (le-leb c.time t (low 0 c (omega arith) (omega arith))) (latest-take c.value cs t i (λ k d a b. low (suc k) d (omega arith) (omega arith), λ k d a b. high (suc k) d (omega arith) (omega arith)))
+
+pub last_value-last : (v : Logic) (cs : List Change) (d : Change) → 0 < length cs → (get_or cs (length cs - 1) d).value ≡ last_value v cs
+last_value-last v [] d h = absurd (omega arith)
+last_value-last v (c ∷ []) d h = refl
+last_value-last v (c ∷ e ∷ cs) d h = let k : suc (suc (length cs)) - 1 ≡ suc (suc (length cs) - 1) = omega arith in rw k (last_value-last c.value (e ∷ cs) d (omega arith))
+
+-- a change stands at its time
+pub pair_at-place : (cs : List Change) (i : ℕ) (d : Change) → i < length cs → IsSome (pair_at cs (get_or cs i d).time)
+pair_at-place [] i d l = absurd (omega arith)
+pair_at-place (c ∷ cs) zero d l = rw (eq-eqb c.time c.time refl) refl
+pair_at-place (c ∷ cs) (suc i) d l =
+    elim (nat_eq c.time (get_or cs i d).time) as (λ b. IsSome (cond b (Some c.value) (pair_at cs (get_or cs i d).time))) [
+      | true ↦ refl
+      | false ↦ pair_at-place cs i d (omega arith)
+    ]
+
+abbrev IsPlaced : List Change → ℕ → Type 0
+IsPlaced cs t = (i : ℕ) × (i < length cs) × ((d : Change) → (get_or cs i d).time ≡ t)
+
+found_step : (c : Change) (cs : List Change) (t : ℕ) → (IsSome (pair_at cs t) → IsPlaced cs t) → IsSome (pair_at (c ∷ cs) t) → IsPlaced (c ∷ cs) t
+found_step c cs t later h = go (nat_eq c.time t) refl h
+  where
+    go : (b : Bool) → nat_eq c.time t ≡ b → IsSome (cond b (Some c.value) (pair_at cs t)) → IsPlaced (c ∷ cs) t
+    go true e h = (0, omega arith, λ d. eqb-true c.time t e)
+    go false e h = let r = later h in (suc r.0, omega (arith, r.1), r.2)
+
+-- where there is a change, it has a place
+pub pair_at-found : (cs : List Change) (t : ℕ) → IsSome (pair_at cs t) → (i : ℕ) × (i < length cs) × ((d : Change) → (get_or cs i d).time ≡ t)
+pair_at-found [] t h = absurd (false≢true h)
+pair_at-found (c ∷ cs) t h = found_step c cs t (pair_at-found cs t) h
+
+-- a place whose time isn't before a time, isn't below the first such
+not_below : (cs : List Change) (t i j : ℕ) (d : Change) → IsPartitionPoint (λ e. e.time < t) (λ e. t ≤ e.time) cs i → t ≤ (get_or cs j d).time → i ≤ j
+not_below cs t i j d (low, high) h = elim (cases_lt j i) [
+  | inl lt ↦ (let b : (get_or cs j d).time < t = low j d (omega arith) lt in absurd (omega arith))
+  | inr ge ↦ ge
+]
+
+-- the first change from a time on is the one after those before it
+pub next_change-some : (cs : List Change) (t i : ℕ) (c : Change) → IsLog cs → IsPartitionPoint (λ e. e.time < t) (λ e. t ≤ e.time) cs i → i < length cs → c ≡ get_or cs i c
+    → IsLeast (λ u. (t ≤ u) × IsSome (pair_at cs u)) (Some c.time)
+next_change-some cs t i c log split l e = (
+  (subst (λ (x : Change). t ≤ x.time) (sym e) (split.1 i c (omega arith) l), subst (λ (x : Change). IsSome (pair_at cs x.time)) (sym e) (pair_at-place cs i c l)),
+  λ u h. (let r = pair_at-found cs u h.1 in
+      let at : (get_or cs r.0 c).time ≡ u = r.2 c in
+      let le : i ≤ r.0 = not_below cs t i r.0 c split (subst (λ (k : ℕ). t ≤ k) (sym at) h.0) in
+      let order : (get_or cs i c).time ≤ (get_or cs r.0 c).time = rising-not_falling time_of cs log.in_order i r.0 c le r.1 in
+      subst (λ (x : Change). x.time ≤ u) (sym e) (omega arith)),
+)
+
+pub next_change-none : (cs : List Change) (t i : ℕ) → IsPartitionPoint (λ e. e.time < t) (λ e. t ≤ e.time) cs i → length cs ≤ i → IsLeast (λ u. (t ≤ u) × IsSome (pair_at cs u)) None
+next_change-none cs t i split l u h =
+    let r = pair_at-found cs u h.1 in
+    let d : Change = record { time = 0; value = X } in
+    let le : i ≤ r.0 = not_below cs t i r.0 d split (subst (λ (k : ℕ). t ≤ k) (sym (r.2 d)) h.0) in
+    absurd (omega (arith, r.1))

@@ -1,0 +1,246 @@
+-- The nets of a part and what they are to it, as they are built.
+use Rattle.std.proofs.Common.{◌≡◌, ℕ, suc, ◌+◌, ◌<◌, ◌≤◌, ◌==◌, Bool, true, false, ◌&&◌, ◌||◌, cond, Option, Some, None, is_some, IsTrue, unwrap_or, List, [], ◌∷◌, ◌++◌, map, take, drop, replicate, length, get_or, inl, inr, refl, ap, sym, subst, ◌∙◌, zero-add, arith}
+use Rattle.std.specs.List.{range_with_len, All}
+use Rattle.std.specs.List.Sorted.{IsStrictlyIncreasing}
+use Rattle.std.proofs.lemmas.Bool.{cases_lt, eqb-true, or_right, or_left, and_from}
+use Rattle.std.proofs.lemmas.List.{append-nil, append_assoc, map_more, length-drop, get_or_default, length-map, length-append, length-replicate, get_or-replicate, ext_get_or, take-append-le, drop-append-le, take_all, drop_at, get_or_append_left, get_or_push}
+use Rattle.std.proofs.lemmas.List.Elements.{All-append, All-map, All-nil, All-cons}
+use Rattle.std.proofs.lemmas.List.Folds.{Any-from_list_any}
+use Rattle.std.proofs.lemmas.List.FromFn.{get_or-map-range_with_len, length-map-range_with_len}
+use Rattle.gate_values.specs.declared.gate.Kind.{Kind}
+use Rattle.gate_values.specs.Tables.{HasInputs}
+use Rattle.gate_values.specs.Behaviour.{Source, Outside}
+use Rattle.gate_netlist.specs.Circuit.{Design, IsCircuit, IsDriven, IsDelay, nets_of, driver_of, source_of, source_by, is_input, delay_of, delay_by}
+use Rattle.gate_netlist.specs.Cut.{Ownership}
+use Rattle.gate_netlist.specs.declared.driver.Driver.{Driver}
+use Rattle.gate_netlist.specs.declared.driver.Driver.TheVariants.{Input, Gate, Flop}
+use Rattle.warp_block.specs.declared.cell.Cell.{Cell}
+use Rattle.warp_block.specs.declared.cell.Cell.TheVariants as cell
+use Rattle.warp_block.specs.declared.cell.Span.{Span}
+use Rattle.warp_block.specs.Portion.{slot_of, uses, does_use}
+use Rattle.warp_block.specs.PartOf.{is_own, is_used_by, part_nets, part_source}
+use Rattle.warp_block.specs.HeldPart.{stretch}
+use Rattle.warp_block.specs.Building.{driver_uses, place_of, has, AreMarked, is_used_below, AreUsed, nets_below, IsCell, HasMore, AreCells}
+use Rattle.warp_block.proofs.Slots.{slot_at, slot_is}
+use Rattle.warp_block.proofs.PartLists.{or_none, any_more, any_below, has_at, kept_more, kept_below, kept_rises, kept_few, has_kept}
+
+-- ---- which nets a driver uses
+
+pub uses-driver : (driver : Driver) (delay : ℕ) → uses (source_by driver delay) ≡ driver_uses driver
+uses-driver Input delay = refl
+uses-driver (Gate kind inputs) delay = refl
+uses-driver (Flop d clock) delay = refl
+
+driver_uses-below : (driver : Driver) (nets delay : ℕ) → IsDriven nets driver delay → All (λ u. u < nets) (driver_uses driver)
+driver_uses-below Input nets delay h = All-nil (λ u. u < nets)
+driver_uses-below (Gate kind inputs) nets delay h = h.1
+driver_uses-below (Flop d clock) nets delay h = All-cons (λ u. u < nets) d (clock ∷ []) h.0 (All-cons (λ u. u < nets) clock [] h.1 (All-nil (λ u. u < nets)))
+
+-- ---- a net that is among ascending ones
+
+pub slot_some : (nets : List ℕ) (n : ℕ) → IsStrictlyIncreasing nets → has nets n ≡ true → IsTrue (is_some (slot_of nets n))
+slot_some nets n up h =
+    let (k, x, l, at, e) = Any-from_list_any (λ y. y == n) nets h in
+    let same : get_or nets k 0 ≡ n = get_or_default nets k 0 x l ∙ at ∙ eqb-true x n e in
+    let there : slot_of nets n ≡ Some k = subst (λ m. slot_of nets m ≡ Some k) same (slot_at nets k up l) in
+    rw there refl
+
+-- the place of a net that is among others
+pub place_is : (nets : List ℕ) (n : ℕ) → IsTrue (is_some (slot_of nets n)) → (place_of nets n < length nets) × (get_or nets (place_of nets n) 0 ≡ n)
+place_is nets n h = go (slot_of nets n) refl h
+  where
+    go : (o : Option ℕ) → slot_of nets n ≡ o → IsTrue (is_some o) → (unwrap_or (slot_of nets n) 0 < length nets) × (get_or nets (unwrap_or (slot_of nets n) 0) 0 ≡ n)
+    go None e h = absurd cc
+    go (Some i) e h = rw e (slot_is nets n i e)
+
+-- ---- what is used
+
+module _ (d : Design) (cut : Ownership) (b : ℕ) where
+  pub AreUsed-none : AreUsed d cut b 0 (replicate (nets_of d) false)
+  AreUsed-none = record {
+    same = length-replicate (nets_of d) false;
+    marks = λ n l. get_or-replicate (nets_of d) n false false l;
+  }
+
+  pub AreUsed-own : (end : ℕ) (old new : List Bool) → is_own cut b end ≡ true → AreUsed d cut b end old → AreMarked old new (driver_uses (driver_of d end)) → AreUsed d cut b (end + 1) new
+  AreUsed-own end old new own h m = record {
+    same = m.same ∙ h.same;
+    marks = λ n l.
+        (let e : does_use n (source_of d end) ≡ has (driver_uses (driver_of d end)) n = ap (λ us. has us n) (uses-driver (driver_of d end) (get_or d.delays end 0)) in
+        m.marks n (omega (arith, h.same)) ∙ ap (λ u. u || has (driver_uses (driver_of d end)) n) (h.marks n l)
+        ∙ sym (any_more (λ g. is_own cut b g && does_use n (source_of d g)) end ∙ ap (λ u. is_used_below d cut b end n || u) (ap (λ o. o && does_use n (source_of d end)) own ∙ e)));
+  }
+
+  pub AreUsed-other : (end : ℕ) (used : List Bool) → is_own cut b end ≡ false → AreUsed d cut b end used → AreUsed d cut b (end + 1) used
+  AreUsed-other end used other h = record {
+    same = h.same;
+    marks = λ n l.
+        h.marks n l
+        ∙ sym (any_more (λ g. is_own cut b g && does_use n (source_of d g)) end ∙ ap (λ u. is_used_below d cut b end n || u) (ap (λ o. o && does_use n (source_of d end)) other) ∙ or_none (is_used_below d cut b end n));
+  }
+
+  pub AreUsed-all : (used : List Bool) → AreUsed d cut b (nets_of d) used → used ≡ map (is_used_by d cut b) (range_with_len 0 (nets_of d))
+  AreUsed-all used h =
+      ext_get_or false used (map (is_used_by d cut b) (range_with_len 0 (nets_of d)))
+      (h.same ∙ sym (length-map-range_with_len (is_used_by d cut b) 0 (nets_of d)))
+      (λ n l. h.marks n (omega (arith, h.same, l)) ∙ sym (get_or-map-range_with_len (is_used_by d cut b) 0 (nets_of d) n n false (omega (arith, h.same, l)) (omega arith)))
+
+  pub uses-below : (g : ℕ) → IsCircuit d → g < nets_of d → All (λ u. u < nets_of d) (driver_uses (driver_of d g))
+  uses-below g law l = driver_uses-below (driver_of d g) (nets_of d) (get_or d.delays g 0) (law.driven g l)
+
+  pub marked-below : (g : ℕ) (used : List Bool) → IsCircuit d → g < nets_of d → length used ≡ nets_of d → All (λ u. u < length used) (driver_uses (driver_of d g))
+  marked-below g used law l same k e m = omega (arith, uses-below g law l k e m, same)
+
+  -- ---- the nets of a part
+
+  abbrev pub is_net : ℕ → Bool
+  is_net n = is_own cut b n || is_used_by d cut b n
+
+  pub nets_rise : IsStrictlyIncreasing (part_nets d cut b)
+  nets_rise = kept_rises is_net (nets_of d)
+
+  pub nets_within : All (λ n. n < nets_of d) (part_nets d cut b)
+  nets_within = kept_below is_net (nets_of d)
+
+  pub nets_more : (end : ℕ) (old new : List ℕ) → is_net end ≡ true → old ≡ nets_below d cut b end → new ≡ old ++ end ∷ [] → new ≡ nets_below d cut b (end + 1)
+  nets_more end old new in_ h e = e ∙ ap (λ ns. ns ++ end ∷ []) h ∙ sym (kept_more is_net end ∙ ap (λ t. nets_below d cut b end ++ cond t (end ∷ []) []) in_)
+
+  pub nets_same : (end : ℕ) (old : List ℕ) → is_net end ≡ false → old ≡ nets_below d cut b end → old ≡ nets_below d cut b (end + 1)
+  nets_same end old out h = h ∙ sym (kept_more is_net end ∙ ap (λ t. nets_below d cut b end ++ cond t (end ∷ []) []) out ∙ append-nil (nets_below d cut b end))
+
+  -- the mark of a net
+  pub mark_at : (used : List Bool) (n : ℕ) → n < nets_of d → used ≡ map (is_used_by d cut b) (range_with_len 0 (nets_of d)) → get_or used n false ≡ is_used_by d cut b n
+  mark_at used n l e = ap (λ us. get_or us n false) e ∙ get_or-map-range_with_len (is_used_by d cut b) 0 (nets_of d) n n false l (zero-add n)
+
+  pub marks_many : (used : List Bool) → used ≡ map (is_used_by d cut b) (range_with_len 0 (nets_of d)) → length used ≡ nets_of d
+  marks_many used e = ap length e ∙ length-map-range_with_len (is_used_by d cut b) 0 (nets_of d)
+
+  pub nets_few : length (part_nets d cut b) ≤ nets_of d
+  nets_few = kept_few is_net (nets_of d)
+
+  pub net_slot : (n : ℕ) → n < nets_of d → is_net n ≡ true → IsTrue (is_some (slot_of (part_nets d cut b) n))
+  net_slot n l h = slot_some (part_nets d cut b) n nets_rise (has_kept is_net (nets_of d) n l ∙ h)
+
+  pub own_slot : (n : ℕ) → n < nets_of d → is_own cut b n ≡ true → IsTrue (is_some (slot_of (part_nets d cut b) n))
+  own_slot n l own = net_slot n l (or_left (is_own cut b n) (is_used_by d cut b n) own)
+
+  -- the nets that an own net's driver uses are nets of the part
+  pub own_uses : (g : ℕ) → IsCircuit d → g < nets_of d → is_own cut b g ≡ true → All (λ u. IsTrue (is_some (slot_of (part_nets d cut b) u))) (driver_uses (driver_of d g))
+  own_uses g law l own k e m =
+      let us = driver_uses (driver_of d g) in
+      let u = get_or us k e in
+      let there : has us u ≡ true = has_at us k u m (get_or_default us k 0 e m) in
+      let does : does_use u (source_of d g) ≡ true = ap (λ ns. has ns u) (uses-driver (driver_of d g) (get_or d.delays g 0)) ∙ there in
+      let used : is_used_by d cut b u ≡ true = any_below (λ o. is_own cut b o && does_use u (source_of d o)) g (nets_of d) l (and_from (is_own cut b g) (does_use u (source_of d g)) own does) in
+      net_slot u (uses-below g law l k e m) (or_right (is_own cut b u) (is_used_by d cut b u) used)
+
+-- ---- pins
+
+pub pushed_more : {A : Type 0} (f : ℕ → A) (old sofar new : List A) (xs : List ℕ) (i : ℕ) → i < length xs → sofar ≡ old ++ map f (take i xs) → new ≡ sofar ++ f (get_or xs i 0) ∷ []
+    → new ≡ old ++ map f (take (i + 1) xs)
+pushed_more f old sofar new xs i l h e =
+    e ∙ ap (λ ys. ys ++ f (get_or xs i 0) ∷ []) h ∙ append_assoc old (map f (take i xs)) (f (get_or xs i 0) ∷ []) ∙ ap (λ ys. old ++ ys) (sym (map_more f xs i 0 l))
+
+-- a stretch that lies within a list stays as it is when the list grows
+pub stretch-append : (xs ys : List ℕ) (span : Span) → span.start + span.count ≤ length xs → stretch (xs ++ ys) span ≡ stretch xs span
+stretch-append xs ys span h =
+    ap (take span.count) (drop-append-le span.start xs ys (omega arith))
+    ∙ take-append-le span.count (drop span.start xs) ys (omega (arith, length-drop span.start xs))
+
+-- the stretch behind a list
+pub stretch-behind : (xs ys : List ℕ) (span : Span) → span.start ≡ length xs → span.count ≡ length ys → stretch (xs ++ ys) span ≡ ys
+stretch-behind xs ys span start count =
+    ap (take span.count) (drop_at xs ys span.start (sym start)) ∙ take_all span.count ys (omega (arith, count))
+
+-- ---- drivers
+
+pub gate_is : (d : Design) (n : ℕ) (kind : Kind) (inputs : List ℕ) (delay : ℕ) → IsCircuit d → n < nets_of d → driver_of d n ≡ Gate kind inputs → Some delay ≡ delay_of d n
+    → (source_of d n ≡ Source.Gate kind delay inputs) × (is_input (driver_of d n) ≡ false) × HasInputs kind (length inputs) × IsDelay delay
+gate_is d n kind inputs delay law l is delays =
+    let same : delay ≡ get_or d.delays n 0 = (let e : Some delay ≡ Some (get_or d.delays n 0) = subst (λ driver. Some delay ≡ delay_by driver (get_or d.delays n 0)) is delays in cc) in
+    let driven : IsDriven (nets_of d) (Gate kind inputs) delay =
+    subst (IsDriven (nets_of d) (Gate kind inputs)) (sym same) (subst (λ driver. IsDriven (nets_of d) driver (get_or d.delays n 0)) is (law.driven n l)) in
+    (ap (λ driver. source_by driver (get_or d.delays n 0)) is ∙ ap (λ k. Source.Gate kind k inputs) (sym same), ap is_input is, driven.0, driven.2)
+
+pub flop_is : (d : Design) (n data_net clock delay : ℕ) → IsCircuit d → n < nets_of d → driver_of d n ≡ Flop data_net clock → Some delay ≡ delay_of d n
+    → (source_of d n ≡ Source.Flop delay data_net clock) × (is_input (driver_of d n) ≡ false) × IsDelay delay
+flop_is d n data_net clock delay law l is delays =
+    let same : delay ≡ get_or d.delays n 0 = (let e : Some delay ≡ Some (get_or d.delays n 0) = subst (λ driver. Some delay ≡ delay_by driver (get_or d.delays n 0)) is delays in cc) in
+    let driven : IsDriven (nets_of d) (Flop data_net clock) delay =
+    subst (IsDriven (nets_of d) (Flop data_net clock)) (sym same) (subst (λ driver. IsDriven (nets_of d) driver (get_or d.delays n 0)) is (law.driven n l)) in
+    (ap (λ driver. source_by driver (get_or d.delays n 0)) is ∙ ap (λ k. Source.Flop k data_net clock) (sym same), ap is_input is, driven.2)
+
+-- ---- cells
+
+module _ (nets : List ℕ) where
+  places_are : (ns : List ℕ) → All (λ u. IsTrue (is_some (slot_of nets u))) ns → map (λ place. get_or nets place 0) (map (place_of nets) ns) ≡ ns
+  places_are [] h = refl
+  places_are (n ∷ ns) h =
+      let first = (place_is nets n (h 0 0 (omega arith))).1 in
+      let rest = places_are ns (λ k d l. h (suc k) d (omega (arith, l))) in
+      cc
+
+  pub places_within : (ns : List ℕ) → All (λ u. IsTrue (is_some (slot_of nets u))) ns → All (λ place. place < length nets) (map (place_of nets) ns)
+  places_within ns h =
+      All-map (λ place. place < length nets) (place_of nets) ns (λ k d l. (place_is nets (get_or ns k d) (h k d l)).0)
+
+  pub outer_cell : (pins : List ℕ) → IsCell nets pins Outside true cell.Input
+  outer_cell pins = record { fits = tt; source = refl; input = refl }
+
+  pub foreign_cell : (pins : List ℕ) → IsCell nets pins Outside false cell.Foreign
+  foreign_cell pins = record { fits = tt; source = refl; input = refl }
+
+  pub gate_cell : (old inputs : List ℕ) (kind : Kind) (delay : ℕ) (span : Span) → All (λ u. IsTrue (is_some (slot_of nets u))) inputs → HasInputs kind (length inputs) → IsDelay delay
+      → span.start ≡ length old → span.count ≡ length inputs
+      → IsCell nets (old ++ map (place_of nets) inputs) (Source.Gate kind delay inputs) false (cell.Gate kind delay span)
+  gate_cell old inputs kind delay span there has_ delays start count = record {
+    fits = (omega (arith, length-append old (map (place_of nets) inputs), length-map inputs (place_of nets)), rw count has_, delays.0, delays.1);
+    source = ap (Source.Gate kind delay)
+        (ap (map (λ place. get_or nets place 0)) (stretch-behind old (map (place_of nets) inputs) span start (omega (arith, length-map inputs (place_of nets)))) ∙ places_are inputs there);
+    input = refl;
+  }
+
+  pub flop_cell : (pins : List ℕ) (delay d clock : ℕ) → IsTrue (is_some (slot_of nets d)) → IsTrue (is_some (slot_of nets clock)) → IsDelay delay
+      → IsCell nets pins (Source.Flop delay d clock) false (cell.Flop delay (place_of nets d) (place_of nets clock))
+  flop_cell pins delay d clock data_there clock_there delays =
+      let data_is = place_is nets d data_there in
+      let clock_is = place_is nets clock clock_there in
+      record {
+        fits = (data_is.0, clock_is.0, delays.0, delays.1);
+        source = ap (λ n. Source.Flop delay n (get_or nets (place_of nets clock) 0)) data_is.1 ∙ ap (λ n. Source.Flop delay d n) clock_is.1;
+        input = refl;
+      }
+
+  IsCell-more : (pins more : List ℕ) (sets : Source) (outer : Bool) (e : Cell) → IsCell nets pins sets outer e → IsCell nets (pins ++ more) sets outer e
+  IsCell-more pins more sets outer cell.Input h = record { fits = tt; source = h.source; input = h.input }
+  IsCell-more pins more sets outer cell.Foreign h = record { fits = tt; source = h.source; input = h.input }
+  IsCell-more pins more sets outer (cell.Gate kind delay span) h =
+      let (within, has_, low, high) = h.fits in
+      record {
+        fits = (omega (arith, within, length-append pins more), has_, low, high);
+        source = ap (λ ps. Source.Gate kind delay (map (λ place. get_or nets place 0) ps)) (stretch-append pins more span within) ∙ h.source;
+        input = h.input;
+      }
+  IsCell-more pins more sets outer (cell.Flop delay d clock) h = record { fits = h.fits; source = h.source; input = h.input }
+
+pub AreCells-none : (d : Design) (cut : Ownership) (b : ℕ) (nets : List ℕ) → AreCells d cut b nets [] []
+AreCells-none d cut b nets = record {
+  each = λ i e l. absurd (omega (arith, l));
+  places = All-nil (λ pin. pin < length nets);
+}
+
+-- one cell more
+pub AreCells-push : (d : Design) (cut : Ownership) (b : ℕ) (nets pins new : List ℕ) (cells : List Cell) (i : ℕ) (e : Cell) → length cells ≡ i → AreCells d cut b nets pins cells → HasMore (length nets) pins new
+    → IsCell nets new (part_source d cut b (get_or nets i 0)) (is_input (driver_of d (get_or nets i 0))) e → AreCells d cut b nets new (cells ++ e ∷ [])
+AreCells-push d cut b nets pins new cells i e many h more is = record {
+  each = λ k other l.
+      elim (cases_lt k (length cells)) [
+        | inl before ↦
+            rw (more.added, get_or_append_left cells (e ∷ []) other k before)
+            (IsCell-more nets pins more.more (part_source d cut b (get_or nets k 0)) (is_input (driver_of d (get_or nets k 0))) (get_or cells k other) (h.each k other before))
+        | inr last ↦
+            (let at : k ≡ i = omega (arith, many, last, l, length-append cells (e ∷ [])) in
+            rw (at, get_or_push cells e other i many) is)
+      ];
+  places = rw more.added (All-append (λ pin. pin < length nets) pins more.more h.places more.places);
+}

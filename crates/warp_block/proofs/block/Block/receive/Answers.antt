@@ -1,0 +1,98 @@
+use Rattle.std.proofs.Common.{◌≡◌, ◌≢◌, ◌<◌, ◌≤◌, ℕ, true, List, All, map, take, refl, ap, sym, ◌∙◌, subst, arith, inl, inr, ◌⊎◌}
+use Rattle.std.proofs.lemmas.List.{take-map}
+use Rattle.std.specs.Result.{IfErr}
+use Rattle.std.specs.List.Sorted.{IsPartitionPoint}
+use Rattle.std.proofs.lemmas.Bool.{iff_false}
+use Rattle.warp_block.specs.declared.message.Sign.TheVariants.{Minus}
+use Rattle.warp_block.specs.Entries.{effective_of}
+use Rattle.warp_block.specs.Portion.{hears}
+use Rattle.warp_block.specs.View.{Process, Saved, effective_at}
+use Rattle.warp_block.specs.Lawful.{IsSaved, AreSaved}
+use Rattle.warp_block.specs.Receive.{IsPut, IsTaken, IsRefusal, refusal_of}
+use Rattle.warp_block.specs.Saving.{saved_of}
+use Rattle.warp_block.proofs.Slots.{slot_is}
+use Rattle.warp_block.proofs.Sending.{sends_none}
+use Rattle.warp_block.proofs.Receiving.{rolled, kept, rolled_saved, kept_saved, refused_memory, states_rise, saved_point, not_late}
+use Rattle.warp_block.proofs.block.Block.receive.Goals as goal
+
+pub roll_back-requires-clause-heard : goal.roll_back-requires-clause-heard
+roll_back-requires-clause-heard c =
+    let v = c.self.inside.look in
+    let a = c.in-Ok.ensures.ok in
+    subst (λ (n : ℕ). hears v.part n ≡ true) (sym (slot_is v.part.nets c.args.message.net c.in-Ok.admitted.0 a.place).1) a.heard
+
+pub returns-in_err-roll_back-clause-refused : goal.returns-in_err-roll_back-clause-refused
+returns-in_err-roll_back-clause-refused c =
+    let a = c.in-Ok.ensures.ok in
+    let P : Process → Type 0 = λ p. IfErr c.from_residual.result (IsRefusal (refusal_of p.seen c.args.message)) in
+    subst P c.self.view_is (refused_memory c.from_residual.result (refusal_of c.self.inside.look c.args.message) c.from_residual.ensures.1 a.accepted)
+
+pub keep_until-requires : goal.keep_until-requires
+keep_until-requires c = states_rise c.self.inside.look c.self.inside.saved.items c.self.invariant.saved
+
+pub invariant_of-self-then-is_straggler : goal.invariant_of-self-then-is_straggler
+invariant_of-self-then-is_straggler c =
+    let v = c.self.inside.look in
+    let w = c.roll_back.new.self in
+    let a = c.in-Ok.ensures.ok in
+    let at = (slot_is v.part.nets c.args.message.net c.in-Ok.admitted.0 a.place).1 in
+    let put = subst (λ (n : ℕ). IsPut v w n c.args.message.time c.in-Ok.admitted.1) at c.in_ok-roll_back.ensures.put in
+    let mark : w.mark ≡ c.args.message.time = c.in_ok-roll_back.ensures.mark in
+    let below = (c.is_straggler.ensures.0 c.if-is_straggler.true).0 in
+    let k = c.keep_until.ensures.0 in
+    let items : map saved_of c.keep_until.new.saved.items ≡ take k (map saved_of c.self.inside.saved.items) = ap (map saved_of) c.keep_until.ensures.2 ∙ sym (take-map saved_of k c.self.inside.saved.items) in
+    let point = saved_point c.self.inside.saved.items c.args.message.time k c.keep_until.ensures.3 c.keep_until.ensures.1 in
+    let point_at_mark = subst (λ (t : ℕ). IsPartitionPoint (λ (s : Saved). s.mark ≤ t) (λ (s : Saved). t < s.mark) (map saved_of c.self.inside.saved.items) k) (sym mark) point in
+    let both = rolled_saved v w c.args.message c.in-Ok.admitted.0 c.in-Ok.admitted.1 a put c.self.invariant.seen c.law.ensures (map saved_of c.self.inside.saved.items) c.self.invariant.states c.self.invariant.saved mark (omega (arith, below)) k point_at_mark in
+    record {
+      seen = c.law.ensures;
+      states = subst (λ (ss : List Saved). All (IsSaved w) ss) (sym items) both.0;
+      saved = subst (λ (ss : List Saved). AreSaved w ss) (sym items) both.1;
+    }
+
+pub returns-then-is_straggler-clause-taken : goal.returns-then-is_straggler-clause-taken
+returns-then-is_straggler-clause-taken c =
+    let v = c.self.inside.look in
+    let a = c.in-Ok.ensures.ok in
+    let at = (slot_is v.part.nets c.args.message.net c.in-Ok.admitted.0 a.place).1 in
+    let put = subst (λ (n : ℕ). IsPut v c.roll_back.new.self n c.args.message.time c.in-Ok.admitted.1) at c.in_ok-roll_back.ensures.put in
+    let late = subst (λ (n : ℕ). (c.args.message.time < v.mark) × (effective_of c.in-Ok.admitted.1 ≢ effective_at v n c.args.message.time)) at (c.is_straggler.ensures.0 c.if-is_straggler.true) in
+    rw (← c.self.view_is) (rolled v c.roll_back.new.self c.args.message c.in-Ok.admitted.0 c.in-Ok.admitted.1 a put c.in_ok-roll_back.ensures.mark late)
+
+pub take_in-requires-clause-heard : goal.take_in-requires-clause-heard
+take_in-requires-clause-heard c =
+    let v = c.self.inside.look in
+    let a = c.in-Ok.ensures.ok in
+    subst (λ (n : ℕ). hears v.part n ≡ true) (sym (slot_is v.part.nets c.args.message.net c.in-Ok.admitted.0 a.place).1) a.heard
+
+pub returns-in_err-take_in-clause-refused : goal.returns-in_err-take_in-clause-refused
+returns-in_err-take_in-clause-refused c =
+    let a = c.in-Ok.ensures.ok in
+    let P : Process → Type 0 = λ p. IfErr c.from_residual-in_err-take_in.result (IsRefusal (refusal_of p.seen c.args.message)) in
+    subst P c.self.view_is (refused_memory c.from_residual-in_err-take_in.result (refusal_of c.self.inside.look c.args.message) c.from_residual-in_err-take_in.ensures.1 a.accepted)
+
+pub invariant_of-self-2 : goal.invariant_of-self-2
+invariant_of-self-2 c =
+    let v = c.self.inside.look in
+    let w = c.take_in.new.self in
+    let a = c.in-Ok.ensures.ok in
+    let at = (slot_is v.part.nets c.args.message.net c.in-Ok.admitted.0 a.place).1 in
+    let put = subst (λ (n : ℕ). IsPut v w n c.args.message.time c.in-Ok.admitted.1) at c.in_ok-take_in.ensures.put in
+    let early = not_late c.args.message.time v.mark (effective_of c.in-Ok.admitted.1) (effective_at v c.args.message.net c.args.message.time)
+    (λ late. iff_false c.is_straggler.ensures c.if-is_straggler.false (subst (λ (n : ℕ). (c.args.message.time < v.mark) × (effective_of c.in-Ok.admitted.1 ≢ effective_at v n c.args.message.time)) (sym at) late)) in
+    let both = kept_saved v w c.args.message c.in-Ok.admitted.0 c.in-Ok.admitted.1 a put c.self.invariant.seen c.law-2.ensures (map saved_of c.self.inside.saved.items) c.self.invariant.states c.self.invariant.saved c.in_ok-take_in.ensures.mark early in
+    record { seen = c.law-2.ensures; states = both.0; saved = both.1 }
+
+pub returns-clause-taken : goal.returns-clause-taken
+returns-clause-taken c =
+    let v = c.self.inside.look in
+    let a = c.in-Ok.ensures.ok in
+    let at = (slot_is v.part.nets c.args.message.net c.in-Ok.admitted.0 a.place).1 in
+    let put = subst (λ (n : ℕ). IsPut v c.take_in.new.self n c.args.message.time c.in-Ok.admitted.1) at c.in_ok-take_in.ensures.put in
+    let early : (c.args.message.time < v.mark) × (effective_of c.in-Ok.admitted.1 ≢ effective_at v c.args.message.net c.args.message.time) → ⊥ =
+    λ late. iff_false c.is_straggler.ensures c.if-is_straggler.false (subst (λ (n : ℕ). (c.args.message.time < v.mark) × (effective_of c.in-Ok.admitted.1 ≢ effective_at v n c.args.message.time)) (sym at) late) in
+    rw (← c.self.view_is) (kept v c.take_in.new.self c.args.message c.in-Ok.admitted.0 c.in-Ok.admitted.1 a put c.in_ok-take_in.ensures.mark early)
+
+pub returns-clause-sends : goal.returns-clause-sends
+returns-clause-sends c =
+    rw (← c.self.view_is) (sends_none c.self.inside.look c.take_in.new.self Minus (λ t. c.args.message.time < t) c.args.out.now.items c.args.out.now.items c.in_ok-take_in.ensures.put.part c.in_ok-take_in.ensures.logs refl)

@@ -1,0 +1,10 @@
+use Rattle.warp_block.proofs.LogTimes.{next_change-some, next_change-none}
+use Rattle.warp_block.proofs.log.next_change.Goals as goal
+
+pub returns-in_err-change : goal.returns-in_err-change
+returns-in_err-change c = rw c.from_residual.ensures (next_change-none c.args.log.now c.args.from c.count_before.result c.count_before.ensures.split c.in_err-change.ensures.lookup.3)
+
+pub returns : goal.returns
+returns c =
+    let read = c.in_ok-change.ensures.lookup in
+    next_change-some c.args.log.now c.args.from c.count_before.result c.in_ok-change.change.now c.requires c.count_before.ensures.split read.3.0 read.1

@@ -1,0 +1,25 @@
+use Rattle.std.proofs.Common.{sym, ◌∙◌, length, arith}
+use Rattle.std.proofs.lemmas.List.{get_or_read, get_or_default}
+use Rattle.gate_values.specs.declared.logic.Logic.TheVariants.{Zero, X}
+use Rattle.warp_block.specs.declared.cell.Cell.TheVariants.{Flop}
+use Rattle.warp_block.specs.HeldPart.{CellFits}
+use Rattle.warp_block.proofs.PartHeld.{flop_content, fits-at}
+use Rattle.warp_block.proofs.part.Part.next_content.Goals as goal
+
+pub returns-in-Flop : goal.returns-in-Flop
+returns-in-Flop c =
+    let p = c.self.inside in
+    let values = c.args.last.now.values in
+    let contents = c.args.last.now.contents in
+    let nets = rw (← c.self.view_is) at c.requires.slot in
+    let cell = sym c.index.ensures ∙ c.in-Flop.is in
+    let many = rw (← c.self.view_is) at c.requires.values in
+    let many_values = rw (← c.self.view_is) at c.requires.last_values in
+    let many_contents = rw (← c.self.view_is) at c.requires.last_contents in
+    let fits : CellFits (length p.nets.items) (length p.pins.items) (Flop c.in-Flop.delay c.in-Flop.d c.in-Flop.clock) = fits-at p c.args.slot c.index.result.now _ c.self.invariant nets cell in
+    let own = get_or_read contents.items c.args.slot c.index-in-Flop.result.now (omega (arith, contents.ok.0)) c.index-in-Flop.ensures X in
+    let clock = get_or_read values.items c.in-Flop.clock c.index-in-Flop-2.result.now (omega (arith, values.ok.0, fits.1)) c.index-in-Flop-2.ensures X in
+    let given = get_or_read values.items c.in-Flop.d c.index-in-Flop-3.result.now (omega (arith, values.ok.0, fits.0)) c.index-in-Flop-3.ensures X in
+    let now = get_or_default c.args.values.now c.in-Flop.clock X Zero (omega (arith, fits.1)) in
+    let e = flop_content p c.self.invariant values.items contents.items c.args.slot c.index.result.now nets c.args.values.now c.in-Flop.delay c.in-Flop.d c.in-Flop.clock cell in
+    rw (← c.self.view_is) (cc (e, own, clock, given, now, c.flip.ensures))

@@ -1,0 +1,5 @@
+use Rattle.warp_block.specs.Building.{AreUsed}
+use Rattle.warp_block.proofs.part.build.used_by.Given as goal
+
+abbrev pub invariant-loop-net : goal.invariant-loop-net
+invariant-loop-net l = AreUsed l.circuit l.cut l.block l.net l.used.items

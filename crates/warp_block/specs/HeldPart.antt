@@ -1,0 +1,51 @@
+-- What contracts see of the part that a block holds: places become nets.
+use Rattle.std.specs.Prelude.{◌≡◌, ℕ, ◌+◌, ◌<◌, ◌≤◌, Bool, true, false, List, map, take, drop, length, slice_index}
+use Rattle.std.specs.List.{All}
+use Rattle.gate_values.specs.Tables.{HasInputs}
+use Rattle.gate_values.specs.Behaviour.{Source}
+use Rattle.warp_block.specs.declared.cell.Cell.{Cell}
+use Rattle.warp_block.specs.declared.cell.Cell.TheVariants.{Input, Foreign, Gate, Flop}
+use Rattle.warp_block.specs.declared.cell.Span.{Span}
+use Rattle.warp_block.specs.declared.part.Part.TheInside.{Inside}
+use Rattle.warp_block.specs.Portion.{Portion, IsPortion, is_used}
+
+-- a stretch of a list
+abbrev pub stretch : List ℕ → Span → List ℕ
+stretch xs span = take span.count (drop span.start xs)
+
+-- what sets the net of a cell
+abbrev pub cell_source : List ℕ → List ℕ → Cell → Source
+cell_source nets pins Input = Source.Outside
+cell_source nets pins Foreign = Source.Outside
+cell_source nets pins (Gate kind delay span) = Source.Gate kind delay (map (slice_index nets) (stretch pins span))
+cell_source nets pins (Flop delay d clock) = Source.Flop delay (slice_index nets d) (slice_index nets clock)
+
+abbrev pub is_input_cell : Cell → Bool
+is_input_cell Input = true
+is_input_cell _ = false
+
+abbrev pub portion_of : Inside → Portion
+portion_of p = record {
+  block = p.block;
+  nets = p.nets.items;
+  sources = map (cell_source p.nets.items p.pins.items) p.cells.items;
+  inputs = map is_input_cell p.cells.items;
+  readers = map (stretch p.readers.items) p.told.items;
+}
+
+-- a cell refers to places among so many nets, and to a stretch of so many pins
+abbrev pub CellFits : ℕ → ℕ → Cell → Type 0
+CellFits nets pins Input = Unit {0}
+CellFits nets pins Foreign = Unit {0}
+CellFits nets pins (Gate kind delay span) = (span.start + span.count ≤ pins) × HasInputs kind span.count × (1 ≤ delay) × (delay ≤ 1000000)
+CellFits nets pins (Flop delay d clock) = (d < nets) × (clock < nets) × (1 ≤ delay) × (delay ≤ 1000000)
+
+-- what is true of the fields of every part
+pub record IsHeld (p : Inside) : Type 0 where
+  pub portion : IsPortion (portion_of p)
+  pub cells : length p.cells.items ≡ length p.nets.items
+  pub fit : All (CellFits (length p.nets.items) (length p.pins.items)) p.cells.items
+  pub pins : All (λ pin. pin < length p.nets.items) p.pins.items
+  pub told : length p.told.items ≡ length p.nets.items
+  pub spans : All (λ (span : Span). span.start + span.count ≤ length p.readers.items) p.told.items
+  pub used : p.used.items ≡ map (is_used (portion_of p)) p.nets.items

@@ -1,0 +1,27 @@
+-- A block that has received nothing but the stimulus.
+use Rattle.std.specs.Prelude.{ℕ, ◌+◌, false, if◌then◌else◌, List, [], map}
+use Rattle.gate_values.specs.declared.logic.Change.{Change}
+use Rattle.gate_values.specs.Changes.{before_time}
+use Rattle.gate_vcd.specs.Given.{Given, changes_of}
+use Rattle.warp_block.specs.declared.queue.Timed.{Timed}
+use Rattle.warp_block.specs.Entries.{one_message}
+use Rattle.warp_block.specs.Portion.{Portion, is_input}
+use Rattle.warp_block.specs.View.{View}
+
+-- one message of the change stands
+abbrev pub message_of : Change → Timed
+message_of c = record { time = c.time; entry = one_message c.value }
+
+-- the changes of an input up to the horizon, each with one message
+abbrev pub opening_queue : Portion → Given → ℕ → ℕ → List Timed
+opening_queue p stimulus horizon n = if is_input p n then map message_of (before_time (horizon + 1) (changes_of stimulus n)) else []
+
+abbrev pub opening_view : Portion → Given → ℕ → View
+opening_view p stimulus horizon = record {
+  part = p;
+  horizon = horizon;
+  mark = 0;
+  floor = 0;
+  queues = map (opening_queue p stimulus horizon) p.nets;
+  logs = map (λ _. []) p.nets;
+}

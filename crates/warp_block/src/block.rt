@@ -1,0 +1,222 @@
+ghost use Rattle.std.specs.Prelude.{◌≡◌, ◌≢◌, ◌+◌, ◌≤◌, ◌<◌, ◌↔◌, ◌⊎◌, ℕ, IsTrue, IfOk, IfErr, OnOk, OnErr, Some, None, length, take};
+ghost use Rattle.std.specs.List.Sorted.{IsNonDecreasingBy, IsPartitionPoint};
+ghost use Rattle.warp_block.specs.declared.message.Sign.TheVariants.{Plus, Minus};
+ghost use Rattle.warp_block.specs.Entries.{no_messages};
+ghost use Rattle.warp_block.specs.View.{IsLeast, IsEventTime, IsDone, entry_of, log_of};
+ghost use Rattle.warp_block.specs.Lawful.{IsLawful, IsLawfulProcess};
+ghost use Rattle.warp_block.specs.Opening.{opening_view};
+ghost use Rattle.warp_block.specs.Receive.{refusal_of, IsRefusal, IsTaken};
+ghost use Rattle.warp_block.specs.Advance.{IsAdvanced, IsAfterEvent};
+ghost use Rattle.warp_block.specs.Sends.{Sends};
+
+use crate::entry::Entry;
+use crate::fault::BlockFault;
+use crate::look::Look;
+use crate::message::Message;
+use crate::part::Part;
+use crate::state::State;
+use gate_values::Change;
+use gate_vcd::Stimulus;
+use std::alloc::{AllocError, Global};
+use std::marker::Model;
+
+/// A logical process.
+#[derive(Debug, Drop)]
+pub struct Block {
+    look: Look,
+    saved: Vec<State>,
+}
+
+impl Model for Block {
+    ghost use Rattle.warp_block.specs.View.{Process};
+
+    ghost Value = { Process };
+
+    ghost use Rattle.warp_block.specs.HeldBlock.{process_of};
+    ghost use Rattle.warp_block.specs.Lawful.{IsLawfulProcess};
+
+    ghost view = { process_of };
+
+    ghost invariant = { λ block. IsLawfulProcess (process_of block) };
+}
+
+impl Block {
+    /// A block that has received nothing but the stimulus's changes up to the horizon, which is at most 10^12. Its mark
+    /// and floor are 0, and it tells nothing. An error is a refused growth.
+    pub fn new(
+        alloc: Global,
+        part: Part,
+        stimulus: &Stimulus,
+        horizon: u64,
+        out: &mut Vec<Message>,
+    ) -> Result<Block, AllocError>
+        requires { horizon ≤ 1000000000000 }
+        ensures opening { IfOk result (λ block. block.seen ≡ opening_view part stimulus.now horizon) }
+        ensures untold { out.new.items ≡ out.old.items }
+    {
+        let _ = &out;
+        let look = Look::new(alloc, part, stimulus, horizon)?;
+        look.law();
+        let first = State::unknown(alloc, look.part().len())?;
+        let mut saved = Vec::new(alloc);
+        saved.push(first)?;
+        Ok(Block { look, saved })
+    }
+
+    /// What is true of every block: its log and saved states are those of running what it has received, in order of
+    /// time, from the start.
+    pub fn law(&self)
+        ensures { IsLawfulProcess self.now }
+    {
+        let _ = &self.saved;
+    }
+
+    /// Takes one message, or antimessage: the number that it names goes up, or down, by one. Where this changes what
+    /// is processed, the block rolls back to the message's time, and the antimessages of what it has to take back go
+    /// behind `out`.
+    ///
+    /// A message for another block or net, past the horizon, below the floor, or past the greatest number of an entry
+    /// is refused, for the first of these causes; want of memory comes last. After an error nothing has changed.
+    pub fn receive(&mut self, message: Message, out: &mut Vec<Message>) -> Result<(), BlockFault>
+        ensures accepted { OnOk result (refusal_of self.old.seen message ≡ None) }
+        ensures taken { OnOk result (IsTaken self.old.seen self.new.seen message) }
+        ensures sends { OnOk result (Sends self.old.seen self.new.seen Minus (λ t. message.time < t) out.old.items out.new.items) }
+        ensures refused { IfErr result (IsRefusal (refusal_of self.old.seen message)) }
+        ensures err { OnErr result (self.new ≡ self.old) }
+        ensures untold { OnErr result (out.new.items ≡ out.old.items) }
+    {
+        let (slot, entry) = match self.look.admit(message) {
+            Ok(admitted) => admitted,
+            Err(fault) => return Err(fault),
+        };
+        if self.look.is_straggler(slot, message.time, entry) {
+            self.look.roll_back(slot, message.time, entry, out)?;
+            self.look.law();
+            keep_until(&mut self.saved, message.time);
+            return Ok(());
+        }
+        self.look.take_in(slot, message.time, entry)?;
+        self.look.law();
+        Ok(())
+    }
+
+    /// Finishes up to so many event times, and answers how many: fewer only where none is left. The messages on new
+    /// changes go behind `out`.
+    ///
+    /// The one error is want of memory; after it fewer event times are finished, and these and what they sent stand.
+    pub fn advance(&mut self, steps: u32, out: &mut Vec<Message>) -> Result<u32, BlockFault>
+        ensures ok { IfOk result (IsAdvanced self.old.seen self.new.seen) }
+        ensures all { IfOk result (λ count. (count ≡ steps) ⊎ ((count < steps) × IsDone self.new.seen)) }
+        ensures memory { IfErr result (λ fault. fault ≡ BlockFault.Memory) }
+        ensures some { OnErr result ((count : ℕ) × (count < steps) × IsAdvanced self.old.seen self.new.seen count) }
+        ensures sends { Sends self.old.seen self.new.seen Plus (IsAfterEvent self.old.seen) out.old.items out.new.items }
+    {
+        for finished in 0..steps {
+            let Some(time) = self.look.next_time() else {
+                return Ok(finished);
+            };
+            self.step(time, out)?;
+        }
+        Ok(steps)
+    }
+
+    /// Finishes the next event time.
+    fn step(&mut self, time: u64, out: &mut Vec<Message>) -> Result<(), AllocError>
+        requires { IsLeast (IsEventTime self.old.seen) (Some time) }
+        ensures ok { OnOk result (IsAdvanced self.old.seen self.new.seen 1) }
+        ensures mark { OnOk result (self.new.seen.mark ≡ time + 1) }
+        ensures lawful { OnOk result (IsLawful self.new.seen) }
+        ensures sends { OnOk result (Sends self.old.seen self.new.seen Plus (λ t. time < t) out.old.items out.new.items) }
+        ensures err { OnErr result (self.new ≡ self.old) }
+        ensures untold { OnErr result (out.new.items ≡ out.old.items) }
+    {
+        let state = self
+            .look
+            .next_state(&self.saved[self.saved.len() - 1], time)?;
+        self.saved.reserve(1)?;
+        self.look.finish(&state, time, out)?;
+        self.look.law();
+        self.saved.push_reserved(state);
+        Ok(())
+    }
+
+    /// What it holds, its saved states aside.
+    pub fn look(&self) -> Result<Look, AllocError>
+        ensures { IfOk result (λ look. look ≡ self.now.seen) }
+    {
+        self.look.copy()
+    }
+
+    /// The part of the circuit.
+    pub fn part(&self) -> &Part
+        ensures { result.now ≡ self.now.seen.part }
+    {
+        self.look.part()
+    }
+
+    /// The last time that counts.
+    pub fn horizon(&self) -> u64
+        ensures { result ≡ self.now.seen.horizon }
+    {
+        self.look.horizon()
+    }
+
+    /// Everything below it is processed.
+    pub fn mark(&self) -> u64
+        ensures { result ≡ self.now.seen.mark }
+    {
+        self.look.mark()
+    }
+
+    /// Everything below it is committed.
+    pub fn floor(&self) -> u64
+        ensures { result ≡ self.now.seen.floor }
+    {
+        self.look.floor()
+    }
+
+    /// The least event time.
+    pub fn next_time(&self) -> Option<u64>
+        ensures { IsLeast (IsEventTime self.now.seen) result }
+    {
+        self.look.next_time()
+    }
+
+    /// Whether no event time is left.
+    pub fn done(&self) -> bool
+        ensures { IsTrue result ↔ IsDone self.now.seen }
+    {
+        self.look.done()
+    }
+
+    /// The changes of a net that the block has computed, committed ones included; none of a net that it doesn't own.
+    pub fn log(&self, net: u32) -> &[Change]
+        ensures { result.now ≡ log_of self.now.seen net }
+    {
+        self.look.log(net)
+    }
+
+    /// The entry of a net at a time; empty for a net that the block doesn't read, and for an own one.
+    pub fn entry(&self, net: u32, time: u64) -> Entry
+        ensures { result ≡ entry_of self.now.seen net time }
+    {
+        self.look.entry(net, time)
+    }
+
+    /// The least time from a time on at which the entry of a net isn't empty.
+    pub fn next_entry(&self, net: u32, from: u64) -> Option<u64>
+        ensures { IsLeast (λ t. (from ≤ t) × (entry_of self.now.seen net t ≢ no_messages)) result }
+    {
+        self.look.next_entry(net, from)
+    }
+}
+
+/// Drops the saved states at marks past a time.
+fn keep_until(saved: &mut Vec<State>, time: u64)
+    requires { IsNonDecreasingBy (λ state. state.mark) saved.old.items }
+    ensures { (k : ℕ) × (k ≤ length saved.old.items) × (saved.new.items ≡ take k saved.old.items)
+        × IsPartitionPoint (λ state. state.mark ≤ time) (λ state. time < state.mark) saved.old.items k }
+{
+    let kept = saved.partition_point(|state| state.mark <= time);
+    saved.truncate(kept);
+}

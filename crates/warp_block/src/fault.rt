@@ -1,0 +1,41 @@
+ghost use Rattle.std.specs.Prelude.{◌≡◌};
+ghost use Rattle.warp_block.specs.declared.fault.BlockFault.TheVariants as fault;
+
+use std::alloc::{AllocError, AllocFailed};
+use thiserror::Error;
+
+/// Why a block refuses a call. Of the causes that apply the first in this order is answered.
+#[derive(Clone, Copy, Debug, PartialEq, Eq, Error)]
+pub enum BlockFault {
+    /// The message is for another block, or for a net that the block reads from no other block.
+    #[error("WrongNet")]
+    WrongNet,
+    /// The message's time is past the horizon.
+    #[error("PastHorizon")]
+    PastHorizon,
+    /// The message's time is below the floor.
+    #[error("BelowFloor")]
+    BelowFloor,
+    /// A number of an entry would be past 10^30, either way.
+    #[error("CountLimit")]
+    CountLimit,
+    /// A growth was refused.
+    #[error("Memory")]
+    Memory,
+}
+
+impl From<AllocError> for BlockFault {
+    ghost from_gives = { λ _ cause. cause ≡ fault.Memory };
+
+    fn from(_: AllocError) -> BlockFault {
+        BlockFault::Memory
+    }
+}
+
+impl<T: Drop> From<AllocFailed<T>> for BlockFault {
+    ghost from_gives = { λ _ cause. cause ≡ fault.Memory };
+
+    fn from(_: AllocFailed<T>) -> BlockFault {
+        BlockFault::Memory
+    }
+}

@@ -1,0 +1,36 @@
+//! A logical process of Time Warp (Jefferson, Virtual Time, 1985): a block of a circuit that runs ahead on what it
+//! has received, and takes back what it should not have said.
+//!
+//! A [`Block`] holds a [`Part`] of a circuit. [`Block::receive`] takes a [`Message`] or its antimessage, from the
+//! block's past too; [`Block::advance`] runs the block up to a number of event times; both put what other blocks are
+//! to be told at the end of a list. At every moment the block's logs and saved states are those of running what it has
+//! received, in order of time, from the start: that is the invariant of the types [`Block`] and [`Look`]. Times are
+//! whole numbers in units of the stimulus's timescale.
+//!
+//! The definitions stand in `specs/`: `Portion` and `PartOf` for parts, `Entries` for what is received, `View` for what
+//! a block shows, its value and its event times, `Lawful` for the invariant, `Receive`, `Advance` and `Sends` for calls.
+#![tactic(auto)]
+
+mod block;
+mod cell;
+mod entry;
+mod fault;
+mod log;
+mod look;
+mod message;
+mod part;
+mod queue;
+mod state;
+
+pub use block::Block;
+pub use entry::Entry;
+pub use fault::BlockFault;
+pub use look::Look;
+pub use message::{Message, Sign};
+pub use part::Part;
+pub use state::SAVE_EVERY;
+
+#[cfg(test)]
+mod part_tests;
+#[cfg(test)]
+mod tests;

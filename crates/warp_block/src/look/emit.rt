@@ -1,0 +1,152 @@
+ghost use Rattle.std.specs.Prelude.{◌≡◌, IsTrue, [], ◌≤◌, ◌<◌, ◌+◌, ◌++◌, ℕ, OnOk, OnErr, length, vec_len, map, get_or};
+ghost use Rattle.std.specs.List.{flat_map};
+ghost use Rattle.warp_block.specs.declared.message.Sign.TheVariants.{Plus};
+ghost use Rattle.warp_block.specs.Portion.{is_driven};
+ghost use Rattle.warp_block.specs.Moments.{moment_of};
+ghost use Rattle.warp_block.specs.Saving.{saved_of};
+ghost use Rattle.warp_block.specs.Lawful.{IsSaved};
+ghost use Rattle.warp_block.specs.Sends.{Sends};
+ghost use Rattle.warp_block.specs.Advance.{IsQuiet};
+ghost use Rattle.warp_block.specs.Held.{lists_in};
+ghost use Rattle.warp_block.specs.Step.{source_at, net_at, log_at, emitted, sent, told, Extends, IsEmitted, IsPartlyEmitted};
+
+use super::Look;
+use crate::log;
+use crate::message::{Message, Sign};
+use crate::part::Part;
+use crate::state::State;
+use gate_values::{Change, Logic};
+use std::alloc::{AllocError, Global};
+
+impl Look {
+    /// Finishes an event time, whose state is given: logs what the gates put out, and tells the readers.
+    pub(crate) fn finish(
+        &mut self,
+        state: &State,
+        time: u64,
+        out: &mut Vec<Message>,
+    ) -> Result<(), AllocError>
+        requires from { self.old.mark ≤ time }
+        requires until { time ≤ self.old.horizon }
+        requires quiet { IsQuiet self.old time }
+        requires mark { state.now.mark ≡ time + 1 }
+        requires lawful { IsSaved self.old (saved_of state.now) }
+        ensures part { self.new.part ≡ self.old.part }
+        ensures horizon { self.new.horizon ≡ self.old.horizon }
+        ensures floor { self.new.floor ≡ self.old.floor }
+        ensures queues { self.new.queues ≡ self.old.queues }
+        ensures mark { OnOk result (self.new.mark ≡ time + 1) }
+        ensures sends { OnOk result (Sends self.old self.new Plus (λ t. time < t) out.old.items out.new.items) }
+        ensures err { OnErr result (self.new ≡ self.old) }
+        ensures untold { OnErr result (out.new.items ≡ out.old.items) }
+    {
+        let sent = out.len();
+        match emit_all(&self.part, state, &mut self.logs, time, self.horizon, out) {
+            Ok(()) => {
+                self.mark = time + 1;
+                Ok(())
+            }
+            Err(error) => {
+                super::undo::cut_all(&self.part, &mut self.logs, time);
+                out.truncate(sent);
+                Err(error)
+            }
+        }
+    }
+}
+
+/// Logs what each gate and flip-flop puts out one delay after a time, where it changes, and tells the readers.
+fn emit_all(
+    part: &Part,
+    state: &State,
+    logs: &mut Vec<Vec<Change>>,
+    time: u64,
+    horizon: u64,
+    out: &mut Vec<Message>,
+) -> Result<(), AllocError>
+    requires values { vec_len state.now.values ≡ length part.now.nets }
+    requires contents { vec_len state.now.contents ≡ length part.now.nets }
+    requires logs { vec_len logs.old ≡ length part.now.nets }
+    requires time { time ≤ horizon }
+    requires horizon { horizon ≤ 1000000000000 }
+    ensures ok { OnOk result (IsEmitted part.now (moment_of part.now.nets state.now.values.items state.now.contents.items) time horizon
+        (length part.now.nets) (lists_in logs.old.items) (lists_in logs.new.items)) }
+    ensures sends { OnOk result (out.new.items ≡ out.old.items ++ told Plus part.now
+        (λ i. emitted part.now (moment_of part.now.nets state.now.values.items state.now.contents.items) i (log_at (lists_in logs.old.items) i) time horizon)
+        (length part.now.nets)) }
+    ensures err { OnErr result (IsPartlyEmitted part.now (moment_of part.now.nets state.now.values.items state.now.contents.items) time horizon
+        (lists_in logs.old.items) (lists_in logs.new.items)) }
+    ensures extends { Extends out.old.items out.new.items }
+    ensures len { vec_len logs.new ≡ vec_len logs.old }
+{
+    let mut operands = Vec::new(*out.allocator());
+    for slot in 0..part.len() {
+        if !part.is_own(slot) {
+            continue;
+        }
+        let log = &mut logs[slot];
+        emit(part, slot, state, &mut operands, log, time, horizon, out)?;
+    }
+    Ok(())
+}
+
+/// Logs what the gate or flip-flop at a place puts out, where it changes, and tells the readers.
+fn emit(
+    part: &Part,
+    slot: usize,
+    state: &State,
+    operands: &mut Vec<Logic>,
+    log: &mut Vec<Change>,
+    time: u64,
+    horizon: u64,
+    out: &mut Vec<Message>,
+) -> Result<(), AllocError>
+    requires slot { slot < length part.now.nets }
+    requires own { IsTrue (is_driven (source_at part.now slot)) }
+    requires values { vec_len state.now.values ≡ length part.now.nets }
+    requires contents { vec_len state.now.contents ≡ length part.now.nets }
+    requires time { time ≤ horizon }
+    requires horizon { horizon ≤ 1000000000000 }
+    ensures log { OnOk result (log.new.items ≡ log.old.items
+        ++ emitted part.now (moment_of part.now.nets state.now.values.items state.now.contents.items) slot log.old.items time horizon) }
+    ensures sends { OnOk result (out.new.items ≡ out.old.items ++ flat_map (sent Plus (net_at part.now slot) (get_or part.now.readers slot []))
+        (emitted part.now (moment_of part.now.nets state.now.values.items state.now.contents.items) slot log.old.items time horizon)) }
+    ensures err { OnErr result (log.new.items ≡ log.old.items) }
+    ensures extends { Extends out.old.items out.new.items }
+{
+    let time = time + part.delay(slot);
+    if time > horizon {
+        return Ok(());
+    }
+    let value = part.output(slot, state, operands)?;
+    if value == log::last_value(log) {
+        return Ok(());
+    }
+    let change = Change { time, value };
+    send(part.readers(slot), part.net(slot), change, Sign::Plus, out)?;
+    log.push(change)?;
+    Ok(())
+}
+
+/// Tells each reader of a net.
+pub(super) fn send(
+    readers: &[u32],
+    net: u32,
+    change: Change,
+    sign: Sign,
+    out: &mut Vec<Message>,
+) -> Result<(), AllocError>
+    ensures ok { OnOk result (out.new.items ≡ out.old.items ++ sent sign net readers.now change) }
+    ensures extends { Extends out.old.items out.new.items }
+{
+    for reader in readers {
+        out.push(Message {
+            time: change.time,
+            block: *reader,
+            net,
+            value: change.value,
+            sign,
+        })?;
+    }
+    Ok(())
+}

@@ -1,0 +1,310 @@
+ghost use Rattle.std.specs.Prelude.{◌≡◌, ◌<◌, ◌≤◌, false, [], if◌then◌else◌, IfOk, OnOk, length, get_or, map, slice_index, vec_len, ◌↔◌, IsTrue};
+ghost use Rattle.std.specs.List.{All, list_all, range_with_len};
+ghost use Rattle.gate_values.specs.declared.logic.Logic.TheVariants.{X};
+ghost use Rattle.gate_values.specs.Behaviour.{Outside, output as source_output, next_content as source_content, delay_of};
+ghost use Rattle.gate_netlist.specs.Circuit.{CutFits};
+ghost use Rattle.warp_block.specs.Portion.{IsPortion, slot_of, owns, reads, hears, is_used, is_driven};
+ghost use Rattle.warp_block.specs.PartOf.{part_of};
+ghost use Rattle.warp_block.specs.SamePart.{same_at, same_part};
+ghost use Rattle.warp_block.specs.Moments.{moment_of, value_in};
+
+mod build;
+mod readers;
+mod same;
+mod slots;
+
+use crate::cell::{Cell, Span};
+use crate::state::State;
+use gate_netlist::{Circuit, Cut};
+use gate_values::{Logic, flip, table};
+use std::alloc::{AllocError, Global};
+use std::marker::Model;
+
+/// What a block has of a circuit: its own nets with what sets them, the nets that their gates read, and for each
+/// own net the other blocks that read it. It takes memory by these nets, whatever the size of the circuit.
+#[derive(Debug, Drop)]
+pub struct Part {
+    block: u32,
+    nets: Vec<u32>,
+    cells: Vec<Cell>,
+    pins: Vec<u32>,
+    told: Vec<Span>,
+    readers: Vec<u32>,
+    used: Vec<bool>,
+}
+
+impl Model for Part {
+    ghost use Rattle.warp_block.specs.Portion.{Portion};
+
+    ghost Value = { Portion };
+
+    ghost use Rattle.warp_block.specs.HeldPart.{portion_of, IsHeld};
+
+    ghost view = { portion_of };
+
+    ghost invariant = { IsHeld };
+}
+
+impl Part {
+    /// The part of a block of a cut.
+    pub fn of(alloc: Global, circuit: &Circuit, cut: &Cut, block: u32) -> Result<Part, AllocError>
+        requires fits { CutFits circuit.now cut.now }
+        requires block { block < cut.now.blocks }
+        ensures { IfOk result (λ part. part ≡ part_of circuit.now cut.now block) }
+    {
+        circuit.law();
+        cut.law();
+        let users = build::used_by(alloc, circuit, cut, block)?;
+        let nets = build::nets_of(alloc, circuit, cut, block, &users)?;
+        let used = build::marks_of(alloc, &users, &nets)?;
+        let mut pins = Vec::new(alloc);
+        let cells = build::cells_of(alloc, circuit, cut, block, &nets, &mut pins)?;
+        let lists = readers::readers_of(alloc, circuit, cut, block, &nets)?;
+        let mut readers = Vec::new(alloc);
+        let told = readers::flattened(alloc, &lists, &mut readers)?;
+        Ok(Part {
+            block,
+            nets,
+            cells,
+            pins,
+            told,
+            readers,
+            used,
+        })
+    }
+
+    /// What is true of every part.
+    pub fn law(&self)
+        ensures { IsPortion self.now }
+    {
+        let _ = &self.block;
+    }
+
+    /// The number of the block.
+    pub fn block(&self) -> u32
+        ensures { result ≡ self.now.block }
+    {
+        self.block
+    }
+
+    /// Whether the block owns a net.
+    pub fn owns(&self, net: u32) -> bool
+        ensures { result ≡ owns self.now net }
+    {
+        match self.slot(net) {
+            Some(slot) => self.is_own(slot),
+            None => false,
+        }
+    }
+
+    /// Whether a gate of the block reads a net that the block doesn't own.
+    pub fn reads(&self, net: u32) -> bool
+        ensures { result ≡ reads self.now net }
+    {
+        match self.slot(net) {
+            Some(slot) => !self.is_own(slot),
+            None => false,
+        }
+    }
+
+    /// The number of its nets.
+    pub(crate) fn len(&self) -> usize
+        ensures count { result ≡ length self.now.nets }
+        ensures few { result < 4294967296 }
+    {
+        self.nets.len()
+    }
+
+    /// The place of a net.
+    pub(crate) fn slot(&self, net: u32) -> Option<usize>
+        ensures { result ≡ slot_of self.now.nets net }
+    {
+        slots::slot_in(&self.nets, net)
+    }
+
+    /// The net at a place.
+    pub(crate) fn net(&self, slot: usize) -> u32
+        requires { slot < length self.now.nets }
+        ensures { result ≡ slice_index self.now.nets slot }
+    {
+        self.nets[slot]
+    }
+
+    /// Whether a gate or a flip-flop of the block sets the net at a place.
+    pub(crate) fn is_own(&self, slot: usize) -> bool
+        requires { slot < length self.now.nets }
+        ensures { result ≡ is_driven (get_or self.now.sources slot Outside) }
+    {
+        matches!(self.cells[slot], Cell::Gate { .. } | Cell::Flop { .. })
+    }
+
+    /// Whether the net at a place is an input of the circuit.
+    pub(crate) fn is_input(&self, slot: usize) -> bool
+        requires { slot < length self.now.nets }
+        ensures { result ≡ get_or self.now.inputs slot false }
+    {
+        matches!(self.cells[slot], Cell::Input)
+    }
+
+    /// Whether a gate of the block reads the net at a place.
+    pub(crate) fn is_used(&self, slot: usize) -> bool
+        requires { slot < length self.now.nets }
+        ensures { result ≡ is_used self.now (slice_index self.now.nets slot) }
+    {
+        self.used[slot]
+    }
+
+    /// The delay of the net at a place; 0 for a net that the block doesn't own.
+    pub(crate) fn delay(&self, slot: usize) -> u64
+        requires { slot < length self.now.nets }
+        ensures delay { result ≡ delay_of (get_or self.now.sources slot Outside) }
+        ensures within { result ≤ 1000000 }
+    {
+        match self.cells[slot] {
+            Cell::Gate { delay, .. } | Cell::Flop { delay, .. } => u64::from(delay),
+            Cell::Input | Cell::Foreign => 0,
+        }
+    }
+
+    /// The other blocks that read the net at a place.
+    pub(crate) fn readers(&self, slot: usize) -> &[u32]
+        requires { slot < length self.now.nets }
+        ensures { result.now ≡ get_or self.now.readers slot [] }
+    {
+        let span = self.told[slot];
+        &self.readers[span.start..span.start + span.count]
+    }
+
+    /// The place of a net of another block that the block reads, whose changes come by messages.
+    pub(crate) fn hearing(&self, net: u32) -> Option<usize>
+        ensures { result ≡ (if hears self.now net then slot_of self.now.nets net else None) }
+    {
+        match self.slot(net) {
+            Some(slot) if matches!(self.cells[slot], Cell::Foreign) => Some(slot),
+            _ => None,
+        }
+    }
+
+    /// What the gate or flip-flop at a place makes of a moment. The operands are a place to work in.
+    pub(crate) fn output(
+        &self,
+        slot: usize,
+        state: &State,
+        operands: &mut Vec<Logic>,
+    ) -> Result<Logic, AllocError>
+        requires slot { slot < length self.now.nets }
+        requires values { vec_len state.now.values ≡ length self.now.nets }
+        requires contents { vec_len state.now.contents ≡ length self.now.nets }
+        ensures { IfOk result (λ v. v ≡ source_output (get_or self.now.sources slot Outside)
+            (moment_of self.now.nets state.now.values.items state.now.contents.items) (slice_index self.now.nets slot)) }
+    {
+        match self.cells[slot] {
+            Cell::Input | Cell::Foreign => Ok(Logic::X),
+            Cell::Gate { kind, pins, .. } => {
+                let pins = &self.pins[pins.start..pins.start + pins.count];
+                pick(&state.values, pins, operands)?;
+                Ok(table(kind, operands))
+            }
+            Cell::Flop { .. } => Ok(state.contents[slot]),
+        }
+    }
+
+    /// What the flip-flop at a place holds after a moment, whose values are given, from the moment before it.
+    pub(crate) fn next_content(&self, slot: usize, last: &State, values: &[Logic]) -> Logic
+        requires slot { slot < length self.now.nets }
+        requires values { length values.now ≡ length self.now.nets }
+        requires last_values { vec_len last.now.values ≡ length self.now.nets }
+        requires last_contents { vec_len last.now.contents ≡ length self.now.nets }
+        ensures { result ≡ source_content (get_or self.now.sources slot Outside) (value_in self.now.nets values.now)
+            (moment_of self.now.nets last.now.values.items last.now.contents.items) (slice_index self.now.nets slot) }
+    {
+        match self.cells[slot] {
+            Cell::Input | Cell::Foreign | Cell::Gate { .. } => Logic::X,
+            Cell::Flop { d, clock, .. } => flip(
+                last.contents[slot],
+                last.values[clock as usize],
+                values[clock as usize],
+                last.values[d as usize],
+            ),
+        }
+    }
+
+    /// A copy.
+    pub(crate) fn copy(&self) -> Result<Part, AllocError>
+        ensures { IfOk result (λ part. part ≡ self.now) }
+    {
+        let alloc = *self.nets.allocator();
+        Ok(Part {
+            block: self.block,
+            nets: Vec::from_slice(alloc, &self.nets)?,
+            cells: Vec::from_slice(alloc, &self.cells)?,
+            pins: Vec::from_slice(alloc, &self.pins)?,
+            told: Vec::from_slice(alloc, &self.told)?,
+            readers: Vec::from_slice(alloc, &self.readers)?,
+            used: Vec::from_slice(alloc, &self.used)?,
+        })
+    }
+}
+
+impl Part {
+    /// Whether two parts with the same nets say the same of the net at a place.
+    fn is_same_at(&self, other: &Part, slot: usize) -> bool
+        requires slot { slot < length self.now.nets }
+        requires nets { self.now.nets ≡ other.now.nets }
+        ensures { result ≡ same_at self.now other.now slot }
+    {
+        same::same_cell(self.cells[slot], &self.pins, other.cells[slot], &other.pins)
+            && same::same_numbers(self.readers(slot), other.readers(slot))
+    }
+
+    /// Whether two parts have the same number and nets, and say the same of each net.
+    fn is_same(&self, other: &Part) -> bool
+        ensures { result ≡ same_part self.now other.now }
+    {
+        self.block == other.block
+            && same::same_numbers(&self.nets, &other.nets)
+            && self.is_same_everywhere(other)
+    }
+
+    /// Whether two parts with the same nets say the same of each.
+    fn is_same_everywhere(&self, other: &Part) -> bool
+        requires { self.now.nets ≡ other.now.nets }
+        ensures { result ≡ list_all (same_at self.now other.now) (range_with_len 0 (length self.now.nets)) }
+    {
+        for slot in 0..self.len() {
+            if !self.is_same_at(other, slot) {
+                return false;
+            }
+        }
+        true
+    }
+}
+
+impl PartialEq for Part {
+    ghost use Rattle.warp_block.specs.PartLaws.{same_part_laws};
+
+    ghost eq = { same_part };
+
+    ghost laws = { same_part_laws };
+
+    fn eq(&self, other: &Part) -> bool
+        ensures eq { result ≡ same_part self.now other.now }
+        ensures same { IsTrue result ↔ (self.now ≡ other.now) }
+    {
+        self.law();
+        other.law();
+        self.is_same(other)
+    }
+}
+
+/// Puts the values at some places into a list, in place of what was there.
+fn pick(values: &[Logic], places: &[u32], operands: &mut Vec<Logic>) -> Result<(), AllocError>
+    requires { All (λ place. place < length values.now) places.now }
+    ensures { OnOk result (operands.new.items ≡ map (λ place. get_or values.now place X) places.now) }
+{
+    operands.clear();
+    for place in places {
+        operands.push(values[*place as usize])?;
+    }
+    Ok(())
+}

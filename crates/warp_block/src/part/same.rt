@@ -1,0 +1,58 @@
+ghost use Rattle.std.specs.Prelude.{◌≡◌, ◌≤◌, ◌+◌, length};
+ghost use Rattle.std.specs.Str.{bytes_eq};
+ghost use Rattle.warp_block.specs.SamePart.{same_kind, same_cell, Spans};
+
+use crate::cell::Cell;
+use gate_values::Kind;
+
+/// Whether two lists of numbers are equal.
+pub(super) fn same_numbers(first: &[u32], second: &[u32]) -> bool
+    ensures { result ≡ bytes_eq first.now second.now }
+{
+    first == second
+}
+
+fn same_kind(first: Kind, second: Kind) -> bool
+    ensures { result ≡ same_kind first second }
+{
+    first == second
+}
+
+/// Whether two cells, over the pins of their parts, say the same.
+pub(super) fn same_cell(first: Cell, pins: &[u32], second: Cell, others: &[u32]) -> bool
+    requires first { Spans (length pins.now) first }
+    requires second { Spans (length others.now) second }
+    ensures { result ≡ same_cell pins.now first others.now second }
+{
+    match first {
+        Cell::Input => matches!(second, Cell::Input),
+        Cell::Foreign => matches!(second, Cell::Foreign),
+        Cell::Gate {
+            kind,
+            delay,
+            pins: span,
+        } => match second {
+            Cell::Gate {
+                kind: other_kind,
+                delay: other_delay,
+                pins: other,
+            } => {
+                same_kind(kind, other_kind)
+                    && delay == other_delay
+                    && same_numbers(
+                        &pins[span.start..span.start + span.count],
+                        &others[other.start..other.start + other.count],
+                    )
+            }
+            _ => false,
+        },
+        Cell::Flop { delay, d, clock } => match second {
+            Cell::Flop {
+                delay: other_delay,
+                d: other_d,
+                clock: other_clock,
+            } => delay == other_delay && d == other_d && clock == other_clock,
+            _ => false,
+        },
+    }
+}

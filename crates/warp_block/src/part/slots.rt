@@ -1,0 +1,28 @@
+ghost use Rattle.std.specs.Prelude.{◌≡◌, ◌<◌, IsTrue, is_some, length};
+ghost use Rattle.std.specs.List.Sorted.{IsStrictlyIncreasing};
+ghost use Rattle.warp_block.specs.Portion.{slot_of};
+ghost use Rattle.warp_block.specs.Building.{place_of};
+
+/// The place of a net among others, which ascend.
+pub(super) fn slot_in(nets: &[u32], net: u32) -> Option<usize>
+    requires { IsStrictlyIncreasing nets.now }
+    ensures { result ≡ slot_of nets.now net }
+{
+    match nets.binary_search(&net) {
+        Ok(slot) => Some(slot),
+        Err(_) => None,
+    }
+}
+
+/// The place of a net that is among others.
+pub(super) fn place_in(nets: &[u32], net: u32) -> u32
+    requires up { IsStrictlyIncreasing nets.now }
+    requires few { length nets.now < 4294967296 }
+    requires there { IsTrue (is_some (slot_of nets.now net)) }
+    ensures { result ≡ place_of nets.now net }
+{
+    match slot_in(nets, net) {
+        Some(slot) => slot as u32,
+        None => unreachable!(),
+    }
+}
