@@ -1,13 +1,13 @@
 -- The next state of a block, net by net.
-use Rattle.std.proofs.Common.{◌≡◌, ℕ, suc, ◌+◌, ◌<◌, ◌≤◌, ◌++◌, true, Option, Some, None, List, [], ◌∷◌, map, take, length, get_or, refl, ap, sym, ◌∙◌, subst, arith, is_some}
+use Rattle.std.proofs.Common.{◌≡◌, ℕ, suc, ◌+◌, ◌<◌, ◌≤◌, ◌++◌, true, List, [], ◌∷◌, map, take, length, get_or, ap, sym, ◌∙◌, subst, arith, is_some}
 use Rattle.std.proofs.lemmas.Bool.{true≢false}
-use Rattle.std.proofs.lemmas.List.{take_more, map-append, take_all, get_or-map}
+use Rattle.std.proofs.lemmas.List.{take_more, map-append, take_all}
 use Rattle.gate_values.specs.declared.logic.Logic.{Logic}
 use Rattle.gate_values.specs.declared.logic.Logic.TheVariants.{X}
-use Rattle.gate_values.specs.Behaviour.{Source, Outside, Flop, Moment, before, value, history, next_content, IsOver}
-use Rattle.warp_block.specs.Portion.{Portion, slot_of, of_net, source_of}
+use Rattle.gate_values.specs.Behaviour.{Source, Outside, Flop, value, history, next_content, IsOver}
+use Rattle.warp_block.specs.Portion.{slot_of, of_net, source_of}
 use Rattle.warp_block.specs.Moments.{value_in, moment_of}
-use Rattle.warp_block.specs.View.{View, Saved, effective_at, moment_before, is_busy}
+use Rattle.warp_block.specs.View.{View, Saved, effective_at, moment_before}
 use Rattle.warp_block.specs.Lawful.{IsLawful, IsSaved}
 use Rattle.warp_block.proofs.Slots.{slot_at, of_net-map}
 use Rattle.warp_block.proofs.Running.{IsDriven, given}

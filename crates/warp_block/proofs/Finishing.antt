@@ -1,11 +1,11 @@
 -- Finishing an event time keeps what every block keeps.
 use Rattle.std.proofs.Common.{◌≡◌, ℕ, suc, ◌+◌, ◌<◌, ◌≤◌, ◌++◌, ◌⊎◌, Bool, true, false, cond, leb, List, [], ◌∷◌, map, length, get_or, inl, inr, refl, ap, sym, ◌∙◌, subst, arith, All, is_some}
-use Rattle.std.proofs.lemmas.Bool.{cond-true, cond-false, leb-true, cases_Bool}
+use Rattle.std.proofs.lemmas.Bool.{cond-true, cond-false, leb-true}
 use Rattle.std.proofs.lemmas.List.{get_or-map, length-map, ext_get_or, get_or_default}
 use Rattle.gate_values.specs.declared.logic.Logic.{Logic}
 use Rattle.gate_values.specs.declared.logic.Logic.TheVariants.{X}
 use Rattle.gate_values.specs.declared.logic.Change.{Change}
-use Rattle.gate_values.specs.Behaviour.{Source, Outside, Moment, value, output, delay_of, IsOver}
+use Rattle.gate_values.specs.Behaviour.{Source, Moment, output, delay_of}
 use Rattle.gate_values.specs.Changes.{last_value, same, before_time}
 use Rattle.warp_block.specs.declared.message.Message.{Message}
 use Rattle.warp_block.specs.declared.message.Sign.TheVariants.{Plus}
@@ -19,7 +19,7 @@ use Rattle.warp_block.specs.Advance.{IsQuiet}
 use Rattle.warp_block.specs.Step.{log_at, source_at, net_at, emitted, emitted_value, told, IsEmitted, IsPartlyEmitted, AreCut}
 use Rattle.warp_block.proofs.Slots.{slot_at}
 use Rattle.warp_block.proofs.LogOrder.{IsLog-run}
-use Rattle.warp_block.proofs.Running.{IsDriven, given, run_log, run_log-step, run_log-cut, added, append-none, delayed, driven_or_not}
+use Rattle.warp_block.proofs.Running.{IsDriven, run_log, run_log-step, run_log-cut, added, append-none, delayed, driven_or_not}
 use Rattle.warp_block.proofs.Views.{IsUsed, timed, over_used}
 use Rattle.warp_block.proofs.Quiet.{quiet_log_to}
 use Rattle.warp_block.proofs.Stepping.{output_next, emitted_change, run_log-changes}

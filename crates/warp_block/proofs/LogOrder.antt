@@ -1,5 +1,5 @@
 -- The log of a function rises.
-use Rattle.std.proofs.Common.{◌≡◌, ℕ, zero, suc, ◌+◌, ◌-◌, ◌<◌, ◌≤◌, ◌⊎◌, Bool, true, false, cond, min, List, [], ◌∷◌, ◌++◌, length, get_or, Option, inl, inr, refl, ap, sym, ◌∙◌, subst, arith, length-append}
+use Rattle.std.proofs.Common.{◌≡◌, ℕ, zero, suc, ◌+◌, ◌-◌, ◌<◌, Bool, true, false, cond, min, List, [], ◌∷◌, ◌++◌, length, get_or, Option, inl, inr, refl, sym, subst, arith, length-append}
 use Rattle.std.specs.List.{AllPairs}
 use Rattle.std.proofs.lemmas.Bool.{cases_lt}
 use Rattle.std.proofs.lemmas.List.{get_or_append_left, get_or-append_right}
@@ -7,7 +7,7 @@ use Rattle.std.proofs.lemmas.List.Quantifiers.{all_pairs_push}
 use Rattle.gate_values.specs.declared.logic.Logic.{Logic}
 use Rattle.gate_values.specs.declared.logic.Change.{Change}
 use Rattle.gate_values.specs.Behaviour.{Source, value, delay_of}
-use Rattle.gate_values.specs.Changes.{changes, change_at, before_time, just_before, same}
+use Rattle.gate_values.specs.Changes.{changes, before_time, just_before, same}
 use Rattle.gate_values.proofs.ChangeLists.{before_time-changes}
 use Rattle.warp_block.specs.Portion.{is_driven}
 use Rattle.warp_block.specs.Logs.{IsLog}

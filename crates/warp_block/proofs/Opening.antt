@@ -1,24 +1,22 @@
 -- A new block is lawful.
-use Rattle.std.proofs.Common.{◌≡◌, ℕ, ◌+◌, ◌<◌, ◌≤◌, Bool, true, false, cond, min, List, [], ◌∷◌, map, length, get_or, refl, ap, sym, ◌∙◌, subst, arith, All}
-use Rattle.std.proofs.lemmas.Bool.{cond-false, true≢false, cases_Bool}
-use Rattle.std.proofs.lemmas.List.{get_or-map, length-map, ext_get_or}
+use Rattle.std.proofs.Common.{◌≡◌, ℕ, ◌+◌, ◌<◌, ◌≤◌, Bool, true, false, cond, min, List, [], ◌∷◌, map, length, get_or, refl, ap, sym, ◌∙◌, arith, All}
+use Rattle.std.proofs.lemmas.Bool.{cond-false, true≢false}
+use Rattle.std.proofs.lemmas.List.{get_or-map, length-map}
 use Rattle.gate_values.specs.declared.logic.Logic.{Logic}
 use Rattle.gate_values.specs.declared.logic.Logic.TheVariants.{X}
-use Rattle.gate_values.specs.declared.logic.Change.{Change}
 use Rattle.gate_values.specs.Behaviour.{Source, Outside, value, delay_of, IsWellFormed}
 use Rattle.gate_values.specs.Changes.{changes, before_time}
 use Rattle.gate_values.proofs.ChangeLists.{before_time-changes, changes-agree}
 use Rattle.gate_values.proofs.Unknown.{unknown_before}
 use Rattle.gate_vcd.specs.Given.{Given}
 use Rattle.gate_vcd.proofs.Keeping.{changes-none}
-use Rattle.warp_block.specs.declared.queue.Timed.{Timed}
 use Rattle.warp_block.specs.Entries.{IsQueue}
 use Rattle.warp_block.specs.Portion.{Portion, IsPortion, is_driven, is_input, owns, source_of}
 use Rattle.warp_block.specs.View.{View, effective_at}
 use Rattle.warp_block.specs.Lawful.{IsLawful, lawful_log}
 use Rattle.warp_block.specs.Opening.{opening_view, opening_queue}
 use Rattle.warp_block.proofs.Slots.{of_net-at}
-use Rattle.warp_block.proofs.Running.{IsDriven, given}
+use Rattle.warp_block.proofs.Running.{given}
 use Rattle.warp_block.proofs.Views.{well_formed}
 
 -- before one delay has passed nothing changes

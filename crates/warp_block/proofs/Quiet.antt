@@ -1,17 +1,17 @@
 -- Times at which nothing happens to a net that is read change nothing.
-use Rattle.std.proofs.Common.{◌≡◌, ◌≢◌, ℕ, zero, suc, ◌+◌, ◌-◌, ◌<◌, ◌≤◌, ◌⊎◌, Bool, true, false, cond, Option, Some, None, List, [], ◌∷◌, map, length, get_or, inl, inr, refl, ap, sym, ◌∙◌, subst, arith, is_some}
+use Rattle.std.proofs.Common.{◌≡◌, ℕ, zero, suc, ◌+◌, ◌-◌, ◌<◌, ◌≤◌, true, cond, Option, None, List, inl, inr, refl, ap, sym, ◌∙◌, subst, arith}
 use Rattle.gate_values.specs.declared.logic.Logic.{Logic}
 use Rattle.gate_values.specs.declared.logic.Logic.TheVariants.{Zero, One, X, Z}
 use Rattle.gate_values.specs.declared.logic.Change.{Change}
 use Rattle.gate_values.specs.Tables.{flip_of}
-use Rattle.gate_values.specs.Behaviour.{Source, Outside, Gate, Flop, Moment, before, value, content, delay_of, IsOver, history, next_content}
+use Rattle.gate_values.specs.Behaviour.{Source, Flop, before, value, content, history}
 use Rattle.gate_values.specs.Changes.{pair_at}
 use Rattle.gate_values.proofs.Behaving.{content_is}
-use Rattle.warp_block.specs.Portion.{Portion, is_driven, source_of}
-use Rattle.warp_block.specs.View.{View, effective_at, news_of, is_busy}
+use Rattle.warp_block.specs.Portion.{is_driven, source_of}
+use Rattle.warp_block.specs.View.{View, effective_at, is_busy}
 use Rattle.warp_block.specs.Lawful.{IsLawful}
 use Rattle.warp_block.specs.Advance.{IsQuiet}
-use Rattle.warp_block.proofs.Running.{IsDriven, given, run_log, run_news, run_log-quiet, steady, le_cases}
+use Rattle.warp_block.proofs.Running.{given, run_log, run_news, run_log-quiet, steady, le_cases}
 use Rattle.warp_block.proofs.Views.{IsUsed, timed, over_used, news_of-run, quiet_news}
 
 flip_quiet : (content v d : Logic) → flip_of content v v d ≡ content

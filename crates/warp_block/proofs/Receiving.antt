@@ -1,9 +1,9 @@
 -- What taking a message makes of a block.
-use Rattle.std.proofs.Common.{◌≡◌, ◌≢◌, ℕ, zero, suc, ℤ, pos, ◌+ℤ◌, ◌+◌, ◌<◌, ◌≤◌, ◌⊎◌, ◌&&◌, ◌==◌, Bool, true, false, cond, Option, Some, None, Result, Ok, Err, List, [], ◌∷◌, map, min, take, length, get_or, inl, inr, refl, ap, sym, ◌∙◌, subst, arith, All}
+use Rattle.std.proofs.Common.{◌≡◌, ◌≢◌, ℕ, zero, suc, ℤ, pos, ◌+ℤ◌, ◌<◌, ◌≤◌, ◌⊎◌, ◌==◌, Bool, true, false, cond, Option, Some, None, Result, Ok, Err, List, [], ◌∷◌, map, take, length, get_or, inl, inr, refl, ap, sym, ◌∙◌, subst, arith, All}
 use Rattle.std.specs.Result.{IfErr, IsErrAnd}
 use Rattle.std.specs.List.Sorted.{IsPartitionPoint, IsNonDecreasingBy}
-use Rattle.std.proofs.lemmas.Bool.{cond-true, cond-false, cases_Bool, cases_eq, cases_lt, true≢false, ne_eqb, eq-eqb, and_left, and_right}
-use Rattle.std.proofs.lemmas.List.{length-take, get_or-take, length-map, get_or-map, take-map}
+use Rattle.std.proofs.lemmas.Bool.{cases_Bool, cases_eq, cases_lt, true≢false, ne_eqb, eq-eqb, and_left, and_right}
+use Rattle.std.proofs.lemmas.List.{length-take, get_or-take, length-map, get_or-map}
 use Rattle.std.proofs.lemmas.List.Elements.{All-take}
 use Rattle.std.proofs.lemmas.Int.{ints}
 use Rattle.gate_values.specs.declared.logic.Logic.{Logic}
@@ -15,14 +15,13 @@ use Rattle.warp_block.specs.declared.message.Message.{Message}
 use Rattle.warp_block.specs.declared.state.State.{State}
 use Rattle.warp_block.specs.Entries.{number_of, with_number, bump_of, weight_of, is_within, effective_of}
 use Rattle.warp_block.specs.View.{View, Saved, entry_of, effective_at, is_busy}
-use Rattle.warp_block.specs.Lawful.{IsLawful, IsSaved, AreSpaced, AreSaved, IsLawfulProcess}
-use Rattle.warp_block.specs.Receive.{IsTaken, IsPut, IsAdmitted, IsStraggler, IsRefusal, does_tell}
+use Rattle.warp_block.specs.Lawful.{IsLawful, IsSaved, AreSpaced, AreSaved}
+use Rattle.warp_block.specs.Receive.{IsTaken, IsPut, IsAdmitted, IsRefusal, does_tell}
 use Rattle.warp_block.specs.declared.fault.BlockFault.{BlockFault}
 use Rattle.warp_block.specs.declared.fault.BlockFault.TheVariants.{Memory}
 use Rattle.warp_block.specs.Saving.{saved_of}
-use Rattle.warp_block.proofs.Slots.{slot_is}
 use Rattle.warp_block.proofs.SavingBusy.{busy_agree}
-use Rattle.warp_block.proofs.SavingStates.{all_kept, spaced_kept, spaced_cut, spaced_until, spaced_marks}
+use Rattle.warp_block.proofs.SavingStates.{all_kept, spaced_kept, spaced_cut}
 use Rattle.warp_block.proofs.SavingStep.{saved_marks}
 
 -- the number of a value, after a change of another one or of the same

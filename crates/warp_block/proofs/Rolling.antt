@@ -1,12 +1,12 @@
 -- Taking in an entry keeps what every block keeps.
-use Rattle.std.proofs.Common.{◌≡◌, ◌≢◌, ℕ, suc, ◌+◌, ◌-◌, ◌<◌, ◌≤◌, ◌++◌, ◌⊎◌, ◌&&◌, ◌==◌, Bool, true, false, cond, not, min, leb, nat_le, nat_lt, Option, Some, None, List, [], ◌∷◌, map, length, get_or, set, inl, inr, refl, ap, sym, ◌∙◌, subst, arith, All, is_some}
-use Rattle.std.specs.List.{filter, AllByRecursion}
-use Rattle.std.proofs.lemmas.Bool.{cond-true, cond-false, leb-true, le-leb, lt-leb, le-ltb, lt-ltb, cases_lt, ne_eqb, eq-eqb, cases_eq, and_left, and_right, and_from, true≢false, and_parts}
-use Rattle.std.proofs.lemmas.List.{get_or-map, length-map, length-set, ext_get_or, get_or_default, get_or-set_same, get_or-set_other}
+use Rattle.std.proofs.Common.{◌≡◌, ◌≢◌, ℕ, suc, ◌+◌, ◌<◌, ◌≤◌, ◌++◌, ◌⊎◌, ◌&&◌, ◌==◌, Bool, true, false, cond, not, min, Option, Some, None, List, [], ◌∷◌, map, length, get_or, set, inl, inr, refl, ap, sym, ◌∙◌, subst, arith, All, is_some}
+use Rattle.std.specs.List.{AllByRecursion}
+use Rattle.std.proofs.lemmas.Bool.{cond-false, le-leb, lt-leb, le-ltb, lt-ltb, cases_lt, ne_eqb, eq-eqb, cases_eq, and_left, and_right, and_from, true≢false, and_parts}
+use Rattle.std.proofs.lemmas.List.{get_or-map, length-map, length-set, ext_get_or, get_or-set_same, get_or-set_other}
 use Rattle.std.proofs.lemmas.List.Elements.{All-from_recursion, recursion_from_All}
 use Rattle.gate_values.specs.declared.logic.Logic.{Logic}
 use Rattle.gate_values.specs.declared.logic.Change.{Change}
-use Rattle.gate_values.specs.Behaviour.{Source, Outside, value, delay_of}
+use Rattle.gate_values.specs.Behaviour.{Source, value, delay_of}
 use Rattle.gate_values.specs.Changes.{before_time, changes}
 use Rattle.gate_values.proofs.ChangeLists.{before_time-changes}
 use Rattle.warp_block.specs.declared.entry.Entry.{Entry}
@@ -16,13 +16,13 @@ use Rattle.warp_block.specs.declared.message.Sign.TheVariants.{Minus}
 use Rattle.warp_block.specs.Entries.{IsQueue, entry_in, effective_of}
 use Rattle.warp_block.specs.Logs.{IsLog}
 use Rattle.warp_block.specs.Portion.{is_driven, source_of, owns, hears, reads, is_input, slot_of, at_slot, of_net}
-use Rattle.warp_block.specs.View.{View, entry_of, effective_at, queue_of}
+use Rattle.warp_block.specs.View.{View, entry_of, effective_at}
 use Rattle.warp_block.specs.Lawful.{IsLawful, lawful_log}
 use Rattle.warp_block.specs.Sends.{Sends}
 use Rattle.warp_block.specs.Receive.{IsPut}
-use Rattle.warp_block.specs.Step.{log_at, source_at, since_time, told, AreCut}
-use Rattle.warp_block.proofs.Slots.{slot_is, slot_at, of_net-at}
-use Rattle.warp_block.proofs.LogOrder.{IsLog-run, changes-before}
+use Rattle.warp_block.specs.Step.{log_at, source_at, since_time, told}
+use Rattle.warp_block.proofs.Slots.{slot_is, of_net-at}
+use Rattle.warp_block.proofs.LogOrder.{changes-before}
 use Rattle.warp_block.proofs.Running.{IsDriven, given, run_log, run_log-cut, delayed, driven_or_not}
 use Rattle.warp_block.proofs.Views.{timed}
 use Rattle.warp_block.proofs.Rows.{source_here, log_is, logs_len, log_rises}

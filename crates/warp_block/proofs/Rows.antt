@@ -1,5 +1,5 @@
 -- What a block holds at a place.
-use Rattle.std.proofs.Common.{◌≡◌, ℕ, suc, ◌+◌, ◌<◌, ◌≤◌, ◌⊎◌, Bool, true, false, cond, min, Option, Some, None, List, [], map, length, get_or, set, inl, inr, refl, ap, sym, ◌∙◌, subst, arith, is_some, IsSome, Vec, All}
+use Rattle.std.proofs.Common.{◌≡◌, ℕ, ◌+◌, ◌<◌, ◌≤◌, true, false, min, Option, Some, None, List, [], length, get_or, set, refl, ap, sym, ◌∙◌, subst, arith, IsSome, Vec, All}
 use Rattle.std.specs.declared.alloc.Global.{Global}
 use Rattle.std.proofs.lemmas.Bool.{cond-true, cond-false}
 use Rattle.std.proofs.lemmas.List.{get_or-map, get_or_default, length-map}
@@ -14,11 +14,10 @@ use Rattle.gate_values.proofs.ChangeLists.{before_time-changes}
 use Rattle.gate_vcd.proofs.WaveValues.{latest-changes}
 use Rattle.warp_block.specs.declared.look.Look.TheInside.{Inside}
 use Rattle.warp_block.specs.declared.queue.Timed.{Timed}
-use Rattle.warp_block.specs.declared.entry.Entry.{Entry}
-use Rattle.warp_block.specs.Entries.{IsQueue, entry_in, effective_in, effective_of}
+use Rattle.warp_block.specs.Entries.{IsQueue, entry_in, effective_in}
 use Rattle.warp_block.specs.Logs.{IsLog}
-use Rattle.warp_block.specs.Portion.{Portion, IsPortion, is_driven, source_of, owns, of_net}
-use Rattle.warp_block.specs.View.{View, queue_of, entry_of, effective_at, given_by, log_of, news_of, block_value, IsLeast}
+use Rattle.warp_block.specs.Portion.{is_driven, source_of, owns}
+use Rattle.warp_block.specs.View.{View, queue_of, entry_of, effective_at, log_of, news_of, block_value, IsLeast}
 use Rattle.warp_block.specs.Lawful.{IsLawful, lawful_log}
 use Rattle.warp_block.specs.Held.{lists_in, view_of}
 use Rattle.warp_block.specs.Advance.{IsQuiet}

@@ -1,16 +1,16 @@
 -- How the lawful logs of a block change, for any sources and effective values.
-use Rattle.std.proofs.Common.{◌≡◌, ◌≢◌, ℕ, zero, suc, Bool, true, false, cond, ◌+◌, ◌-◌, ◌<◌, ◌≤◌, ◌⊎◌, inl, inr, min, Option, Some, None, unwrap_or, List, [], ◌∷◌, ◌++◌, refl, ap, sym, ◌∙◌, subst, arith, leb, pred}
+use Rattle.std.proofs.Common.{◌≡◌, ℕ, zero, suc, Bool, true, false, cond, ◌+◌, ◌<◌, ◌≤◌, ◌⊎◌, inl, inr, min, Option, Some, None, List, [], ◌∷◌, ◌++◌, refl, ap, sym, ◌∙◌, arith, leb, pred}
 use Rattle.std.specs.List.{AllByRecursion}
 use Rattle.std.proofs.lemmas.Bool.{cond-true}
 use Rattle.std.proofs.lemmas.Grind.{common_steps}
 use Rattle.gate_values.specs.declared.logic.Logic.{Logic}
 use Rattle.gate_values.specs.declared.logic.Logic.TheVariants.{X}
 use Rattle.gate_values.specs.declared.logic.Change.{Change}
-use Rattle.gate_values.specs.Behaviour.{Source, Outside, Gate, Flop, before, value, content, delay_of, IsOver, history}
+use Rattle.gate_values.specs.Behaviour.{Source, Outside, Gate, Flop, before, value, delay_of, IsOver, history}
 use Rattle.gate_values.specs.Changes.{changes, change_at, held, pair_at, before_time, just_before, same}
-use Rattle.gate_values.proofs.Behaving.{Joined, Agree, same_values, same_before, quiet_value, outside_is, content_is, value_is}
-use Rattle.gate_values.proofs.ChangeLists.{changes-quiet, changes-agree, before_time-changes, pair_at-changes, pair_at-late, held-none, held-agree, change_option, same_is, same_refl}
-use Rattle.warp_block.specs.Portion.{is_driven, uses}
+use Rattle.gate_values.proofs.Behaving.{Joined, same_values, same_before, quiet_value, outside_is}
+use Rattle.gate_values.proofs.ChangeLists.{changes-agree, before_time-changes, pair_at-changes, pair_at-late, held-none, held-agree, change_option, same_is, same_refl}
+use Rattle.warp_block.specs.Portion.{is_driven}
 
 -- every delay is at least 1
 abbrev pub IsTimed : Source → Type 0

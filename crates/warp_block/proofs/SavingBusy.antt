@@ -1,18 +1,17 @@
 -- What happens to a net at a time that is processed, and which of these times are busy, whatever the mark is.
-use Rattle.std.proofs.Common.{◌≡◌, ℕ, zero, suc, Bool, true, false, cond, ◌&&◌, leb, ◌+◌, ◌<◌, ◌≤◌, ◌⊎◌, inl, inr, min, Option, Some, None, is_some, List, [], ◌∷◌, refl, ap, sym, ◌∙◌, subst, arith}
+use Rattle.std.proofs.Common.{◌≡◌, ℕ, zero, suc, Bool, cond, ◌&&◌, leb, ◌≤◌, inl, inr, Option, None, is_some, List, [], ◌∷◌, refl, ap, sym, ◌∙◌, arith}
 use Rattle.std.specs.List.{list_any}
 use Rattle.std.proofs.lemmas.Bool.{cond-true, cond-false, le-leb, lt-leb}
 use Rattle.gate_values.specs.declared.logic.Logic.{Logic}
-use Rattle.gate_values.specs.declared.logic.Logic.TheVariants.{X}
 use Rattle.gate_values.specs.declared.logic.Change.{Change}
-use Rattle.gate_values.specs.Behaviour.{Source, Outside, value, delay_of}
-use Rattle.gate_values.specs.Changes.{pair_at, just_before, same}
+use Rattle.gate_values.specs.Behaviour.{Source, value}
+use Rattle.gate_values.specs.Changes.{pair_at, just_before}
 use Rattle.gate_values.proofs.ChangeLists.{change_option}
 use Rattle.warp_block.specs.Portion.{Portion, is_driven, source_of, is_used}
 use Rattle.warp_block.specs.View.{View, effective_at, news_of, is_busy}
 use Rattle.warp_block.specs.Lawful.{IsLawful}
 use Rattle.warp_block.specs.Advance.{IsQuiet}
-use Rattle.warp_block.proofs.Running.{IsTimed, IsDriven, given, run_log, run_log-pair, run_log-past, run_news, values_agree, driven_or_not, delayed, le_cases}
+use Rattle.warp_block.proofs.Running.{IsTimed, given, run_log, run_log-pair, run_log-past, run_news, values_agree, driven_or_not, delayed, le_cases}
 use Rattle.warp_block.proofs.Views.{timed, news_of-run}
 use Rattle.warp_block.proofs.Quiet.{quiet_log_to}
 

@@ -1,14 +1,13 @@
 -- Saved states stay lawful, and spaced, when a block goes on and when it goes back.
-use Rattle.std.proofs.Common.{◌≡◌, ℕ, zero, suc, Bool, true, false, ◌+◌, ◌-◌, ◌<◌, ◌≤◌, ◌⊎◌, ◌++◌, inl, inr, Option, List, [], ◌∷◌, map, take, length, get_or, refl, ap, sym, ◌∙◌, subst, arith}
+use Rattle.std.proofs.Common.{◌≡◌, ℕ, zero, suc, true, ◌+◌, ◌-◌, ◌<◌, ◌≤◌, ◌++◌, List, [], ◌∷◌, map, take, length, get_or, refl, ap, sym, ◌∙◌, subst, arith}
 use Rattle.std.specs.List.{All}
 use Rattle.std.specs.List.Sorted.{IsPartitionPoint}
 use Rattle.std.proofs.lemmas.List.Elements.{All-nil, All-cons}
-use Rattle.gate_values.specs.declared.logic.Logic.{Logic}
-use Rattle.gate_values.specs.Behaviour.{Moment, before}
+use Rattle.gate_values.specs.Behaviour.{before}
 use Rattle.warp_block.specs.declared.state.TheConstants.{SAVE_EVERY}
 use Rattle.warp_block.specs.Portion.{Portion, source_of}
 use Rattle.warp_block.specs.View.{View, Saved, effective_at, moment_before, is_busy, busy_times}
-use Rattle.warp_block.specs.Lawful.{IsLawful, IsSaved, AreSpaced, AreSaved}
+use Rattle.warp_block.specs.Lawful.{IsLawful, IsSaved, AreSpaced}
 use Rattle.warp_block.proofs.Running.{given, moments_agree}
 use Rattle.warp_block.proofs.Views.{timed}
 use Rattle.warp_block.proofs.SavingTimes.{times-split, times-agree, times-one}

@@ -1,8 +1,8 @@
 -- What finishing one event time does to a block.
-use Rattle.std.proofs.Common.{◌≡◌, ℕ, zero, suc, true, ◌+◌, ◌-◌, ◌<◌, ◌≤◌, ◌⊎◌, ◌++◌, inl, inr, Option, Some, List, [], ◌∷◌, map, length, get_or, refl, ap, sym, ◌∙◌, subst, arith}
+use Rattle.std.proofs.Common.{◌≡◌, ℕ, true, ◌+◌, ◌-◌, ◌<◌, ◌≤◌, ◌++◌, inl, inr, Some, List, [], ◌∷◌, map, length, get_or, ap, sym, ◌∙◌, subst, arith}
 use Rattle.std.specs.List.{All}
 use Rattle.std.proofs.lemmas.Bool.{cases_lt}
-use Rattle.std.proofs.lemmas.List.{get_or-map, length-map, map-append}
+use Rattle.std.proofs.lemmas.List.{get_or-map, length-map}
 use Rattle.std.proofs.lemmas.List.Elements.{All-nil, All-cons, All-push}
 use Rattle.warp_block.specs.declared.state.State.{State}
 use Rattle.warp_block.specs.declared.state.TheConstants.{SAVE_EVERY}
@@ -10,7 +10,7 @@ use Rattle.warp_block.specs.declared.queue.Timed.{Timed}
 use Rattle.warp_block.specs.Entries.{entry_in, effective_of}
 use Rattle.warp_block.specs.Portion.{Portion, of_net}
 use Rattle.warp_block.specs.View.{View, Saved, effective_at, is_busy, busy_times, IsLeast, IsEventTime}
-use Rattle.warp_block.specs.Lawful.{IsLawful, IsSaved, AreSpaced, AreSaved, IsLawfulProcess}
+use Rattle.warp_block.specs.Lawful.{IsLawful, IsSaved, AreSaved, IsLawfulProcess}
 use Rattle.warp_block.specs.Advance.{IsAdvanced, IsQuiet}
 use Rattle.warp_block.specs.Saving.{saved_of}
 use Rattle.warp_block.proofs.SavingTimes.{times-split, times-none, times-one, none_counted}

@@ -1,11 +1,11 @@
 -- A new block's one saved state is that before time 0.
-use Rattle.std.proofs.Common.{◌≡◌, ℕ, ◌<◌, List, [], ◌∷◌, map, length, replicate, refl, ap, sym, ◌∙◌, arith}
+use Rattle.std.proofs.Common.{◌≡◌, ℕ, ◌<◌, List, [], ◌∷◌, map, length, replicate, refl, ap, ◌∙◌, arith}
 use Rattle.std.proofs.lemmas.List.Elements.{All-nil, All-cons}
 use Rattle.gate_values.specs.declared.logic.Logic.{Logic}
 use Rattle.gate_values.specs.declared.logic.Logic.TheVariants.{X}
 use Rattle.gate_values.specs.Behaviour.{history}
 use Rattle.warp_block.specs.declared.state.State.{State}
-use Rattle.warp_block.specs.View.{View, Saved, busy_times}
+use Rattle.warp_block.specs.View.{View, busy_times}
 use Rattle.warp_block.specs.Lawful.{IsLawful, IsSaved, IsLawfulProcess}
 use Rattle.warp_block.specs.Saving.{saved_of}
 

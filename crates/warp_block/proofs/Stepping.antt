@@ -1,16 +1,15 @@
 -- One event time of a block: what the next state is, and what is emitted.
-use Rattle.std.proofs.Common.{◌≡◌, ◌≢◌, ℕ, zero, suc, ◌+◌, ◌-◌, ◌<◌, ◌≤◌, ◌⊎◌, Bool, true, false, cond, min, leb, Option, Some, None, List, [], ◌∷◌, ◌++◌, map, length, get_or, inl, inr, refl, ap, sym, ◌∙◌, subst, arith, is_some}
+use Rattle.std.proofs.Common.{◌≡◌, ℕ, suc, ◌+◌, ◌-◌, ◌≤◌, min, Option, List, inl, inr, refl, ap, sym, ◌∙◌, arith}
 use Rattle.std.proofs.lemmas.Bool.{le-leb, lt-leb}
 use Rattle.gate_values.specs.declared.logic.Logic.{Logic}
-use Rattle.gate_values.specs.declared.logic.Logic.TheVariants.{X}
 use Rattle.gate_values.specs.declared.logic.Change.{Change}
-use Rattle.gate_values.specs.Tables.{table_of, flip_of}
-use Rattle.gate_values.specs.Behaviour.{Source, Outside, Gate, Flop, Moment, before, value, content, delay_of, IsOver, history, next_content, output}
-use Rattle.gate_values.specs.Changes.{changes, change_at, just_before, last_value, same, before_time}
+use Rattle.gate_values.specs.Tables.{table_of}
+use Rattle.gate_values.specs.Behaviour.{Source, Outside, Gate, Flop, Moment, before, value, delay_of, IsOver, history, next_content, output}
+use Rattle.gate_values.specs.Changes.{changes}
 use Rattle.gate_values.proofs.Behaving.{content_is, value_is, map_agree}
 use Rattle.gate_values.proofs.ChangeLists.{last_value-changes, before_time-changes}
 use Rattle.warp_block.specs.Step.{emitted_value}
-use Rattle.warp_block.proofs.Running.{IsTimed, IsDriven, given, run_log, added, le_cases, delayed}
+use Rattle.warp_block.proofs.Running.{IsTimed, IsDriven, given, run_log, added, le_cases}
 
 module _ (source : ℕ → Source) (timed : (n : ℕ) → IsTimed (source n)) (at : ℕ → ℕ → Option Logic) (N : ℕ → Type 0) (s : ℕ) where
   -- the content after a time, from a moment that is as just before it, and values that are as at it

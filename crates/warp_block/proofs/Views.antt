@@ -1,23 +1,18 @@
 -- What follows from the law of a block.
-use Rattle.std.proofs.Common.{◌≡◌, ◌≢◌, ℕ, zero, suc, ◌+◌, ◌-◌, ◌<◌, ◌≤◌, ◌⊎◌, ◌&&◌, ◌==◌, Bool, true, false, cond, Option, Some, None, List, [], ◌∷◌, map, length, get_or, inl, inr, refl, ap, sym, ◌∙◌, subst, arith, is_some}
-use Rattle.std.specs.List.{list_any, AllByRecursion, All}
-use Rattle.std.proofs.lemmas.Bool.{cond-true, cond-false, false_from_ne_true, and_from, or_left, or_right, eq-eqb, true≢false}
-use Rattle.std.proofs.lemmas.List.{get_or-map, length-map}
+use Rattle.std.proofs.Common.{◌≡◌, ℕ, ◌<◌, ◌&&◌, ◌==◌, true, false, cond, Option, Some, None, List, [], ◌∷◌, length, get_or, inl, inr, refl, ap, sym, ◌∙◌, subst, arith, is_some}
+use Rattle.std.specs.List.{list_any, AllByRecursion}
+use Rattle.std.proofs.lemmas.Bool.{cond-false, false_from_ne_true, and_from, or_left, or_right, eq-eqb, true≢false}
 use Rattle.std.proofs.lemmas.List.Folds.{list_any_at}
 use Rattle.std.proofs.lemmas.List.Elements.{recursion_from_All}
 use Rattle.gate_values.specs.declared.logic.Logic.{Logic}
-use Rattle.gate_values.specs.declared.logic.Logic.TheVariants.{X}
 use Rattle.gate_values.specs.declared.logic.Change.{Change}
-use Rattle.gate_values.specs.Tables.{flip_of}
-use Rattle.gate_values.specs.Behaviour.{Source, Outside, Gate, Flop, before, value, content, delay_of, IsOver, IsWellFormed, history}
-use Rattle.gate_values.specs.Changes.{pair_at, changes}
-use Rattle.gate_values.proofs.Behaving.{content_is}
+use Rattle.gate_values.specs.Behaviour.{Source, Outside, Gate, Flop, IsOver, IsWellFormed}
+use Rattle.gate_values.specs.Changes.{pair_at}
 use Rattle.warp_block.specs.Portion.{Portion, IsPortion, is_driven, uses, does_use, source_of, owns, is_used, slot_of, at_slot}
-use Rattle.warp_block.specs.View.{View, log_of, effective_at, given_by, news_of, is_busy, moment_before}
+use Rattle.warp_block.specs.View.{View, log_of, effective_at, news_of, is_busy}
 use Rattle.warp_block.specs.Lawful.{IsLawful, lawful_log}
-use Rattle.warp_block.specs.Advance.{IsQuiet}
-use Rattle.warp_block.proofs.Slots.{slot_is, slot_at, of_net-map}
-use Rattle.warp_block.proofs.Running.{IsTimed, IsDriven, run_log, run_news, run_log-quiet, driven_or_not, steady}
+use Rattle.warp_block.proofs.Slots.{slot_is, of_net-map}
+use Rattle.warp_block.proofs.Running.{IsTimed, IsDriven, run_log, run_news, driven_or_not}
 
 timed_from : (s : Source) → IsWellFormed s → IsTimed s
 timed_from Outside w = tt

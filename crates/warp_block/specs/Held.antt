@@ -2,8 +2,7 @@
 use Rattle.std.specs.Prelude.{List, map, Vec}
 use Rattle.std.specs.declared.alloc.Global.{Global}
 use Rattle.warp_block.specs.declared.look.Look.TheInside.{Inside}
-use Rattle.warp_block.specs.declared.state.State.{State}
-use Rattle.warp_block.specs.View.{View, Saved}
+use Rattle.warp_block.specs.View.{View}
 
 -- the lists that some vectors hold
 abbrev pub lists_in : {T : Type 0} → List (Vec T Global) → List (List T)

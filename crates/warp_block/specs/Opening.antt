@@ -1,5 +1,5 @@
 -- A block that has received nothing but the stimulus.
-use Rattle.std.specs.Prelude.{ℕ, ◌+◌, false, if◌then◌else◌, List, [], map}
+use Rattle.std.specs.Prelude.{ℕ, ◌+◌, if◌then◌else◌, List, [], map}
 use Rattle.gate_values.specs.declared.logic.Change.{Change}
 use Rattle.gate_values.specs.Changes.{before_time}
 use Rattle.gate_vcd.specs.Given.{Given, changes_of}

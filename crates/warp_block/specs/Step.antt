@@ -1,5 +1,5 @@
 -- What the processing of a time adds to the logs and sends, place by place.
-use Rattle.std.specs.Prelude.{◌≡◌, ℕ, zero, suc, ◌+◌, ◌++◌, nat_le, if◌then◌else◌, List, [], ◌∷◌, map, get_or, slice_index, length, ◌<◌, ◌≤◌, ◌⊎◌}
+use Rattle.std.specs.Prelude.{◌≡◌, ℕ, zero, suc, ◌+◌, ◌++◌, nat_le, if◌then◌else◌, List, [], ◌∷◌, map, get_or, slice_index, ◌<◌, ◌≤◌, ◌⊎◌}
 use Rattle.std.specs.List.{flat_map, filter}
 use Rattle.gate_values.specs.declared.logic.Logic.{Logic}
 use Rattle.gate_values.specs.declared.logic.Logic.TheVariants.{X}

@@ -1,13 +1,13 @@
 -- What contracts see of a block.
-use Rattle.std.specs.Prelude.{◌≡◌, ℕ, suc, min, ◌+◌, ◌-◌, ◌<◌, ◌≤◌, Bool, false, ◌&&◌, Option, Some, None, is_some, IsTrue, if◌then◌else◌, List, [], ◌∷◌}
+use Rattle.std.specs.Prelude.{ℕ, min, ◌-◌, ◌≤◌, Bool, ◌&&◌, Option, Some, None, is_some, IsTrue, if◌then◌else◌, List, []}
 use Rattle.std.specs.List.{list_any, count_by, range_with_len}
 use Rattle.gate_values.specs.declared.logic.Logic.{Logic}
 use Rattle.gate_values.specs.declared.logic.Change.{Change}
-use Rattle.gate_values.specs.Behaviour.{Source, Moment, value, before}
+use Rattle.gate_values.specs.Behaviour.{Moment, value, before}
 use Rattle.gate_values.specs.Changes.{held, pair_at}
 use Rattle.warp_block.specs.declared.entry.Entry.{Entry}
 use Rattle.warp_block.specs.declared.queue.Timed.{Timed}
-use Rattle.warp_block.specs.Entries.{entry_in, effective_of, number_of}
+use Rattle.warp_block.specs.Entries.{entry_in, effective_of}
 use Rattle.warp_block.specs.Portion.{Portion, of_net, source_of, owns, is_used}
 
 -- Everything below the mark is processed, everything below the floor is committed. There is a queue for each net

@@ -3,9 +3,8 @@ use Logic::{One, X, Z, Zero};
 use Sign::{Minus, Plus};
 use gate_netlist::{Circuit, Cut, read_bench};
 use gate_values::{Change, Logic};
-use gate_vcd::{Stimulus, read_stimulus};
+use gate_vcd::read_stimulus;
 use std::alloc::Global;
-use std::process::Abort;
 use std::test::Fail;
 
 /// Two buffers, an AND and a NOT, in three blocks; nets P, Q, A, B, Y, Z.
@@ -22,6 +21,8 @@ const SAMPLED_CUT: &str = "[block]\nA = 0\nQ = 1\n";
 
 const SAMPLED_CLOCK: &str =
     "$var wire 1 p P $end $var wire 1 c CK $end $enddefinitions $end #0 0c #2 1c #4 0c #6 xc";
+
+const P: u32 = 0;
 
 const A: u32 = 2;
 
@@ -63,22 +64,105 @@ fn to(block: u32, sign: Sign, net: u32, time: u64, value: Logic) -> Message {
     }
 }
 
+/// A message to block 1.
+fn told(net: u32, time: u64, value: Logic) -> Message {
+    to(1, Plus, net, time, value)
+}
+
+/// A call of a block.
+#[derive(Clone, Copy)]
+enum Call {
+    Receive(Message),
+    /// So many steps are asked for, and so many are to be finished.
+    Advance(u32, u32),
+}
+
+use Call::{Advance, Receive};
+
+/// Makes a call, whose answer has to be as wanted.
+fn make(call: Call, block: &mut Block, out: &mut Vec<Message>) -> Result<(), Fail> {
+    match call {
+        Receive(message) => block.receive(message, out)?,
+        Advance(steps, finished) => {
+            if block.advance(steps, out)? != finished {
+                return Err(Fail::from("another number of steps"));
+            }
+        }
+    }
+    Ok(())
+}
+
+/// Makes some calls, one after another.
+fn make_all(calls: &[Call], block: &mut Block, out: &mut Vec<Message>) -> Result<(), Fail> {
+    for call in calls {
+        make(*call, block, out)?;
+    }
+    Ok(())
+}
+
+/// The first calls of block 1: both inputs of Y become One, at 1 and 2.
+fn both_one() -> [Call; 3] {
+    [
+        Receive(told(A, 1, One)),
+        Receive(told(B, 2, One)),
+        Advance(2, 2),
+    ]
+}
+
+/// A straggler follows: B was Zero at 1.
+fn straggler() -> [Call; 3] {
+    [Receive(told(B, 1, Zero)), Advance(2, 2), Advance(1, 0)]
+}
+
 #[test]
 fn a_straggler_is_rolled_back(rt: HostRuntime) -> Result<(), Fail> {
     let mut out = Vec::new(rt.alloc());
     let mut block = pair(rt.alloc(), &mut out)?;
-    assert_eq!(rt; out.len(), 0);
-    block.receive(to(1, Plus, A, 1, One), &mut out)?;
-    block.receive(to(1, Plus, B, 2, One), &mut out)?;
-    assert_eq!(rt; block.advance(2, &mut out)?, 2);
-    assert_eq!(rt; out.as_slice(), [to(2, Plus, Y, 3, One)].as_slice());
-    out.clear();
+    make_all(both_one().as_slice(), &mut block, &mut out)?;
+    make_all(straggler().as_slice(), &mut block, &mut out)?;
+    let want = [
+        to(2, Plus, Y, 3, One),
+        to(2, Minus, Y, 3, One),
+        to(2, Plus, Y, 2, Zero),
+        to(2, Plus, Y, 3, One),
+    ];
+    assert_eq!(rt; out.as_slice(), want.as_slice());
+    Ok(())
+}
 
-    let look = block.look()?;
-    assert_eq!(rt; look.mark(), 3);
-    assert_eq!(rt; look.floor(), 0);
-    assert_eq!(rt; look.horizon(), 10);
-    assert_eq!(rt; look.part().block(), 1);
+#[test]
+fn a_straggler_moves_the_mark_back(rt: HostRuntime) -> Result<(), Fail> {
+    let mut out = Vec::new(rt.alloc());
+    let mut block = pair(rt.alloc(), &mut out)?;
+    make_all(both_one().as_slice(), &mut block, &mut out)?;
+    make(straggler()[0], &mut block, &mut out)?;
+    assert_eq!(rt; (block.next_time(), block.mark()), (Some(1), 1));
+    Ok(())
+}
+
+/// A look at block 1 after its first calls.
+fn look_at_both(alloc: Global) -> Result<Look, Fail> {
+    let mut out = Vec::new(alloc);
+    let mut block = pair(alloc, &mut out)?;
+    make_all(both_one().as_slice(), &mut block, &mut out)?;
+    Ok(block.look()?)
+}
+
+#[test]
+fn a_look_shows_times(rt: HostRuntime) -> Result<(), Fail> {
+    let look = look_at_both(rt.alloc())?;
+    assert_eq!(rt; (look.mark(), look.floor(), look.horizon()), (3, 0, 10));
+    assert_eq!(rt; (look.next_time(), look.done()), (None, true));
+    assert_eq!(rt;
+        (look.next_entry(A, 0), look.next_entry(A, 2)),
+        (Some(1), None)
+    );
+    Ok(())
+}
+
+#[test]
+fn a_look_shows_entries_and_logs(rt: HostRuntime) -> Result<(), Fail> {
+    let look = look_at_both(rt.alloc())?;
     assert_eq!(rt;
         look.log(Y),
         [Change {
@@ -87,166 +171,103 @@ fn a_straggler_is_rolled_back(rt: HostRuntime) -> Result<(), Fail> {
         }]
         .as_slice()
     );
-    assert_eq!(rt; look.log(A).len(), 0);
-    assert_eq!(rt;
-        look.entry(A, 1),
-        Entry {
-            zero: 0,
-            one: 1,
-            x: 0,
-            z: 0
-        }
-    );
-    assert_eq!(rt;
-        look.entry(0, 0),
-        Entry {
-            zero: 0,
-            one: 0,
-            x: 0,
-            z: 0
-        }
-    );
-    assert_eq!(rt; look.done(), true);
-    assert_eq!(rt; look.next_time(), None);
-    assert_eq!(rt; look.next_entry(A, 0), Some(1));
-    assert_eq!(rt; look.next_entry(A, 2), None);
-
-    block.receive(to(1, Plus, B, 1, Zero), &mut out)?;
-    assert_eq!(rt; out.as_slice(), [to(2, Minus, Y, 3, One)].as_slice());
-    assert_eq!(rt; block.next_time(), Some(1));
-    assert_eq!(rt; block.mark(), 1);
-    out.clear();
-    assert_eq!(rt; block.advance(2, &mut out)?, 2);
-    assert_eq!(rt;
-        out.as_slice(),
-        [to(2, Plus, Y, 2, Zero), to(2, Plus, Y, 3, One)].as_slice()
-    );
-    out.clear();
-    assert_eq!(rt; block.advance(1, &mut out)?, 0);
-    assert_eq!(rt; out.len(), 0);
+    assert_eq!(rt; look.entry(A, 1), numbers(0, 1, 0, 0));
+    assert_eq!(rt; look.entry(0, 0), numbers(0, 0, 0, 0));
     Ok(())
+}
+
+fn numbers(zero: i128, one: i128, x: i128, z: i128) -> Entry {
+    Entry { zero, one, x, z }
 }
 
 #[test]
 fn an_antimessage_waits_for_its_message(rt: HostRuntime) -> Result<(), Fail> {
     let mut out = Vec::new(rt.alloc());
     let mut block = pair(rt.alloc(), &mut out)?;
-    block.receive(to(1, Minus, A, 4, One), &mut out)?;
+    make(Receive(to(1, Minus, A, 4, One)), &mut block, &mut out)?;
+    let waiting = block.entry(A, 4);
     assert_eq!(rt;
-        block.entry(A, 4),
-        Entry {
-            zero: 0,
-            one: -1,
-            x: 0,
-            z: 0
-        }
+        (waiting, waiting.effective(), block.mark()),
+        (numbers(0, -1, 0, 0), None, 0)
     );
-    assert_eq!(rt; block.entry(A, 4).effective(), None);
-    assert_eq!(rt; block.mark(), 0);
-    block.receive(to(1, Plus, A, 4, One), &mut out)?;
-    assert_eq!(rt;
-        block.entry(A, 4),
-        Entry {
-            zero: 0,
-            one: 0,
-            x: 0,
-            z: 0
-        }
-    );
-    assert_eq!(rt; out.len(), 0);
+    make(Receive(told(A, 4, One)), &mut block, &mut out)?;
+    assert_eq!(rt; (block.entry(A, 4), out.len()), (numbers(0, 0, 0, 0), 0));
     Ok(())
 }
 
 #[test]
 fn a_number_has_a_limit(rt: HostRuntime) {
     let most = 1_000_000_000_000_000_000_000_000_000_000;
-    let full = Entry {
-        zero: 0,
-        one: most,
-        x: 0,
-        z: 0,
-    };
-    assert_eq!(rt; full.bump(One, Plus), None);
+    let full = numbers(0, most, 0, 0);
     assert_eq!(rt;
-        full.bump(One, Minus),
-        Some(Entry {
-            zero: 0,
-            one: most - 1,
-            x: 0,
-            z: 0
-        })
+        (full.bump(One, Plus), full.bump(One, Minus)),
+        (None, Some(numbers(0, most - 1, 0, 0)))
     );
-    assert_eq!(rt;
-        full.bump(Z, Minus),
-        Some(Entry {
-            zero: 0,
-            one: most,
-            x: 0,
-            z: -1
-        })
-    );
-    let low = Entry {
-        zero: 0,
-        one: 0,
-        x: -most,
-        z: 0,
-    };
-    assert_eq!(rt; low.bump(X, Minus), None);
-    assert_eq!(rt; low.effective(), None);
-    assert_eq!(rt;
-        Entry {
-            zero: 0,
-            one: 0,
-            x: 2,
-            z: 1
-        }
-        .effective(),
-        Some(X)
-    );
+    assert_eq!(rt; full.bump(Z, Minus), Some(numbers(0, most, 0, -1)));
+    assert_eq!(rt; numbers(0, 0, -most, 0).bump(X, Minus), None);
+}
+
+#[test]
+fn the_first_value_of_which_a_message_stands(rt: HostRuntime) {
+    assert_eq!(rt; numbers(0, 0, 2, 1).effective(), Some(X));
+    assert_eq!(rt; numbers(-1, 0, 0, 1).effective(), Some(Z));
 }
 
 #[test]
 fn what_a_block_refuses(rt: HostRuntime) -> Result<(), Fail> {
     let mut out = Vec::new(rt.alloc());
     let mut block = pair(rt.alloc(), &mut out)?;
-    let past = block.receive(to(1, Plus, A, 11, One), &mut out);
-    assert_eq!(rt; past, Err(BlockFault::PastHorizon));
-    for message in [
-        to(1, Plus, 0, 1, One),
-        to(1, Plus, Y, 1, One),
-        to(2, Plus, A, 1, One),
+    for (message, fault) in [
+        (told(A, 11, One), BlockFault::PastHorizon),
+        (told(P, 1, One), BlockFault::WrongNet),
+        (told(Y, 1, One), BlockFault::WrongNet),
+        (to(2, Plus, A, 1, One), BlockFault::WrongNet),
     ] {
-        assert_eq!(rt;
-            block.receive(message, &mut out),
-            Err(BlockFault::WrongNet),
-            "{message:?}"
-        );
+        assert_eq!(rt; block.receive(message, &mut out), Err(fault), "{message:?}");
     }
-    block.receive(to(1, Plus, A, 10, One), &mut out)?;
-    assert_eq!(rt; block.next_time(), Some(10));
-    assert_eq!(rt; out.len(), 0);
+    make(Receive(told(A, 10, One)), &mut block, &mut out)?;
+    assert_eq!(rt; (block.next_time(), out.len()), (Some(10), 0));
     Ok(())
+}
+
+/// The flip-flop loads One on the edge at 2; whether it loads at 6 is uncertain.
+fn edges() -> [Call; 3] {
+    [
+        Receive(told(1, 1, One)),
+        Receive(told(1, 3, Zero)),
+        Advance(9, 6),
+    ]
+}
+
+/// The log of the flip-flop, after some calls.
+fn flop_log(alloc: Global, more: &[Call]) -> Result<Vec<Change>, Fail> {
+    let mut out = Vec::new(alloc);
+    let mut block = block_of(alloc, SAMPLED, SAMPLED_CUT, SAMPLED_CLOCK, 1, &mut out)?;
+    make_all(edges().as_slice(), &mut block, &mut out)?;
+    make_all(more, &mut block, &mut out)?;
+    Ok(Vec::from_slice(alloc, block.log(2))?)
 }
 
 #[test]
 fn a_rollback_restores_contents(rt: HostRuntime) -> Result<(), Fail> {
-    let mut out = Vec::new(rt.alloc());
-    let mut block = block_of(rt.alloc(), SAMPLED, SAMPLED_CUT, SAMPLED_CLOCK, 1, &mut out)?;
-    block.receive(to(1, Plus, 1, 1, One), &mut out)?;
-    block.receive(to(1, Plus, 1, 3, Zero), &mut out)?;
-    assert_eq!(rt; block.advance(9, &mut out)?, 6);
     let loaded = Change {
         time: 3,
         value: One,
     };
     let unsure = Change { time: 7, value: X };
-    assert_eq!(rt; block.log(2), [loaded, unsure].as_slice());
-    block.receive(to(1, Plus, 1, 5, One), &mut out)?;
-    assert_eq!(rt; block.next_time(), Some(5));
-    assert_eq!(rt; block.log(2), [loaded].as_slice());
-    assert_eq!(rt; block.advance(9, &mut out)?, 2);
-    assert_eq!(rt; block.log(2), [loaded].as_slice());
-    assert_eq!(rt; out.len(), 0);
+    let more = [Receive(told(1, 5, One)), Advance(9, 2)];
+    assert_eq!(rt;
+        flop_log(rt.alloc(), &[])?.as_slice(),
+        [loaded, unsure].as_slice()
+    );
+    assert_eq!(rt;
+        flop_log(rt.alloc(), &more[..1])?.as_slice(),
+        [loaded].as_slice()
+    );
+    assert_eq!(rt;
+        flop_log(rt.alloc(), more.as_slice())?.as_slice(),
+        [loaded].as_slice()
+    );
     Ok(())
 }
 

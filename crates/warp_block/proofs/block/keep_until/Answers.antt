@@ -1,5 +1,4 @@
-use Rattle.std.proofs.Common.{rules, nat_le, subst, List}
-use Rattle.std.specs.List.Sorted.{IsPartitionPoint}
+use Rattle.std.proofs.Common.{rules, nat_le}
 use Rattle.std.proofs.lemmas.List.Sorted.{IsPartitionPoint-from_clause, IsPartitionedBy-leb}
 use Rattle.warp_block.specs.declared.state.State.{State}
 use Rattle.warp_block.proofs.Rising.{split-until}

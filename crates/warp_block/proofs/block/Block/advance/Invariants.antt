@@ -1,4 +1,3 @@
-use Rattle.std.proofs.Common.{◌≡◌}
 use Rattle.warp_block.specs.declared.message.Sign.TheVariants.{Plus}
 use Rattle.warp_block.specs.Sends.{Sends}
 use Rattle.warp_block.specs.Advance.{IsAdvanced, IsAfterEvent}

@@ -1,4 +1,4 @@
-use Rattle.std.proofs.Common.{◌≡◌, ◌≢◌, ◌<◌, ◌≤◌, ℕ, true, List, All, map, take, refl, ap, sym, ◌∙◌, subst, arith, inl, inr, ◌⊎◌}
+use Rattle.std.proofs.Common.{◌≡◌, ◌≢◌, ◌<◌, ◌≤◌, ℕ, true, List, All, map, take, refl, ap, sym, ◌∙◌, subst, arith}
 use Rattle.std.proofs.lemmas.List.{take-map}
 use Rattle.std.specs.Result.{IfErr}
 use Rattle.std.specs.List.Sorted.{IsPartitionPoint}
@@ -8,7 +8,7 @@ use Rattle.warp_block.specs.Entries.{effective_of}
 use Rattle.warp_block.specs.Portion.{hears}
 use Rattle.warp_block.specs.View.{Process, Saved, effective_at}
 use Rattle.warp_block.specs.Lawful.{IsSaved, AreSaved}
-use Rattle.warp_block.specs.Receive.{IsPut, IsTaken, IsRefusal, refusal_of}
+use Rattle.warp_block.specs.Receive.{IsPut, IsRefusal, refusal_of}
 use Rattle.warp_block.specs.Saving.{saved_of}
 use Rattle.warp_block.proofs.Slots.{slot_is}
 use Rattle.warp_block.proofs.Sending.{sends_none}

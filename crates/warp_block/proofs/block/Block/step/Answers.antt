@@ -1,4 +1,4 @@
-use Rattle.std.proofs.Common.{◌≡◌, ◌∷◌, [], ◌++◌, ◌-◌, length, map, refl, ap, sym, ◌∙◌, subst, arith}
+use Rattle.std.proofs.Common.{◌≡◌, ◌-◌, length, map, arith}
 use Rattle.std.proofs.lemmas.List.{map-append}
 use Rattle.warp_block.specs.Saving.{saved_of}
 use Rattle.warp_block.proofs.SavingStep.{newest_saved, newest_before, newest_quiet, quiet_before_least, one_advanced, one_saved}

@@ -1,4 +1,4 @@
-use Rattle.std.proofs.Common.{◌≡◌, ◌≤◌, length, ap, sym, ◌∙◌, arith, Vec, List}
+use Rattle.std.proofs.Common.{◌≡◌, length, arith}
 use Rattle.warp_block.specs.Saving.{saved_of}
 use Rattle.warp_block.specs.Held.{lists_in, view_of}
 use Rattle.warp_block.proofs.Finishing.{finish_lawful, finish_sends, partly_rises, cut_back}

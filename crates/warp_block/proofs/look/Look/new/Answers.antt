@@ -1,9 +1,7 @@
-use Rattle.std.proofs.Common.{◌≡◌, ℕ, ◌<◌, ◌≤◌, ◌++◌, List, [], ◌∷◌, map, length, slice_index, refl, ap, sym, ◌∙◌, arith, Vec, All}
+use Rattle.std.proofs.Common.{◌≡◌, ℕ, ◌<◌, ◌≤◌, ◌++◌, List, [], ◌∷◌, length, refl, ap, ◌∙◌, arith, Vec}
 use Rattle.std.specs.declared.alloc.Global.{Global}
 use Rattle.std.proofs.lemmas.List.{map-append}
 use Rattle.std.proofs.lemmas.List.Elements.{All-nil, All-push, All-same}
-use Rattle.gate_values.specs.declared.logic.Change.{Change}
-use Rattle.warp_block.specs.declared.queue.Timed.{Timed}
 use Rattle.warp_block.specs.Entries.{IsQueue}
 use Rattle.warp_block.specs.Opening.{opening_queue}
 use Rattle.warp_block.specs.Held.{lists_in}

@@ -1,4 +1,4 @@
-use Rattle.std.proofs.Common.{◌≡◌, ◌<◌, ◌≤◌, ◌+◌, ◌==◌, ℕ, [], cond, length, slice_index_or, refl, ap, sym, ◌∙◌, arith, subst, List, Vec, All}
+use Rattle.std.proofs.Common.{◌≡◌, ◌==◌, ℕ, [], cond, length, slice_index_or, refl, ap, sym, ◌∙◌, arith, subst, List, Vec, All}
 use Rattle.std.specs.declared.alloc.Global.{Global}
 use Rattle.std.proofs.lemmas.List.{map-set, length-map}
 use Rattle.gate_values.specs.declared.logic.Change.{Change}
@@ -6,7 +6,7 @@ use Rattle.warp_block.specs.declared.queue.Timed.{Timed}
 use Rattle.warp_block.specs.Entries.{IsQueue, entry_in}
 use Rattle.warp_block.specs.Logs.{IsLog}
 use Rattle.warp_block.specs.Held.{lists_in, view_of}
-use Rattle.warp_block.proofs.Rows.{in_part, in_queues, queue_row, queue_ordered, queues_kept, rows_len, all_rise}
+use Rattle.warp_block.proofs.Rows.{in_part, queue_row, queue_ordered, queues_kept, rows_len, all_rise}
 use Rattle.warp_block.proofs.Rolling.{roll_lawful, roll_sends, put_is}
 use Rattle.warp_block.proofs.look.Look.roll_back.Goals as goal
 

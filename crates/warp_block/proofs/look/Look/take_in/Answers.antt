@@ -1,5 +1,4 @@
-use Rattle.std.proofs.Common.{◌≡◌, ◌<◌, ◌==◌, ℕ, [], cond, length, slice_index_or, ap, sym, ◌∙◌, arith, subst, List, Vec}
-use Rattle.std.specs.declared.alloc.Global.{Global}
+use Rattle.std.proofs.Common.{◌≡◌, ◌==◌, ℕ, [], cond, slice_index_or, ap, sym, ◌∙◌, arith, subst, List}
 use Rattle.std.proofs.lemmas.List.{map-set}
 use Rattle.warp_block.specs.declared.queue.Timed.{Timed}
 use Rattle.warp_block.specs.Entries.{IsQueue, entry_in}
