@@ -4,7 +4,7 @@
 
 use crate::{Stimulus, Timescale, Unit, read_stimulus};
 use gate_netlist::{Circuit, read_bench};
-use gate_values::Logic;
+use gate_values::{Change, Logic};
 use std::alloc::Global;
 use std::process::Abort;
 use std::test::Fail;
@@ -192,19 +192,25 @@ fn letter(value: Logic) -> char {
     }
 }
 
-/// The changes of each net, those of a net in a line: times and values.
+/// The times of changes, each with its value.
+fn shown(alloc: Global, changes: &[Change]) -> Result<String, Fail> {
+    let mut text = String::new(alloc);
+    for change in changes {
+        let next = format!(in alloc; "{}{} ", change.time, letter(change.value))?;
+        text.push_str(next.as_str())?;
+    }
+    Ok(text)
+}
+
+/// Each of the nets has these changes.
 fn assert_changes(
     rt: &impl Abort,
     alloc: Global,
     stimulus: &Stimulus,
-    lines: &[&str],
+    lines: &[(u32, &str)],
 ) -> Result<(), Fail> {
-    for (net, line) in lines.iter().enumerate() {
-        let mut shown = String::new(alloc);
-        for change in stimulus.changes(net as u32) {
-            let next = format!(in alloc; "{}{} ", change.time, letter(change.value))?;
-            shown.push_str(next.as_str())?;
-        }
+    for (net, line) in lines {
+        let shown = shown(alloc, stimulus.changes(*net))?;
         assert_eq!(rt; shown.as_str(), *line, "net {net}");
     }
     Ok(())
@@ -215,12 +221,12 @@ fn reads_a_dump_of_icarus(rt: HostRuntime) -> Result<(), Fail> {
     let bench = "INPUT(a)\nINPUT(b)\nINPUT(one)\nINPUT(odd+name)\nINPUT(inner)\nINPUT(y)\n";
     let stimulus = read(rt.alloc(), bench, "", ICARUS)?;
     let lines = [
-        "51 10x 201 300 ",
-        "00 10x 201 300 ",
-        "01 10x 201 25z ",
-        "0z 10x 20z ",
-        "00 51 10x 201 ",
-        "00 10x 200 251 300 ",
+        (0, "51 10x 201 300 "),
+        (1, "00 10x 201 300 "),
+        (2, "01 10x 201 25z "),
+        (3, "0z 10x 20z "),
+        (4, "00 51 10x 201 "),
+        (5, "00 10x 200 251 300 "),
     ];
     assert_changes(&rt, rt.alloc(), &stimulus, &lines)?;
     assert_eq!(rt;
@@ -236,7 +242,7 @@ fn reads_a_dump_of_icarus(rt: HostRuntime) -> Result<(), Fail> {
         "scope = \"tb.dut\"",
         ICARUS,
     )?;
-    assert_changes(&rt, rt.alloc(), &inside, &[lines[0], lines[5]])
+    assert_changes(&rt, rt.alloc(), &inside, &[lines[0], (1, lines[5].1)])
 }
 
 #[test]
@@ -245,15 +251,15 @@ fn reads_a_dump_of_verilator(rt: HostRuntime) -> Result<(), Fail> {
         "INPUT(a)\nINPUT(b)\nINPUT(one)\nINPUT(odd+name)\nINPUT(m[0])\nINPUT(m[1])\nINPUT(p)\nINPUT(q)\nINPUT(y)\n";
     let stimulus = read(rt.alloc(), bench, "", VERILATOR)?;
     let lines = [
-        "00 51 200 ",
-        "00 101 200 ",
-        "01 150 ",
-        "01 ",
-        "01 ",
-        "00 151 ",
-        "01 ",
-        "00 ",
-        "00 151 200 ",
+        (0, "00 51 200 "),
+        (1, "00 101 200 "),
+        (2, "01 150 "),
+        (3, "01 "),
+        (4, "01 "),
+        (5, "00 151 "),
+        (6, "01 "),
+        (7, "00 "),
+        (8, "00 151 200 "),
     ];
     assert_changes(&rt, rt.alloc(), &stimulus, &lines)?;
     assert_eq!(rt;
@@ -269,5 +275,10 @@ fn reads_a_dump_of_verilator(rt: HostRuntime) -> Result<(), Fail> {
         "scope = \"TOP.tb.dut2\"",
         VERILATOR,
     )?;
-    assert_changes(&rt, rt.alloc(), &inside, &["00 101 200 ", "00 151 200 "])
+    assert_changes(
+        &rt,
+        rt.alloc(),
+        &inside,
+        &[(0, "00 101 200 "), (1, "00 151 200 ")],
+    )
 }
