@@ -1,5 +1,5 @@
 -- A cause that applies is an answer.
-use Rattle.std.proofs.Common.{◌≡◌, ℕ, Bool, true, false, cond, List, Some, None, Err}
+use Rattle.std.proofs.Common.{◌≡◌, ℕ, Bool, true, false, cond, List, Option, Some, None, Err, IfSome}
 use Rattle.toml.specs.Data.{Members}
 use Rattle.gate_netlist.specs.declared.fault.SettingsFault.{SettingsFault}
 use Rattle.gate_netlist.specs.declared.fault.SettingsFault.TheVariants.{Toml, UnknownKey, UnknownNet, BadDelay, ClockNotInput, BadCut, Memory}
@@ -7,21 +7,29 @@ use Rattle.gate_netlist.specs.Netlist.{Netlist}
 use Rattle.gate_netlist.specs.Settings.{IsDocument}
 use Rattle.gate_netlist.specs.Causes.{cause_of, has_unknown_key, has_unknown_net, has_bad_delay, has_bad_clock, has_bad_block}
 use Rattle.gate_netlist.specs.Meaning.{IsAnswer}
+use Rattle.gate_netlist.specs.Refusals.{IsOfDocument}
 
-never_toml : (a b c d e : Bool) → cond a (Some UnknownKey) (cond b (Some UnknownNet) (cond c (Some BadDelay) (cond d (Some ClockNotInput) (cond e (Some BadCut) None)))) ≡ Some Toml → ⊥
-never_toml true b c d e h = cc
-never_toml false true c d e h = cc
-never_toml false false true d e h = cc
-never_toml false false false true e h = cc
-never_toml false false false false true h = cc
-never_toml false false false false false h = cc
+-- a cause, if any, that some test of a document gives
+abbrev IsTested : Option SettingsFault → Type 0
+IsTested o = (o ≡ Some Toml → ⊥) × IfSome o IsOfDocument
 
-no_toml : (b : Netlist) (ms : Members) → cause_of b ms ≡ Some Toml → ⊥
+tested : (a b c d e : Bool) → IsTested (cond a (Some UnknownKey) (cond b (Some UnknownNet) (cond c (Some BadDelay) (cond d (Some ClockNotInput) (cond e (Some BadCut) None)))))
+tested true b c d e = (λ h. cc, λ h. cc)
+tested false true c d e = (λ h. cc, λ h. cc)
+tested false false true d e = (λ h. cc, λ h. cc)
+tested false false false true e = (λ h. cc, λ h. cc)
+tested false false false false true = (λ h. cc, λ h. cc)
+tested false false false false false = (λ h. cc, tt)
+
+cause_of-tested : (b : Netlist) (ms : Members) → IsTested (cause_of b ms)
 unfolding cause_of
-no_toml b ms h = never_toml (has_unknown_key ms) (has_unknown_net b ms) (has_bad_delay ms) (has_bad_clock b ms) (has_bad_block ms) h
+cause_of-tested b ms = tested (has_unknown_key ms) (has_unknown_net b ms) (has_bad_delay ms) (has_bad_clock b ms) (has_bad_block ms)
+
+pub cause_of-of_document : (b : Netlist) (ms : Members) → IfSome (cause_of b ms) IsOfDocument
+cause_of-of_document b ms = (cause_of-tested b ms).1
 
 pub answer_of_cause : (b : Netlist) (text : List ℕ) (ms : Members) (fault : SettingsFault) → IsDocument text ms → cause_of b ms ≡ Some fault → IsAnswer b text (Err fault)
-answer_of_cause b text ms Toml d h = absurd (no_toml b ms h)
+answer_of_cause b text ms Toml d h = absurd ((cause_of-tested b ms).0 h)
 answer_of_cause b text ms UnknownKey d h = (ms, d, h)
 answer_of_cause b text ms UnknownNet d h = (ms, d, h)
 answer_of_cause b text ms BadDelay d h = (ms, d, h)

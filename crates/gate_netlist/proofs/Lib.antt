@@ -14,3 +14,4 @@ pub mod Resolving
 pub mod Naming
 pub mod Splitting
 pub mod Words
+pub mod Refusals

@@ -21,3 +21,4 @@ pub mod Symbols
 pub mod Tokens
 pub mod HeldBench
 pub mod Settings
+pub mod Refusals

@@ -5,7 +5,8 @@
 //! or answers the least cause that speaks against the text. [`Cut::even`] makes a cut of a circuit where the settings
 //! give none. Each answer is the one that the definitions in `specs/` give: `Lines`, `Symbols`, `Statements` and
 //! `Bench` for the bench text; `Settings`, `Causes` and `Meaning` for the settings; `Circuit` and `Cut` for what
-//! is true of every circuit and every cut. The one other answer is want of memory, where a growth was refused.
+//! is true of every circuit and every cut. The one other answer is want of memory, where a growth was refused, which
+//! is never the fault of a text ([`refusal_laws`]).
 #![tactic(auto)]
 
 mod bench;
@@ -14,6 +15,7 @@ mod counts;
 mod cut;
 mod driver;
 mod fault;
+mod laws;
 mod lines;
 mod nets;
 mod reading;
@@ -29,6 +31,7 @@ pub use counts::Counts;
 pub use cut::Cut;
 pub use driver::Driver;
 pub use fault::{BenchCause, BenchFault, SettingsFault};
+pub use laws::refusal_laws;
 pub use lines::next_line;
 pub use nets::Nets;
 pub use reading::read_bench;

@@ -22,3 +22,4 @@ pub mod Keeping
 pub mod ItemLaws
 pub mod InputLaws
 pub mod Meaning
+pub mod Refusals

@@ -23,3 +23,4 @@ pub mod Items
 pub mod Inputs
 pub mod Scalars
 pub mod Stimulus
+pub mod Refusals

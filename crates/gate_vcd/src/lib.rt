@@ -40,7 +40,7 @@ mod writer_tests;
 pub use codes::{code, code_laws};
 pub use dump::write_vcd;
 pub use fault::{StimCause, StimFault, WriteFault};
-pub use laws::dump_laws;
+pub use laws::{dump_laws, refusal_laws};
 pub use reading::read_stimulus;
 pub use sink::{Grow, Sink};
 pub use stimulus::Stimulus;
