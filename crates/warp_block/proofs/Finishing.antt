@@ -14,7 +14,7 @@ use Rattle.warp_block.specs.Portion.{is_driven, source_of, slot_of}
 use Rattle.warp_block.specs.Moments.{moment_of, value_in}
 use Rattle.warp_block.specs.View.{View, Saved, effective_at, moment_before, block_value}
 use Rattle.warp_block.specs.Lawful.{IsLawful, IsSaved, lawful_log}
-use Rattle.warp_block.specs.Sends.{Sends}
+use Rattle.warp_block.specs.Sends.{SendsOnce}
 use Rattle.warp_block.specs.Advance.{IsQuiet}
 use Rattle.warp_block.specs.Step.{log_at, source_at, net_at, emitted, emitted_value, told, IsEmitted, IsPartlyEmitted, AreCut}
 use Rattle.warp_block.proofs.Slots.{slot_at}
@@ -130,9 +130,9 @@ module _ (v : View) (is : IsLawful v) (state : Saved) (saved : IsSaved v state) 
     }
 
     pub finish_sends : (before out : List Message) → IsEmitted v.part m s v.horizon (length v.part.nets) v.logs logs →
-        out ≡ before ++ told Plus v.part (λ i. emitted v.part m i (log_at v.logs i) s v.horizon) (length v.part.nets) → Sends v after Plus (λ t. s < t) before out
+        out ≡ before ++ told Plus v.part (λ i. emitted v.part m i (log_at v.logs i) s v.horizon) (length v.part.nets) → SendsOnce v after Plus (λ t. s < t) before out
     finish_sends before out e told_is =
-        sends_grown v after (λ t. s < t) before out (λ i. emitted v.part m i (log_at v.logs i) s v.horizon) is.part refl (logs_len v is) len emitted_later
+        sends_grown v after (λ t. s < t) before out (λ i. emitted v.part m i (log_at v.logs i) s v.horizon) is.part refl emitted_later
         (λ i h. e.below i h)
         (λ i h. subst IsLog (sym (grown_log e i h)) (IsLog-run source (effective_at v) (suc s) v.horizon (at_net i)))
         told_is

@@ -1,4 +1,5 @@
 pub mod Told
+pub mod Sends
 pub mod Sending
 pub mod Emitting
 pub mod Running

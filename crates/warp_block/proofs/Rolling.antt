@@ -18,7 +18,7 @@ use Rattle.warp_block.specs.Logs.{IsLog}
 use Rattle.warp_block.specs.Portion.{is_driven, source_of, owns, hears, reads, is_input, slot_of, at_slot, of_net}
 use Rattle.warp_block.specs.View.{View, entry_of, effective_at}
 use Rattle.warp_block.specs.Lawful.{IsLawful, lawful_log}
-use Rattle.warp_block.specs.Sends.{Sends}
+use Rattle.warp_block.specs.Sends.{SendsOnce}
 use Rattle.warp_block.specs.Receive.{IsPut}
 use Rattle.warp_block.specs.Step.{log_at, source_at, since_time, told}
 use Rattle.warp_block.proofs.Slots.{slot_is, of_net-at}
@@ -190,9 +190,9 @@ module _ (v : View) (is : IsLawful v) (slot : ℕ) (in_nets : slot < length v.pa
   pub roll_sends : (mark : ℕ) (logs : List (List Change)) (before out : List Message) → length logs ≡ length v.part.nets →
       ((i : ℕ) → i < length v.part.nets → log_at logs i ≡ before_time (mark + delay_of (source_at v.part i)) (log_at v.logs i)) →
       out ≡ before ++ told Minus v.part (λ i. since_time (mark + delay_of (source_at v.part i)) (log_at v.logs i)) (length v.part.nets) →
-      Sends v (after mark logs) Minus (λ t. mark < t) before out
+      SendsOnce v (after mark logs) Minus (λ t. mark < t) before out
   roll_sends mark logs before out len cut told_is =
-      sends_cut v (after mark logs) (λ t. mark < t) before out (λ i. since_time (mark + delay_of (source_at v.part i)) (log_at v.logs i)) is.part refl (logs_len v is) len later
+      sends_cut v (after mark logs) (λ t. mark < t) before out (λ i. since_time (mark + delay_of (source_at v.part i)) (log_at v.logs i)) is.part refl later
       (λ i h. split_log (mark + delay_of (source_at v.part i)) (log_at v.logs i) (log_rises v is i h) ∙ ap (λ (xs : List Change). xs ++ since_time (mark + delay_of (source_at v.part i)) (log_at v.logs i)) (sym (cut i h)))
       (λ i h. log_rises v is i h) told_is
     where

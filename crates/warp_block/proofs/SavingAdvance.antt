@@ -4,9 +4,9 @@ use Rattle.warp_block.specs.declared.message.Message.{Message}
 use Rattle.warp_block.specs.declared.message.Sign.TheVariants.{Plus}
 use Rattle.warp_block.specs.View.{View, is_busy, busy_times, IsEventTime}
 use Rattle.warp_block.specs.Lawful.{IsLawful}
-use Rattle.warp_block.specs.Sends.{Sends}
+use Rattle.warp_block.specs.Sends.{SendsOnce}
 use Rattle.warp_block.specs.Advance.{IsAdvanced, IsAfterEvent}
-use Rattle.warp_block.proofs.Sending.{sends_none, sends_then}
+use Rattle.warp_block.proofs.Sends.{once_nothing, once_for, once_then}
 use Rattle.warp_block.proofs.SavingTimes.{times-split, times-agree}
 use Rattle.warp_block.proofs.SavingBusy.{busy_agree}
 use Rattle.warp_block.proofs.SavingStep.{same_effective}
@@ -62,13 +62,13 @@ more_under_way a b c time way event mark =
     let first = event_before a b time way event in
     inr (first.0, first.1, (let l = first.2 in omega (arith, l, mark)))
 
-pub none_sent : (v : View) (out : List Message) → Sends v v Plus (IsAfterEvent v) out out
-none_sent v out = sends_none v v Plus (IsAfterEvent v) out out refl refl refl
+pub none_sent : (v : View) (out : List Message) → SendsOnce v v Plus (IsAfterEvent v) out out
+none_sent v out = once_nothing v v Plus (IsAfterEvent v) out out (λ p. refl) refl
 
 -- what is sent by one event time more
 pub more_sent : (a b c : View) (k time : ℕ) (x y z : List Message) → IsAdvanced a b k → IsUnderWay a b → IsEventTime b time →
-    Sends a b Plus (IsAfterEvent a) x y → Sends b c Plus (λ t. time < t) y z → Sends a c Plus (IsAfterEvent a) x z
-more_sent a b c k time x y z advanced way event =
+    SendsOnce a b Plus (IsAfterEvent a) x y → SendsOnce b c Plus (λ t. time < t) y z → SendsOnce a c Plus (IsAfterEvent a) x z
+more_sent a b c k time x y z advanced way event sent more =
     let first = event_before a b time way event in
-    sends_then a b c (IsAfterEvent a) (λ t. time < t) (IsAfterEvent a) x y z advanced.part advanced.horizon (λ t later. later)
-    (λ t later. (first.0, first.1, (let l = first.2 in omega (arith, l, later))))
+    once_then advanced.part advanced.horizon sent
+    (once_for {P = λ t. time < t} {Q = IsAfterEvent a} (λ t later. (first.0, first.1, (let l = first.2 in omega (arith, l, later)))) more)

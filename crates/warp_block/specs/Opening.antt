@@ -16,8 +16,9 @@ message_of c = record { time = c.time; entry = one_message c.value }
 abbrev pub opening_queue : Portion → Given → ℕ → ℕ → List Timed
 opening_queue p stimulus horizon n = if is_input p n then map message_of (before_time (horizon + 1) (changes_of stimulus n)) else []
 
-abbrev pub opening_view : Portion → Given → ℕ → View
-opening_view p stimulus horizon = record {
+-- what a new block has received, with nothing logged
+abbrev pub silent_view : Portion → Given → ℕ → View
+silent_view p stimulus horizon = record {
   part = p;
   horizon = horizon;
   mark = 0;
@@ -25,3 +26,7 @@ opening_view p stimulus horizon = record {
   queues = map (opening_queue p stimulus horizon) p.nets;
   logs = map (λ _. []) p.nets;
 }
+
+-- a new block: no net of its own has changed yet
+abbrev pub opening_view : Portion → Given → ℕ → View
+opening_view p stimulus horizon = silent_view p stimulus horizon

@@ -45,18 +45,22 @@ is_told part p = list_any (λ r. r == p.block) (readers_of part p.net)
 abbrev pub standing : View → Place → ℕ
 standing v p = if is_told v.part p && list_any (is_change p) (log_of v p.net) then 1 else 0
 
--- The message has the sign, goes to a block that reads the net, and is not past the horizon.
-pub record IsSendOf (v : View) (sign : Sign) (IsLater : ℕ → Type 0) (m : Message) : Type 0 where
-  pub signed : m.sign ≡ sign
+-- The message goes to a block that reads the net, and is not past the horizon.
+pub record IsSendOf (v : View) (IsLater : ℕ → Type 0) (m : Message) : Type 0 where
   pub told : IsTrue (list_any (λ r. r == m.block) (readers_of v.part m.net))
   pub later : IsLater m.time
   pub within : m.time ≤ v.horizon
 
--- What a call appended, after what was there: each place at most once, and for each place the messages less the
--- antimessages are the new log less the old one.
-pub record Sends (old new : View) (sign : Sign) (IsLater : ℕ → Type 0) (before out : List Message) : Type 0 where
+-- What was appended, after what was there: for each place the messages less the antimessages are the new log less the
+-- old one.
+pub record Sends (old new : View) (IsLater : ℕ → Type 0) (before out : List Message) : Type 0 where
   pub sent : List Message
   pub appended : out ≡ before ++ sent
-  pub named : All (IsSendOf old sign IsLater) sent
-  pub once : (p : Place) → count_by (is_message sign p) sent ≤ 1
+  pub named : All (IsSendOf old IsLater) sent
   pub balance : (p : Place) → messages p sent + standing old p ≡ antimessages p sent + standing new p
+
+-- What one call appended: messages alone, or antimessages alone, and each place at most once.
+pub record SendsOnce (old new : View) (sign : Sign) (IsLater : ℕ → Type 0) (before out : List Message) : Type 0 where
+  pub sends : Sends old new IsLater before out
+  pub signed : All (λ (m : Message). m.sign ≡ sign) sends.sent
+  pub once : (p : Place) → count_by (is_message sign p) sends.sent ≤ 1

@@ -4,10 +4,10 @@ ghost use Rattle.warp_block.specs.declared.message.Sign.TheVariants.{Plus, Minus
 ghost use Rattle.warp_block.specs.Entries.{no_messages};
 ghost use Rattle.warp_block.specs.View.{IsLeast, IsEventTime, IsDone, entry_of, log_of};
 ghost use Rattle.warp_block.specs.Lawful.{IsLawful, IsLawfulProcess};
-ghost use Rattle.warp_block.specs.Opening.{opening_view};
+ghost use Rattle.warp_block.specs.Opening.{silent_view, opening_view};
 ghost use Rattle.warp_block.specs.Receive.{refusal_of, IsRefusal, IsTaken};
 ghost use Rattle.warp_block.specs.Advance.{IsAdvanced, IsAfterEvent};
-ghost use Rattle.warp_block.specs.Sends.{Sends};
+ghost use Rattle.warp_block.specs.Sends.{SendsOnce};
 
 use crate::entry::Entry;
 use crate::fault::BlockFault;
@@ -52,7 +52,8 @@ impl Block {
     ) -> Result<Block, AllocError>
         requires { horizon ≤ 1000000000000 }
         ensures opening { IfOk result (λ block. block.seen ≡ opening_view part stimulus.now horizon) }
-        ensures untold { out.new.items ≡ out.old.items }
+        ensures sends { IfOk result (λ block. SendsOnce (silent_view part stimulus.now horizon) block.seen Plus (λ t. t ≡ 0) out.old.items out.new.items) }
+        ensures untold { OnErr result (out.new.items ≡ out.old.items) }
     {
         let _ = &out;
         let look = Look::new(alloc, part, stimulus, horizon)?;
@@ -80,7 +81,7 @@ impl Block {
     pub fn receive(&mut self, message: Message, out: &mut Vec<Message>) -> Result<(), BlockFault>
         ensures accepted { OnOk result (refusal_of self.old.seen message ≡ None) }
         ensures taken { OnOk result (IsTaken self.old.seen self.new.seen message) }
-        ensures sends { OnOk result (Sends self.old.seen self.new.seen Minus (λ t. message.time < t) out.old.items out.new.items) }
+        ensures sends { OnOk result (SendsOnce self.old.seen self.new.seen Minus (λ t. message.time < t) out.old.items out.new.items) }
         ensures refused { IfErr result (IsRefusal (refusal_of self.old.seen message)) }
         ensures err { OnErr result (self.new ≡ self.old) }
         ensures untold { OnErr result (out.new.items ≡ out.old.items) }
@@ -109,7 +110,7 @@ impl Block {
         ensures all { IfOk result (λ count. (count ≡ steps) ⊎ ((count < steps) × IsDone self.new.seen)) }
         ensures memory { IfErr result (λ fault. fault ≡ BlockFault.Memory) }
         ensures some { OnErr result ((count : ℕ) × (count < steps) × IsAdvanced self.old.seen self.new.seen count) }
-        ensures sends { Sends self.old.seen self.new.seen Plus (IsAfterEvent self.old.seen) out.old.items out.new.items }
+        ensures sends { SendsOnce self.old.seen self.new.seen Plus (IsAfterEvent self.old.seen) out.old.items out.new.items }
     {
         for finished in 0..steps {
             let Some(time) = self.look.next_time() else {
@@ -126,7 +127,7 @@ impl Block {
         ensures ok { OnOk result (IsAdvanced self.old.seen self.new.seen 1) }
         ensures mark { OnOk result (self.new.seen.mark ≡ time + 1) }
         ensures lawful { OnOk result (IsLawful self.new.seen) }
-        ensures sends { OnOk result (Sends self.old.seen self.new.seen Plus (λ t. time < t) out.old.items out.new.items) }
+        ensures sends { OnOk result (SendsOnce self.old.seen self.new.seen Plus (λ t. time < t) out.old.items out.new.items) }
         ensures err { OnErr result (self.new ≡ self.old) }
         ensures untold { OnErr result (out.new.items ≡ out.old.items) }
     {

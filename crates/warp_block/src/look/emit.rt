@@ -5,7 +5,7 @@ ghost use Rattle.warp_block.specs.Portion.{is_driven};
 ghost use Rattle.warp_block.specs.Moments.{moment_of};
 ghost use Rattle.warp_block.specs.Saving.{saved_of};
 ghost use Rattle.warp_block.specs.Lawful.{IsSaved};
-ghost use Rattle.warp_block.specs.Sends.{Sends};
+ghost use Rattle.warp_block.specs.Sends.{SendsOnce};
 ghost use Rattle.warp_block.specs.Advance.{IsQuiet};
 ghost use Rattle.warp_block.specs.Held.{lists_in};
 ghost use Rattle.warp_block.specs.Step.{source_at, net_at, log_at, emitted, sent, told, Extends, IsEmitted, IsPartlyEmitted};
@@ -36,7 +36,7 @@ impl Look {
         ensures floor { self.new.floor ≡ self.old.floor }
         ensures queues { self.new.queues ≡ self.old.queues }
         ensures mark { OnOk result (self.new.mark ≡ time + 1) }
-        ensures sends { OnOk result (Sends self.old self.new Plus (λ t. time < t) out.old.items out.new.items) }
+        ensures sends { OnOk result (SendsOnce self.old self.new Plus (λ t. time < t) out.old.items out.new.items) }
         ensures err { OnErr result (self.new ≡ self.old) }
         ensures untold { OnErr result (out.new.items ≡ out.old.items) }
     {

@@ -6,7 +6,7 @@ ghost use Rattle.warp_block.specs.Portion.{hears};
 ghost use Rattle.warp_block.specs.Entries.{effective_of};
 ghost use Rattle.warp_block.specs.Logs.{IsLog};
 ghost use Rattle.warp_block.specs.View.{effective_at};
-ghost use Rattle.warp_block.specs.Sends.{Sends};
+ghost use Rattle.warp_block.specs.Sends.{SendsOnce};
 ghost use Rattle.warp_block.specs.Receive.{IsPut};
 ghost use Rattle.warp_block.specs.Held.{lists_in};
 ghost use Rattle.warp_block.specs.Step.{source_at, log_at, since_time, sent, told, Extends, AreCut};
@@ -50,7 +50,7 @@ impl Look {
         requires within { time ≤ self.old.horizon }
         ensures put { OnOk result (IsPut self.old self.new (slice_index self.old.part.nets slot) time entry) }
         ensures mark { OnOk result (self.new.mark ≡ time) }
-        ensures sends { OnOk result (Sends self.old self.new Minus (λ t. time < t) out.old.items out.new.items) }
+        ensures sends { OnOk result (SendsOnce self.old self.new Minus (λ t. time < t) out.old.items out.new.items) }
         ensures err { OnErr result (self.new ≡ self.old) }
         ensures untold { OnErr result (out.new.items ≡ out.old.items) }
     {

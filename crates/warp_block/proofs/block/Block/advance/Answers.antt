@@ -1,14 +1,17 @@
-use Rattle.std.proofs.Common.{subst, arith}
+use Rattle.std.proofs.Common.{inl, refl, subst, arith}
 use Rattle.std.proofs.lemmas.Result.{err_from_is_err_and}
 use Rattle.warp_block.specs.View.{Process, IsEventTime}
 use Rattle.warp_block.specs.Lawful.{IsLawful}
-use Rattle.warp_block.proofs.SavingAdvance.{more_advanced, more_under_way, more_sent}
+use Rattle.warp_block.proofs.SavingAdvance.{none_advanced, none_sent, more_advanced, more_under_way, more_sent}
 use Rattle.warp_block.proofs.block.Block.advance.Goals as goal
 
 pub returns-in_err-step-clause-some : goal.returns-in_err-step-clause-some
 returns-in_err-step-clause-some c =
     let p = err_from_is_err_and c.from_residual.result c.from_residual.ensures.1 in
     rw (p.1) (c.loop-finished.finished, omega (arith, c.loop-finished-test.true), rw c.in_err-step.ensures.err c.loop-finished.invariant.advanced)
+
+pub loop-finished-init : goal.loop-finished-init
+loop-finished-init c = record { advanced = none_advanced c.args.self.now.seen; way = inl refl; sends = none_sent c.args.self.now.seen c.args.out.now.items }
 
 pub loop-finished-preserved : goal.loop-finished-preserved
 loop-finished-preserved c =

@@ -11,7 +11,7 @@ use Rattle.warp_block.specs.Lawful.{IsSaved, AreSaved}
 use Rattle.warp_block.specs.Receive.{IsPut, IsRefusal, refusal_of}
 use Rattle.warp_block.specs.Saving.{saved_of}
 use Rattle.warp_block.proofs.Slots.{slot_is}
-use Rattle.warp_block.proofs.Sending.{sends_none}
+use Rattle.warp_block.proofs.Sends.{once_nothing, same_logs, same_standing}
 use Rattle.warp_block.proofs.Receiving.{rolled, kept, rolled_saved, kept_saved, refused_memory, states_rise, saved_point, not_late}
 use Rattle.warp_block.proofs.block.Block.receive.Goals as goal
 
@@ -93,6 +93,13 @@ returns-clause-taken c =
     λ late. iff_false c.is_straggler.ensures c.if-is_straggler.false (subst (λ (n : ℕ). (c.args.message.time < v.mark) × (effective_of c.in-Ok.admitted.1 ≢ effective_at v n c.args.message.time)) (sym at) late) in
     rw (← c.self.view_is) (kept v c.take_in.new.self c.args.message c.in-Ok.admitted.0 c.in-Ok.admitted.1 a put c.in_ok-take_in.ensures.mark early)
 
+pub returns-then-is_straggler-clause-sends : goal.returns-then-is_straggler-clause-sends
+returns-then-is_straggler-clause-sends c = rw (← c.self.view_is) c.in_ok-roll_back.ensures.sends
+
 pub returns-clause-sends : goal.returns-clause-sends
 returns-clause-sends c =
-    rw (← c.self.view_is) (sends_none c.self.inside.look c.take_in.new.self Minus (λ t. c.args.message.time < t) c.args.out.now.items c.args.out.now.items c.in_ok-take_in.ensures.put.part c.in_ok-take_in.ensures.logs refl)
+    let v = c.self.inside.look in
+    let w = c.take_in.new.self in
+    let part = c.in_ok-take_in.ensures.put.part in
+    rw (← c.self.view_is) (once_nothing v w Minus (λ t. c.args.message.time < t) c.args.out.now.items c.args.out.now.items
+    (same_standing v w part (same_logs v w part c.in_ok-take_in.ensures.logs)) refl)

@@ -31,3 +31,6 @@ pub returns-clause-ok : goal.returns-clause-ok
 returns-clause-ok c =
     rw (← c.self.view_is) (one_advanced c.self.inside.look c.finish.new.self c.self.invariant.seen c.law.ensures c.finish.ensures.part c.finish.ensures.horizon c.finish.ensures.floor c.finish.ensures.queues
     c.args.time c.in_ok-finish.ensures.mark (rw (← c.self.view_is) at c.requires))
+
+pub returns-clause-sends : goal.returns-clause-sends
+returns-clause-sends c = rw (← c.self.view_is) c.in_ok-finish.ensures.sends
