@@ -1,0 +1,4 @@
+pub mod Inside
+pub mod Rule
+pub mod Seats
+pub mod Words
