@@ -34,3 +34,4 @@ pub mod PartWhole
 pub mod Receiving
 pub mod PartEquality
 pub mod Starting
+pub mod Laws

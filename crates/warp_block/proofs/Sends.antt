@@ -12,7 +12,7 @@ use Rattle.warp_block.specs.declared.message.Sign.{Sign}
 use Rattle.warp_block.specs.declared.message.Sign.TheVariants.{Plus, Minus}
 use Rattle.warp_block.specs.Portion.{Portion, of_net, readers_of}
 use Rattle.warp_block.specs.View.{View, log_of}
-use Rattle.warp_block.specs.Sends.{Place, is_change, is_message, is_told, same_sign, messages, antimessages, standing, IsSendOf, Sends, SendsOnce}
+use Rattle.warp_block.specs.Sends.{Place, is_change, is_message, is_told, same_sign, standing, IsSendOf, Sends, SendsOnce}
 use Rattle.warp_block.proofs.Told.{count-none}
 
 pub standing-le : (v : View) (p : Place) → standing v p ≤ 1
