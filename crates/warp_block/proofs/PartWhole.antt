@@ -1,10 +1,10 @@
 -- A part that was built is the circuit's, and has the law of parts.
-use Rattle.std.proofs.Common.{◌≡◌, ℕ, suc, ◌+◌, ◌<◌, ◌≤◌, ◌==◌, Bool, true, false, not, ◌&&◌, ◌||◌, cond, Option, Some, None, is_some, IsTrue, List, [], ◌∷◌, map, length, get_or, inl, inr, refl, ap, sym, ◌∙◌, arith}
+use Rattle.std.proofs.Common.{◌≡◌, ◌≢◌, ℕ, suc, ◌+◌, ◌<◌, ◌≤◌, ◌==◌, Bool, true, false, not, ◌&&◌, ◌||◌, cond, Option, Some, None, is_some, IsTrue, List, [], ◌∷◌, map, length, get_or, inl, inr, refl, ap, sym, ◌∙◌, arith}
 use Rattle.std.specs.List.{filter, list_any, range_with_len, All}
 use Rattle.std.specs.List.Sorted.{IsStrictlyIncreasing}
-use Rattle.std.proofs.lemmas.Bool.{cases_Bool, or_parts, or_cases}
+use Rattle.std.proofs.lemmas.Bool.{cases_Bool, or_parts, or_cases, and_parts, eq-eqb, true≢false}
 use Rattle.std.proofs.lemmas.List.{length-map, get_or-map, ext_get_or}
-use Rattle.std.proofs.lemmas.List.Elements.{filter_passes}
+use Rattle.std.proofs.lemmas.List.Elements.{All-weaker, filter_passes}
 use Rattle.gate_values.specs.Behaviour.{Source, Outside, IsWellFormed, delay_of}
 use Rattle.gate_netlist.specs.Circuit.{Design, IsCircuit, IsDriven, CutFits, nets_of, driver_of, source_of, source_by, is_input}
 use Rattle.gate_netlist.specs.Cut.{Ownership, owner_of}
@@ -124,6 +124,28 @@ module _ (d : Design) (cut : Ownership) (b : ℕ) where
           | inr other ↦ rw other (λ k l. absurd (omega (arith, l)))
         ]
 
+    -- the block isn't among the readers of a net
+    others : (n : ℕ) → All (λ r. r ≢ b) (part_readers d cut b n)
+    others n =
+        elim (cases_Bool (is_own cut b n)) [
+          | inl own ↦ rw own (All-weaker (λ c. test c ≡ true) (λ c. c ≢ b) other (filter test (range_with_len 0 cut.blocks)) (filter_passes test (range_with_len 0 cut.blocks)))
+          | inr foreign ↦ rw foreign (λ k e l. absurd (omega (arith, l)))
+        ]
+      where
+        test : ℕ → Bool
+        test c = not (c == b) && is_used_by d cut c n
+
+        other : (c : ℕ) → test c ≡ true → c ≢ b
+        other c passes same = (let apart = (and_parts (not (c == b)) (is_used_by d cut c n) passes).0 in absurd (true≢false (sym apart ∙ ap not (eq-eqb c b same))))
+
+    -- a net that the block doesn't own has no readers
+    untold : (n : ℕ) → n < nets_of d → part_source d cut b n ≡ Outside → part_readers d cut b n ≡ []
+    untold n l e =
+        elim (cases_Bool (is_own cut b n)) [
+          | inl own ↦ absurd (not_own n l e own)
+          | inr foreign ↦ rw foreign refl
+        ]
+
     pub IsPortion-part_of : IsPortion (part_of d cut b)
     IsPortion-part_of = record {
       few = omega (arith, nets_few d cut b, law.within);
@@ -135,6 +157,8 @@ module _ (d : Design) (cut : Ownership) (b : ℕ) where
       input = λ i l h. source_at i l ∙ input (net i) (sym (get_or-map (λ n. is_input (driver_of d n)) (part_nets d cut b) i 0 false l) ∙ h);
       read = λ i l e. read (net i) (nets_within d cut b i 0 l) (filter_passes (is_net d cut b) (range_with_len 0 (nets_of d)) i 0 l) (sym (source_at i l) ∙ e);
       told = λ i l. (let at = get_or-map (part_readers d cut b) (part_nets d cut b) i 0 [] l in rw at (readers_rise (net i)));
+      others = λ i l. (let at = get_or-map (part_readers d cut b) (part_nets d cut b) i 0 [] l in rw at (others (net i)));
+      untold = λ i l e. get_or-map (part_readers d cut b) (part_nets d cut b) i 0 [] l ∙ untold (net i) (nets_within d cut b i 0 l) (sym (source_at i l) ∙ e);
     }
 
 -- ---- the fields of a part

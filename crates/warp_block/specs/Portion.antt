@@ -1,5 +1,5 @@
 -- What a block has of a circuit: its own nets, and the nets that their gates read.
-use Rattle.std.specs.Prelude.{◌≡◌, ℕ, ◌<◌, ◌≤◌, ◌^◌, Bool, true, false, not, ◌&&◌, ◌==◌, Option, Some, None, is_some, IsTrue, List, [], ◌∷◌, length, get_or, slice_index}
+use Rattle.std.specs.Prelude.{◌≡◌, ◌≢◌, ℕ, ◌<◌, ◌≤◌, ◌^◌, Bool, true, false, not, ◌&&◌, ◌==◌, Option, Some, None, is_some, IsTrue, List, [], ◌∷◌, length, get_or, slice_index}
 use Rattle.std.specs.List.{list_any, position, All}
 use Rattle.std.specs.List.Sorted.{IsStrictlyIncreasing}
 use Rattle.gate_values.specs.Behaviour.{Source, Outside, Gate, Flop, IsWellFormed, delay_of}
@@ -73,7 +73,8 @@ is_used p n = list_any (does_use n) p.sources
 abbrev pub IsDelay : ℕ → Type 0
 IsDelay d = (1 ≤ d) × (d ≤ 1000000)
 
--- what is true of each part that a block can have
+-- What is true of each part that a block can have. The readers of a net ascend, the block isn't among them, and a net
+-- that it doesn't own has none.
 pub record IsPortion (p : Portion) : Type 0 where
   pub few : length p.nets < 2 ^ 32
   pub ascending : IsStrictlyIncreasing p.nets
@@ -84,3 +85,5 @@ pub record IsPortion (p : Portion) : Type 0 where
   pub input : (i : ℕ) → i < length p.nets → IsTrue (get_or p.inputs i false) → get_or p.sources i Outside ≡ Outside
   pub read : (i : ℕ) → i < length p.nets → get_or p.sources i Outside ≡ Outside → IsTrue (is_used p (slice_index p.nets i))
   pub told : (i : ℕ) → i < length p.nets → IsStrictlyIncreasing (get_or p.readers i [])
+  pub others : (i : ℕ) → i < length p.nets → All (λ r. r ≢ p.block) (get_or p.readers i [])
+  pub untold : (i : ℕ) → i < length p.nets → get_or p.sources i Outside ≡ Outside → get_or p.readers i [] ≡ []
