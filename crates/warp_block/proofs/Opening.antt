@@ -11,6 +11,7 @@ use Rattle.gate_values.proofs.Unknown.{unknown_before}
 use Rattle.gate_vcd.specs.Given.{Given}
 use Rattle.gate_vcd.proofs.Keeping.{changes-none}
 use Rattle.warp_block.specs.Entries.{IsQueue}
+use Rattle.warp_block.specs.Limits.{most_horizon}
 use Rattle.warp_block.specs.Portion.{Portion, IsPortion, is_driven, is_input, owns, source_of}
 use Rattle.warp_block.specs.View.{View, effective_at}
 use Rattle.warp_block.specs.Lawful.{IsLawful, lawful_log}
@@ -49,7 +50,7 @@ module _ (p : Portion) (is : IsPortion p) (stimulus : Given) (horizon : ℕ) whe
           let outside = is.input i h (sym (of_net-at p.nets p.inputs false i is.ascending h) ∙ e) in
           absurd (true≢false (sym own ∙ (ap is_driven (of_net-at p.nets p.sources Outside i is.ascending h) ∙ ap is_driven outside)))
 
-  pub opening_lawful : horizon ≤ 1000000000000 → All IsQueue (map (opening_queue p stimulus horizon) p.nets) → IsLawful (opening_view p stimulus horizon)
+  pub opening_lawful : horizon ≤ most_horizon → All IsQueue (map (opening_queue p stimulus horizon) p.nets) → IsLawful (opening_view p stimulus horizon)
   opening_lawful end queues = record {
     part = is;
     horizon = end;

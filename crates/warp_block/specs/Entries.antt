@@ -1,6 +1,7 @@
 -- What a block has received of a net at a time: for each value the messages less the antimessages.
 use Rattle.std.specs.Prelude.{◌≢◌, ℕ, ◌<◌, ℤ, pos, negsuc, neg_ℤ, ◌+ℤ◌, int_lt, int_le, Bool, ◌&&◌, ◌==◌, if◌then◌else◌, Option, Some, None, List, [], ◌∷◌, length, slice_index_or}
 use Rattle.std.specs.List.{All}
+use Rattle.std.specs.Ordering.{int_eq}
 use Rattle.gate_values.specs.declared.logic.Logic.{Logic}
 use Rattle.gate_values.specs.declared.logic.Logic.TheVariants.{Zero, One, X, Z}
 use Rattle.warp_block.specs.declared.message.Sign.{Sign}
@@ -37,6 +38,10 @@ with_number e Z k = record e { z = k }
 -- one message of the value stands
 abbrev pub one_message : Logic → Entry
 one_message v = with_number no_messages v (pos 1)
+
+-- the two entries have the same numbers
+abbrev pub same_entry : Entry → Entry → Bool
+same_entry a b = int_eq a.zero b.zero && int_eq a.one b.one && int_eq a.x b.x && int_eq a.z b.z
 
 -- what a message, or an antimessage, counts
 abbrev pub weight_of : Sign → ℤ

@@ -7,6 +7,7 @@ use Rattle.gate_values.specs.Behaviour.{delay_of}
 use Rattle.gate_values.specs.Changes.{changes, before_time}
 use Rattle.warp_block.specs.declared.state.TheConstants.{SAVE_EVERY}
 use Rattle.warp_block.specs.Entries.{IsQueue}
+use Rattle.warp_block.specs.Limits.{most_horizon}
 use Rattle.warp_block.specs.Portion.{IsPortion, source_of, owns}
 use Rattle.warp_block.specs.View.{View, Saved, Process, block_value, moment_before, busy_times, is_busy}
 
@@ -18,7 +19,7 @@ lawful_log v n =
 -- Entries and mark determine the logs.
 pub record IsLawful (v : View) : Type 0 where
   pub part : IsPortion v.part
-  pub horizon : v.horizon ≤ 1000000000000
+  pub horizon : v.horizon ≤ most_horizon
   pub queues : length v.queues ≡ length v.part.nets
   pub ordered : All IsQueue v.queues
   pub own : (i : ℕ) → i < length v.part.nets → IsTrue (owns v.part (get_or v.part.nets i 0)) → get_or v.queues i [] ≡ []

@@ -1,4 +1,5 @@
 pub mod Entries
+pub mod Limits
 pub mod Portion
 pub mod View
 pub mod Lawful
@@ -16,4 +17,5 @@ pub mod HeldBlock
 pub mod Opening
 pub mod Receive
 pub mod Advance
+pub mod Commit
 pub mod Step

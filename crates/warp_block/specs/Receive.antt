@@ -5,7 +5,7 @@ use Rattle.gate_values.specs.Changes.{same}
 use Rattle.warp_block.specs.declared.entry.Entry.{Entry}
 use Rattle.warp_block.specs.declared.message.Message.{Message}
 use Rattle.warp_block.specs.declared.fault.BlockFault.{BlockFault}
-use Rattle.warp_block.specs.declared.fault.BlockFault.TheVariants.{WrongNet, PastHorizon, BelowFloor, CountLimit, Memory}
+use Rattle.warp_block.specs.declared.fault.BlockFault.TheVariants.{WrongNet, PastHorizon, BelowFloor, CountLimit, Memory, FloorBack, Unprocessed, Unsettled}
 use Rattle.warp_block.specs.Entries.{number_of, bump_of, weight_of}
 use Rattle.warp_block.specs.Portion.{Portion, hears, slot_of}
 use Rattle.warp_block.specs.View.{View, entry_of, effective_at}
@@ -23,9 +23,12 @@ refusal_of v m =
     else if is_none (bump_of (entry_of v m.net m.time) m.value m.sign) then Some CountLimit
     else None
 
--- a refusal that is answered; want of memory alone is no matter of the message
+-- a refusal that is answered; want of memory alone is no matter of the message, and the rest are causes of a commit
 abbrev pub IsRefusal : Option BlockFault → BlockFault → Type 0
 IsRefusal refusal Memory = refusal ≡ None
+IsRefusal refusal FloorBack = ⊥
+IsRefusal refusal Unprocessed = ⊥
+IsRefusal refusal (Unsettled net time) = ⊥
 IsRefusal refusal fault = refusal ≡ Some fault
 
 -- a message that isn't refused names the net at a place, and leaves this entry there

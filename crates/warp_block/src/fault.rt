@@ -22,6 +22,16 @@ pub enum BlockFault {
     /// A growth was refused.
     #[error("Memory")]
     Memory,
+    /// The floor would go back.
+    #[error("FloorBack")]
+    FloorBack,
+    /// An event time is below the floor that was asked for.
+    #[error("Unprocessed")]
+    Unprocessed,
+    /// The entry of this net at this time, below the floor that was asked for, isn't settled: messages and antimessages
+    /// on it are under way.
+    #[error("Unsettled")]
+    Unsettled { net: u32, time: u64 },
 }
 
 impl From<AllocError> for BlockFault {

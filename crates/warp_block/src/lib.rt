@@ -25,7 +25,7 @@ mod state;
 pub use block::Block;
 pub use entry::Entry;
 pub use fault::BlockFault;
-pub use look::Look;
+pub use look::{Look, MOST_HORIZON};
 pub use message::{Message, Sign};
 pub use part::Part;
 pub use state::SAVE_EVERY;

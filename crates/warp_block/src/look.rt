@@ -1,4 +1,5 @@
 ghost use Rattle.std.specs.Prelude.{◌≡◌, ◌≢◌, ◌≤◌, ◌<◌, ◌+◌, ℕ, ◌↔◌, IsTrue, IfOk, OnOk, OnErr, IsSome, if◌then◌else◌, length, slice_index};
+ghost use Rattle.warp_block.specs.Limits.{most_horizon};
 ghost use Rattle.warp_block.specs.declared.message.Sign.TheVariants.{Plus, Minus};
 ghost use Rattle.warp_block.specs.Entries.{no_messages, IsQueue};
 ghost use Rattle.warp_block.specs.Portion.{owns, slot_of, is_driven, is_used};
@@ -25,6 +26,9 @@ use gate_values::{Change, Logic};
 use gate_vcd::Stimulus;
 use std::alloc::{AllocError, Global};
 use std::marker::Model;
+
+/// No horizon is later.
+pub const MOST_HORIZON: u64 = 1_000_000_000_000;
 
 /// What a block holds, apart from its saved states: what it has received, what it has computed from that, and how
 /// far it has come. Times are in the stimulus's timescale.
@@ -59,7 +63,7 @@ impl Look {
         stimulus: &Stimulus,
         horizon: u64,
     ) -> Result<Look, AllocError>
-        requires { horizon ≤ 1000000000000 }
+        requires { horizon ≤ most_horizon }
         ensures { IfOk result (λ look. look ≡ opening_view part stimulus.now horizon) }
     {
         let mut queues = Vec::with_capacity(alloc, part.len())?;

@@ -1,5 +1,6 @@
 ghost use Rattle.std.specs.Prelude.{◌≡◌, IsTrue, [], ◌≤◌, ◌<◌, ◌+◌, ◌++◌, ℕ, OnOk, OnErr, length, vec_len, map, get_or};
 ghost use Rattle.std.specs.List.{flat_map};
+ghost use Rattle.warp_block.specs.Limits.{most_horizon};
 ghost use Rattle.warp_block.specs.declared.message.Sign.TheVariants.{Plus};
 ghost use Rattle.warp_block.specs.Portion.{is_driven};
 ghost use Rattle.warp_block.specs.Moments.{moment_of};
@@ -68,7 +69,7 @@ fn emit_all(
     requires contents { vec_len state.now.contents ≡ length part.now.nets }
     requires logs { vec_len logs.old ≡ length part.now.nets }
     requires time { time ≤ horizon }
-    requires horizon { horizon ≤ 1000000000000 }
+    requires horizon { horizon ≤ most_horizon }
     ensures ok { OnOk result (IsEmitted part.now (moment_of part.now.nets state.now.values.items state.now.contents.items) time horizon
         (length part.now.nets) (lists_in logs.old.items) (lists_in logs.new.items)) }
     ensures sends { OnOk result (out.new.items ≡ out.old.items ++ told Plus part.now
@@ -106,7 +107,7 @@ fn emit(
     requires values { vec_len state.now.values ≡ length part.now.nets }
     requires contents { vec_len state.now.contents ≡ length part.now.nets }
     requires time { time ≤ horizon }
-    requires horizon { horizon ≤ 1000000000000 }
+    requires horizon { horizon ≤ most_horizon }
     ensures log { OnOk result (log.new.items ≡ log.old.items
         ++ emitted part.now (moment_of part.now.nets state.now.values.items state.now.contents.items) slot log.old.items time horizon) }
     ensures sends { OnOk result (out.new.items ≡ out.old.items ++ flat_map (sent Plus (net_at part.now slot) (get_or part.now.readers slot []))

@@ -1,6 +1,7 @@
 ghost use Rattle.std.specs.Prelude.{◌≡◌, ◌≤◌, ◌<◌, ◌+◌, ◌++◌, ◌⊎◌, ℕ, IsTrue, OnOk, OnErr, length, vec_len, slice_index};
 ghost use Rattle.std.specs.List.{All, flat_map};
 ghost use Rattle.gate_values.specs.Behaviour.{delay_of};
+ghost use Rattle.warp_block.specs.Limits.{most_horizon};
 ghost use Rattle.warp_block.specs.declared.message.Sign.TheVariants.{Minus};
 ghost use Rattle.warp_block.specs.Portion.{hears};
 ghost use Rattle.warp_block.specs.Entries.{effective_of};
@@ -85,7 +86,7 @@ fn take_back_all(
 ) -> Result<(), AllocError>
     requires logs { length logs.now ≡ length part.now.nets }
     requires rising { All IsLog (lists_in logs.now) }
-    requires mark { mark ≤ 1000000000000 }
+    requires mark { mark ≤ most_horizon }
     ensures ok { OnOk result (out.new.items ≡ out.old.items ++ told Minus part.now
         (λ i. since_time (mark + delay_of (source_at part.now i)) (log_at (lists_in logs.now) i)) (length part.now.nets)) }
     ensures extends { Extends out.old.items out.new.items }
@@ -118,7 +119,7 @@ fn take_back(
 pub(super) fn cut_all(part: &Part, logs: &mut Vec<Vec<Change>>, mark: u64)
     requires logs { vec_len logs.old ≡ length part.now.nets }
     requires rising { All IsLog (lists_in logs.old.items) }
-    requires mark { mark ≤ 1000000000000 }
+    requires mark { mark ≤ most_horizon }
     ensures logs { AreCut part.now mark (length part.now.nets) (lists_in logs.old.items) (lists_in logs.new.items) }
     ensures len { vec_len logs.new ≡ vec_len logs.old }
 {
