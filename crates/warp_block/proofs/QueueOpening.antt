@@ -9,8 +9,7 @@ use Rattle.gate_values.specs.declared.logic.Change.{Change}
 use Rattle.gate_values.specs.Changes.{before_time}
 use Rattle.gate_vcd.specs.Lists.{IsRising}
 use Rattle.warp_block.specs.declared.entry.Entry.{Entry}
-use Rattle.warp_block.specs.declared.queue.Timed.{Timed}
-use Rattle.warp_block.specs.Entries.{no_messages, one_message, IsQueue}
+use Rattle.warp_block.specs.Entries.{Received, no_messages, one_message, IsQueue}
 use Rattle.warp_block.specs.Opening.{message_of}
 use Rattle.warp_block.proofs.Rising.{rising-not_falling, filter-front}
 
@@ -48,5 +47,5 @@ opening-queue cs i rising = record {
       let b : get_or (map message_of front) k d ≡ message_of (get_or cs k c) = get_or-map message_of front k c d (omega arith) ∙ ap message_of (get_or-take i cs k c (omega arith)) in
       let times : (get_or cs j c).time < (get_or cs k c).time = rising j k c h (omega arith) in
       rw (a, b) times);
-  kept = All-map (λ (e : Timed). e.entry ≢ no_messages) message_of (take i cs) (λ k d l. one_message-stands (get_or (take i cs) k d).value);
+  kept = All-map (λ (e : Received). e.entry ≢ no_messages) message_of (take i cs) (λ k d l. one_message-stands (get_or (take i cs) k d).value);
 }

@@ -8,41 +8,40 @@ use Rattle.gate_values.specs.declared.logic.Logic.{Logic}
 use Rattle.gate_values.specs.declared.logic.Logic.TheVariants.{X}
 use Rattle.gate_values.specs.Changes.{held}
 use Rattle.warp_block.specs.declared.entry.Entry.{Entry}
-use Rattle.warp_block.specs.declared.queue.Timed.{Timed}
-use Rattle.warp_block.specs.Entries.{entry_in, effective_in, effective_of, no_messages, IsQueue}
+use Rattle.warp_block.specs.Entries.{Received, entry_in, effective_in, effective_of, no_messages, IsQueue}
 use Rattle.warp_block.specs.View.{IsLeast}
 use Rattle.warp_block.proofs.Rising.{Rises, rising-not_falling}
 
-abbrev pub time_of : Timed → ℕ
+abbrev pub time_of : Received → ℕ
 time_of e = e.time
 
 -- no entry of the queue is that of the time
-abbrev pub Lacks : List Timed → ℕ → Type 0
-Lacks es t = All (λ (e : Timed). e.time ≢ t) es
+abbrev pub Lacks : List Received → ℕ → Type 0
+Lacks es t = All (λ (e : Received). e.time ≢ t) es
 
-abbrev pub IsPlaced : List Timed → ℕ → Type 0
-IsPlaced es t = (i : ℕ) × (i < length es) × ((d : Timed) → (get_or es i d).time ≡ t) × ((d : Timed) → (get_or es i d).entry ≡ entry_in es t)
+abbrev pub IsPlaced : List Received → ℕ → Type 0
+IsPlaced es t = (i : ℕ) × (i < length es) × ((d : Received) → (get_or es i d).time ≡ t) × ((d : Received) → (get_or es i d).entry ≡ entry_in es t)
 
-pub entry_in-none : (es : List Timed) (t : ℕ) → Lacks es t → entry_in es t ≡ no_messages
+pub entry_in-none : (es : List Received) (t : ℕ) → Lacks es t → entry_in es t ≡ no_messages
 entry_in-none [] t h = refl
 entry_in-none (e ∷ es) t h = rw (ne_eqb e.time t (h 0 e (omega arith))) (entry_in-none es t (λ k d l. h (suc k) d (omega arith)))
 
-place_step : (e : Timed) (es : List Timed) (t : ℕ) → (entry_in es t ≡ no_messages) ⊎ IsPlaced es t → (entry_in (e ∷ es) t ≡ no_messages) ⊎ IsPlaced (e ∷ es) t
+place_step : (e : Received) (es : List Received) (t : ℕ) → (entry_in es t ≡ no_messages) ⊎ IsPlaced es t → (entry_in (e ∷ es) t ≡ no_messages) ⊎ IsPlaced (e ∷ es) t
 place_step e es t later = go (nat_eq e.time t) refl later
   where
     go : (b : Bool) → nat_eq e.time t ≡ b → (entry_in es t ≡ no_messages) ⊎ IsPlaced es t
-        → (cond b e.entry (entry_in es t) ≡ no_messages) ⊎ ((i : ℕ) × (i < suc (length es)) × ((d : Timed) → (get_or (e ∷ es) i d).time ≡ t) × ((d : Timed) → (get_or (e ∷ es) i d).entry ≡ cond b e.entry (entry_in es t)))
+        → (cond b e.entry (entry_in es t) ≡ no_messages) ⊎ ((i : ℕ) × (i < suc (length es)) × ((d : Received) → (get_or (e ∷ es) i d).time ≡ t) × ((d : Received) → (get_or (e ∷ es) i d).entry ≡ cond b e.entry (entry_in es t)))
     go true is later = inr (0, omega arith, λ d. eqb-true e.time t is, λ d. refl)
     go false is (inl none) = inl none
     go false is (inr (i, l, at, entry)) = inr (suc i, omega (arith, l), at, entry)
 
 -- an entry is empty, or it stands at a place
-pub entry_in-place : (es : List Timed) (t : ℕ) → (entry_in es t ≡ no_messages) ⊎ IsPlaced es t
+pub entry_in-place : (es : List Received) (t : ℕ) → (entry_in es t ≡ no_messages) ⊎ IsPlaced es t
 entry_in-place [] t = inl refl
 entry_in-place (e ∷ es) t = place_step e es t (entry_in-place es t)
 
 -- where a place has the time, it has the entry
-pub entry_in-at : (es : List Timed) (i t : ℕ) (d : Timed) → Rises time_of es → i < length es → (get_or es i d).time ≡ t → (get_or es i d).entry ≡ entry_in es t
+pub entry_in-at : (es : List Received) (i t : ℕ) (d : Received) → Rises time_of es → i < length es → (get_or es i d).time ≡ t → (get_or es i d).entry ≡ entry_in es t
 entry_in-at [] i t d r l e = absurd (omega arith)
 entry_in-at (x ∷ es) zero t d r l e = rw (eq-eqb x.time t e) refl
 entry_in-at (x ∷ es) (suc i) t d r l e =
@@ -51,7 +50,7 @@ entry_in-at (x ∷ es) (suc i) t d r l e =
     rw (ne_eqb x.time t other) (entry_in-at es i t d (λ a b z h k. r (suc a) (suc b) z (omega arith) (omega arith)) (omega arith) e)
 
 -- no place has the time, where the first that isn't before it is past it
-pub lacks-split : (es : List Timed) (t i : ℕ) → Rises time_of es → IsPartitionPoint (λ e. e.time < t) (λ e. t ≤ e.time) es i → ((d : Timed) → i < length es → (get_or es i d).time ≢ t) → Lacks es t
+pub lacks-split : (es : List Received) (t i : ℕ) → Rises time_of es → IsPartitionPoint (λ e. e.time < t) (λ e. t ≤ e.time) es i → ((d : Received) → i < length es → (get_or es i d).time ≢ t) → Lacks es t
 lacks-split es t i r split other k d l = elim (cases_lt k i) [
   | inl lt ↦ (let b : (get_or es k d).time < t = split.0 k d (omega arith) lt in omega arith)
   | inr ge ↦ (let a : t ≤ (get_or es i d).time = split.1 i d (omega arith) (omega arith) in
@@ -60,38 +59,38 @@ lacks-split es t i r split other k d l = elim (cases_lt k i) [
       omega arith)
 ]
 
-pub not_below : (es : List Timed) (t i j : ℕ) (d : Timed) → IsPartitionPoint (λ e. e.time < t) (λ e. t ≤ e.time) es i → t ≤ (get_or es j d).time → i ≤ j
+pub not_below : (es : List Received) (t i j : ℕ) (d : Received) → IsPartitionPoint (λ e. e.time < t) (λ e. t ≤ e.time) es i → t ≤ (get_or es j d).time → i ≤ j
 not_below es t i j d split h = elim (cases_lt j i) [
   | inl lt ↦ (let b : (get_or es j d).time < t = split.0 j d (omega arith) lt in absurd (omega arith))
   | inr ge ↦ ge
 ]
 
-abbrev pub nothing : Timed
+abbrev pub nothing : Received
 nothing = record { time = 0; entry = no_messages }
 
 -- from a time on, nothing of some kind stands, as at no place from the first on that isn't before the time
-pub none_from : (P : Entry → Type 0) (es : List Timed) (t i : ℕ) → IsPartitionPoint (λ e. e.time < t) (λ e. t ≤ e.time) es i → (P no_messages → ⊥)
-    → ((k : ℕ) (d : Timed) → i ≤ k → k < length es → P (get_or es k d).entry → ⊥) → (u : ℕ) → t ≤ u → P (entry_in es u) → ⊥
+pub none_from : (P : Entry → Type 0) (es : List Received) (t i : ℕ) → IsPartitionPoint (λ e. e.time < t) (λ e. t ≤ e.time) es i → (P no_messages → ⊥)
+    → ((k : ℕ) (d : Received) → i ≤ k → k < length es → P (get_or es k d).entry → ⊥) → (u : ℕ) → t ≤ u → P (entry_in es u) → ⊥
 none_from P es t i split empty none u le h = elim (entry_in-place es u) [
   | inl e ↦ empty (subst P e h)
   | inr (k, l, at, entry) ↦ none k nothing (not_below es t i k nothing split (subst (λ (s : ℕ). t ≤ s) (sym (at nothing)) le)) l (subst P (sym (entry nothing)) h)
 ]
 
 -- the least time from a time on at which something of a kind stands
-pub least_from : (P : Entry → Type 0) (es : List Timed) (t i j : ℕ) (e : Timed) → Rises time_of es → IsPartitionPoint (λ e. e.time < t) (λ e. t ≤ e.time) es i → (P no_messages → ⊥)
-    → i ≤ j → j < length es → e ≡ get_or es j e → P e.entry → ((k : ℕ) (d : Timed) → i ≤ k → k < j → P (get_or es k d).entry → ⊥)
+pub least_from : (P : Entry → Type 0) (es : List Received) (t i j : ℕ) (e : Received) → Rises time_of es → IsPartitionPoint (λ e. e.time < t) (λ e. t ≤ e.time) es i → (P no_messages → ⊥)
+    → i ≤ j → j < length es → e ≡ get_or es j e → P e.entry → ((k : ℕ) (d : Received) → i ≤ k → k < j → P (get_or es k d).entry → ⊥)
     → IsLeast (λ u. (t ≤ u) × P (entry_in es u)) (Some e.time)
 least_from P es t i j e r split empty from l is here none = (
   (
-    subst (λ (x : Timed). t ≤ x.time) (sym is) (split.1 j e from l),
-    subst P (ap (λ (x : Timed). x.entry) is ∙ entry_in-at es j e.time e r l (ap (λ (x : Timed). x.time) (sym is))) here,
+    subst (λ (x : Received). t ≤ x.time) (sym is) (split.1 j e from l),
+    subst P (ap (λ (x : Received). x.entry) is ∙ entry_in-at es j e.time e r l (ap (λ (x : Received). x.time) (sym is))) here,
   ),
   λ u h. elim (entry_in-place es u) [
     | inl none_there ↦ absurd (empty (subst P none_there h.1))
     | inr (k, lk, at, entry) ↦
         (let first : i ≤ k = not_below es t i k e split (subst (λ (s : ℕ). t ≤ s) (sym (at e)) h.0) in
         let time_k : (get_or es k e).time ≡ u = at e in
-        let time_j : (get_or es j e).time ≡ e.time = ap (λ (x : Timed). x.time) (sym is) in
+        let time_j : (get_or es j e).time ≡ e.time = ap (λ (x : Received). x.time) (sym is) in
         elim (cases_lt k j) [
           | inl lt ↦ absurd (none k e first lt (subst P (sym (entry e)) h.1))
           | inr ge ↦ (let order : (get_or es j e).time ≤ (get_or es k e).time = rising-not_falling time_of es r j k e ge lk in omega arith)
@@ -114,25 +113,25 @@ held-nothing at zero none = rw (none 0 (omega arith)) refl
 held-nothing at (suc t) none = rw (none (suc t) (omega arith)) (held-nothing at t (λ u l. none u (omega arith)))
 
 -- the entries from a place on, as far as they aren't past a time, have no effective value
-pub record IsIdleFrom (es : List Timed) (t i : ℕ) : Type 0 where
+pub record IsIdleFrom (es : List Received) (t i : ℕ) : Type 0 where
   pub within : i ≤ length es
-  pub later : (k : ℕ) (d : Timed) → i ≤ k → k < length es → (t < (get_or es k d).time) ⊎ (effective_of (get_or es k d).entry ≡ None)
-  pub earlier : (k : ℕ) (d : Timed) → k < i → (get_or es k d).time ≤ t
+  pub later : (k : ℕ) (d : Received) → i ≤ k → k < length es → (t < (get_or es k d).time) ⊎ (effective_of (get_or es k d).entry ≡ None)
+  pub earlier : (k : ℕ) (d : Received) → k < i → (get_or es k d).time ≤ t
 
-pub idle-start : (es : List Timed) (t n : ℕ) → n ≤ length es → IsPartitionPoint (λ e. e.time ≤ t) (λ e. t < e.time) es n → IsIdleFrom es t n
+pub idle-start : (es : List Received) (t n : ℕ) → n ≤ length es → IsPartitionPoint (λ e. e.time ≤ t) (λ e. t < e.time) es n → IsIdleFrom es t n
 idle-start es t n l split = record { within = l; later = λ k d a b. inl (split.1 k d a b); earlier = λ k d a. split.0 k d (omega arith) a }
 
-pub idle-more : (es : List Timed) (t i j : ℕ) → IsIdleFrom es t i → i ≡ suc j → effective_of (get_or es j nothing).entry ≡ None → IsIdleFrom es t j
+pub idle-more : (es : List Received) (t i j : ℕ) → IsIdleFrom es t i → i ≡ suc j → effective_of (get_or es j nothing).entry ≡ None → IsIdleFrom es t j
 idle-more es t i j idle same none = record {
   within = (let w = idle.within in omega arith);
   later = λ k d a b. elim (cases_eq k j) [
-    | inl here ↦ inr (rw here (ap (λ (x : Timed). effective_of x.entry) (get_or_default es j d nothing (let w = idle.within in omega arith)) ∙ none))
+    | inl here ↦ inr (rw here (ap (λ (x : Received). effective_of x.entry) (get_or_default es j d nothing (let w = idle.within in omega arith)) ∙ none))
     | inr other ↦ idle.later k d (omega arith) b
   ];
   earlier = λ k d a. idle.earlier k d (omega arith);
 }
 
-idle_at : (es : List Timed) (t i u : ℕ) → IsIdleFrom es t i → u ≤ t → ((k : ℕ) (d : Timed) → k < i → (get_or es k d).time ≢ u) → effective_in es u ≡ None
+idle_at : (es : List Received) (t i u : ℕ) → IsIdleFrom es t i → u ≤ t → ((k : ℕ) (d : Received) → k < i → (get_or es k d).time ≢ u) → effective_in es u ≡ None
 idle_at es t i u idle le other = elim (entry_in-place es u) [
   | inl e ↦ rw e refl
   | inr (k, l, at, entry) ↦
@@ -147,10 +146,10 @@ idle_at es t i u idle le other = elim (entry_in-place es u) [
 ]
 
 -- the value of the last of the other places, if it has one, is held
-pub held-at_place : (es : List Timed) (t i j : ℕ) (v : Logic) → Rises time_of es → IsIdleFrom es t i → i ≡ suc j → effective_of (get_or es j nothing).entry ≡ Some v → v ≡ held (effective_in es) t
+pub held-at_place : (es : List Received) (t i j : ℕ) (v : Logic) → Rises time_of es → IsIdleFrom es t i → i ≡ suc j → effective_of (get_or es j nothing).entry ≡ Some v → v ≡ held (effective_in es) t
 held-at_place es t i j v r idle same some =
     let within : i ≤ length es = idle.within in
-    let e : Timed = get_or es j nothing in
+    let e : Received = get_or es j nothing in
     let early : e.time ≤ t = idle.earlier j nothing (omega arith) in
     let here : effective_in es e.time ≡ Some v = ap effective_of (sym (entry_in-at es j e.time nothing r (omega arith) refl)) ∙ some in
     sym (held-here (effective_in es) v e.time t early here
@@ -159,15 +158,15 @@ held-at_place es t i j v r idle same some =
     let now : (get_or es k d).time ≡ (get_or es k nothing).time = ap time_of (get_or_default es k d nothing (omega arith)) in
     absurd (omega arith)))))
 
-pub held-nowhere : (es : List Timed) (t : ℕ) → IsIdleFrom es t 0 → X ≡ held (effective_in es) t
+pub held-nowhere : (es : List Received) (t : ℕ) → IsIdleFrom es t 0 → X ≡ held (effective_in es) t
 held-nowhere es t idle = sym (held-nothing (effective_in es) t (λ u le. idle_at es t 0 u idle le (λ k d lt at. absurd (omega arith))))
 
 -- ---- the least time with an effective value
-pub effective-first : (es rest : List Timed) (t i k : ℕ) (d : Timed) → IsQueue es → IsPartitionPoint (λ e. e.time < t) (λ e. t ≤ e.time) es i → rest ≡ drop i es → k < length rest
-    → IsSome (effective_of (get_or rest k d).entry) → ((m : ℕ) (e : Timed) → m < k → effective_of (get_or rest m e).entry ≡ None) → IsLeast (λ u. (t ≤ u) × IsSome (effective_in es u)) (Some (get_or rest k d).time)
+pub effective-first : (es rest : List Received) (t i k : ℕ) (d : Received) → IsQueue es → IsPartitionPoint (λ e. e.time < t) (λ e. t ≤ e.time) es i → rest ≡ drop i es → k < length rest
+    → IsSome (effective_of (get_or rest k d).entry) → ((m : ℕ) (e : Received) → m < k → effective_of (get_or rest m e).entry ≡ None) → IsLeast (λ u. (t ≤ u) × IsSome (effective_in es u)) (Some (get_or rest k d).time)
 effective-first es rest t i k d queue split same l some idle =
     let size : length rest ≡ length es - i = ap length same ∙ length-drop i es in
-    let read : (m : ℕ) (e : Timed) → get_or rest m e ≡ get_or es (i + m) e = λ m e. ap (λ (xs : List Timed). get_or xs m e) same ∙ get_or-drop i es m e in
+    let read : (m : ℕ) (e : Received) → get_or rest m e ≡ get_or es (i + m) e = λ m e. ap (λ (xs : List Received). get_or xs m e) same ∙ get_or-drop i es m e in
     let inside : i + k < length es = omega arith in
     least_from (λ (e : Entry). IsSome (effective_of e)) es t i (i + k) (get_or rest k d) queue.in_order split (λ h. false≢true h) (omega arith) inside
     (read k d ∙ get_or_default es (i + k) d (get_or rest k d) inside) some
@@ -177,13 +176,13 @@ effective-first es rest t i k d queue split same l some idle =
     let here : get_or rest (m - i) e ≡ get_or es m e = read (m - i) e ∙ ap (λ (n : ℕ). get_or es n e) back in
     false≢true (rw (rw here at none) at h)))
 
-pub effective-nowhere : (es rest : List Timed) (t i : ℕ) → IsPartitionPoint (λ e. e.time < t) (λ e. t ≤ e.time) es i → i ≤ length es → rest ≡ drop i es
-    → ((m : ℕ) (e : Timed) → m < length rest → effective_of (get_or rest m e).entry ≡ None) → (u : ℕ) → (t ≤ u) × IsSome (effective_in es u) → ⊥
+pub effective-nowhere : (es rest : List Received) (t i : ℕ) → IsPartitionPoint (λ e. e.time < t) (λ e. t ≤ e.time) es i → i ≤ length es → rest ≡ drop i es
+    → ((m : ℕ) (e : Received) → m < length rest → effective_of (get_or rest m e).entry ≡ None) → (u : ℕ) → (t ≤ u) × IsSome (effective_in es u) → ⊥
 effective-nowhere es rest t i split within same idle u h =
     let size : length rest ≡ length es - i = ap length same ∙ length-drop i es in
     none_from (λ (e : Entry). IsSome (effective_of e)) es t i split (λ h. false≢true h)
     (λ m e from lt h.
     (let back : i + (m - i) ≡ m = omega arith in
     let none : effective_of (get_or rest (m - i) e).entry ≡ None = idle (m - i) e (omega arith) in
-    let here : get_or rest (m - i) e ≡ get_or es m e = ap (λ (xs : List Timed). get_or xs (m - i) e) same ∙ (get_or-drop i es (m - i) e ∙ ap (λ (n : ℕ). get_or es n e) back) in
+    let here : get_or rest (m - i) e ≡ get_or es m e = ap (λ (xs : List Received). get_or xs (m - i) e) same ∙ (get_or-drop i es (m - i) e ∙ ap (λ (n : ℕ). get_or es n e) back) in
     false≢true (rw (rw here at none) at h))) u h.0 h.1

@@ -10,10 +10,9 @@ use Rattle.gate_values.specs.Behaviour.{Source, value, delay_of}
 use Rattle.gate_values.specs.Changes.{before_time, changes}
 use Rattle.gate_values.proofs.ChangeLists.{before_time-changes}
 use Rattle.warp_block.specs.declared.entry.Entry.{Entry}
-use Rattle.warp_block.specs.declared.queue.Timed.{Timed}
 use Rattle.warp_block.specs.declared.message.Message.{Message}
 use Rattle.warp_block.specs.declared.message.Sign.TheVariants.{Minus}
-use Rattle.warp_block.specs.Entries.{IsQueue, entry_in, effective_of}
+use Rattle.warp_block.specs.Entries.{Received, IsQueue, entry_in, effective_of}
 use Rattle.warp_block.specs.Logs.{IsLog}
 use Rattle.warp_block.specs.Portion.{is_driven, source_of, owns, hears, reads, is_input, slot_of, at_slot, of_net}
 use Rattle.warp_block.specs.View.{View, entry_of, effective_at}
@@ -77,12 +76,12 @@ run_log-within source at mark horizon n = go (is_driven (source n))
         (λ k d l. (let short = changes-before (value source (given at) n) (min (mark + delay_of (source n)) (horizon + 1)) k d l in omega (arith, short)))
 
 module _ (v : View) (is : IsLawful v) (slot : ℕ) (in_nets : slot < length v.part.nets) (time : ℕ) (entry : Entry)
-    (queue : List Timed) (queue_is : IsQueue queue)
+    (queue : List Received) (queue_is : IsQueue queue)
     (put : (t : ℕ) → entry_in queue t ≡ cond (t == time) entry (entry_in (get_or v.queues slot []) t)) where
   abbrev net : ℕ
   net = get_or v.part.nets slot 0
 
-  abbrev queues : List (List Timed)
+  abbrev queues : List (List Received)
   queues = set v.queues slot queue
 
   in_queues : slot < length v.queues
@@ -103,11 +102,11 @@ module _ (v : View) (is : IsLawful v) (slot : ℕ) (in_nets : slot < length v.pa
   pub put_entries : (n t : ℕ) → entry_in (of_net v.part.nets (set v.queues slot queue) [] n) t ≡ cond ((n == net) && (t == time)) entry (entry_of v n t)
   put_entries n t = elim (cases_eq n net) [
     | inl same ↦ subst (λ (k : ℕ). entry_in (of_net v.part.nets (set v.queues slot queue) [] k) t ≡ cond ((k == net) && (t == time)) entry (entry_of v k t)) (sym same)
-        (ap (λ (q : List Timed). entry_in q t) queue_same
+        (ap (λ (q : List Received). entry_in q t) queue_same
         ∙ (put t
-        ∙ (ap (λ (q : List Timed). cond (t == time) entry (entry_in q t)) (sym (of_net-at v.part.nets v.queues [] slot is.part.ascending in_nets))
+        ∙ (ap (λ (q : List Received). cond (t == time) entry (entry_in q t)) (sym (of_net-at v.part.nets v.queues [] slot is.part.ascending in_nets))
         ∙ ap (λ b. cond b entry (entry_of v net t)) (sym (ap (λ b. b && (t == time)) (eq-eqb net net refl))))))
-    | inr other ↦ ap (λ (q : List Timed). entry_in q t) (queue_other n other) ∙ ap (λ b. cond b entry (entry_of v n t)) (sym (ap (λ b. b && (t == time)) (ne_eqb n net other)))
+    | inr other ↦ ap (λ (q : List Received). entry_in q t) (queue_other n other) ∙ ap (λ b. cond b entry (entry_of v n t)) (sym (ap (λ b. b && (t == time)) (ne_eqb n net other)))
   ]
 
   -- the effective values afterwards

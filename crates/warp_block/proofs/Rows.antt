@@ -13,8 +13,7 @@ use Rattle.gate_values.proofs.Behaving.{outside_is}
 use Rattle.gate_values.proofs.ChangeLists.{before_time-changes}
 use Rattle.gate_vcd.proofs.WaveValues.{latest-changes}
 use Rattle.warp_block.specs.declared.look.Look.TheInside.{Inside}
-use Rattle.warp_block.specs.declared.queue.Timed.{Timed}
-use Rattle.warp_block.specs.Entries.{IsQueue, entry_in, effective_in}
+use Rattle.warp_block.specs.Entries.{Received, IsQueue, entry_in, effective_in}
 use Rattle.warp_block.specs.Logs.{IsLog}
 use Rattle.warp_block.specs.Portion.{is_driven, source_of, owns}
 use Rattle.warp_block.specs.View.{View, queue_of, entry_of, effective_at, log_of, news_of, block_value, IsLeast}
@@ -70,13 +69,13 @@ module _ (v : View) (is : IsLawful v) (i : ℕ) (in_nets : i < length v.part.net
   log_rises = subst IsLog (sym log_is) (IsLog-run (source_of v.part) (effective_at v) v.mark v.horizon net)
 
   pub entry_here : (t : ℕ) → entry_of v net t ≡ entry_in (get_or v.queues i []) t
-  entry_here t = ap (λ (q : List Timed). entry_in q t) queue_here
+  entry_here t = ap (λ (q : List Received). entry_in q t) queue_here
 
   pub news_own : is_driven (get_or v.part.sources i Outside) ≡ true → (t : ℕ) → news_of v net t ≡ pair_at (get_or v.logs i []) t
   news_own own t = cond-true (owns v.part net) (pair_at (log_of v net) t) (effective_at v net t) (ap is_driven source_here ∙ own) ∙ ap (λ (log : List Change). pair_at log t) log_here
 
   pub news_read : is_driven (get_or v.part.sources i Outside) ≡ false → (t : ℕ) → news_of v net t ≡ effective_in (get_or v.queues i []) t
-  news_read own t = cond-false (owns v.part net) (pair_at (log_of v net) t) (effective_at v net t) (ap is_driven source_here ∙ own) ∙ ap (λ (q : List Timed). effective_in q t) queue_here
+  news_read own t = cond-false (owns v.part net) (pair_at (log_of v net) t) (effective_at v net t) (ap is_driven source_here ∙ own) ∙ ap (λ (q : List Received). effective_in q t) queue_here
 
   -- the value of an own net, from its log, where nothing has happened since the mark
   pub value_own : is_driven (get_or v.part.sources i Outside) ≡ true → (t : ℕ) → v.mark ≤ t → t ≤ v.horizon → IsQuiet v t → latest X (get_or v.logs i []) t ≡ block_value v net t
@@ -97,12 +96,12 @@ module _ (v : View) (is : IsLawful v) (i : ℕ) (in_nets : i < length v.part.net
   -- the value of a net that is read, from its queue
   pub value_read : is_driven (get_or v.part.sources i Outside) ≡ false → (t : ℕ) → held (effective_in (get_or v.queues i [])) t ≡ block_value v net t
   value_read own t =
-      ap (λ (q : List Timed). held (effective_in q) t) (sym queue_here)
+      ap (λ (q : List Received). held (effective_in q) t) (sym queue_here)
       ∙ sym (outside_is (source_of v.part) (given (effective_at v)) net t (source_here ∙ not_driven (get_or v.part.sources i Outside) own))
 
 -- queues of which one was written back as it was
-pub queues_kept : (vs : List (Vec Timed Global)) (i : ℕ) (was kept : Vec Timed Global) → was ≡ get_or vs i was → kept.items ≡ was.items → lists_in (set vs i kept) ≡ lists_in vs
-queues_kept vs i was kept at same = map-set_same (λ (v : Vec Timed Global). v.items) vs i kept was (same ∙ ap (λ (v : Vec Timed Global). v.items) at)
+pub queues_kept : (vs : List (Vec Received Global)) (i : ℕ) (was kept : Vec Received Global) → was ≡ get_or vs i was → kept.items ≡ was.items → lists_in (set vs i kept) ≡ lists_in vs
+queues_kept vs i was kept at same = map-set_same (λ (v : Vec Received Global). v.items) vs i kept was (same ∙ ap (λ (v : Vec Received Global). v.items) at)
 
 -- as many vectors as there are logs
 pub rows_len : (look : Inside) → IsLawful (view_of look) → (vs : List (Vec Change Global)) → length vs ≡ length look.logs.items → length (lists_in vs) ≡ length look.part.nets
@@ -122,12 +121,12 @@ all_rise v is k d h =
 -- what a look holds at a place
 module _ (look : Inside) (is : IsLawful (view_of look)) (i : ℕ) (in_nets : i < length look.part.nets) where
   pub in_queues : i < length look.queues.items
-  in_queues = omega (arith, is.queues, length-map look.queues.items (λ (v : Vec Timed Global). v.items))
+  in_queues = omega (arith, is.queues, length-map look.queues.items (λ (v : Vec Received Global). v.items))
 
   pub in_logs : i < length look.logs.items
   in_logs = omega (arith, ap length is.logs, length-map look.part.nets (lawful_log (view_of look)), length-map look.logs.items (λ (v : Vec Change Global). v.items))
 
-  pub queue_row : (v : Vec Timed Global) → v ≡ get_or look.queues.items i v → get_or (lists_in look.queues.items) i [] ≡ v.items
+  pub queue_row : (v : Vec Received Global) → v ≡ get_or look.queues.items i v → get_or (lists_in look.queues.items) i [] ≡ v.items
   queue_row v e = row_at look.queues.items i v in_queues e
 
   pub log_row : (v : Vec Change Global) → v ≡ get_or look.logs.items i v → get_or (lists_in look.logs.items) i [] ≡ v.items

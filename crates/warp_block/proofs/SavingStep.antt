@@ -6,8 +6,7 @@ use Rattle.std.proofs.lemmas.List.{get_or-map, length-map}
 use Rattle.std.proofs.lemmas.List.Elements.{All-nil, All-cons, All-push}
 use Rattle.warp_block.specs.declared.state.State.{State}
 use Rattle.warp_block.specs.declared.state.TheConstants.{SAVE_EVERY}
-use Rattle.warp_block.specs.declared.queue.Timed.{Timed}
-use Rattle.warp_block.specs.Entries.{entry_in, effective_of}
+use Rattle.warp_block.specs.Entries.{Received, entry_in, effective_of}
 use Rattle.warp_block.specs.Portion.{Portion, of_net}
 use Rattle.warp_block.specs.View.{View, Saved, effective_at, is_busy, busy_times, IsLeast, IsEventTime}
 use Rattle.warp_block.specs.Lawful.{IsLawful, IsSaved, AreSaved, IsLawfulProcess}
@@ -67,7 +66,7 @@ quiet_before_least v time least t from below busy = (let end = least.0.1 in let 
 pub same_effective : (v w : View) → w.part ≡ v.part → w.queues ≡ v.queues → (n t : ℕ) → effective_at v n t ≡ effective_at w n t
 same_effective v w part queues n t =
     ap (λ (p : Portion). effective_of (entry_in (of_net p.nets v.queues [] n) t)) (sym part)
-    ∙ ap (λ (qs : List (List Timed)). effective_of (entry_in (of_net w.part.nets qs [] n) t)) (sym queues)
+    ∙ ap (λ (qs : List (List Received)). effective_of (entry_in (of_net w.part.nets qs [] n) t)) (sym queues)
 
 module _ (v w : View) (is : IsLawful v) (isw : IsLawful w) (part : w.part ≡ v.part) (horizon : w.horizon ≡ v.horizon) (floor : w.floor ≡ v.floor) (queues : w.queues ≡ v.queues)
     (time : ℕ) (mark : w.mark ≡ time + 1) (least : IsLeast (IsEventTime v) (Some time)) where

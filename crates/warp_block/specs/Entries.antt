@@ -7,7 +7,11 @@ use Rattle.gate_values.specs.declared.logic.Logic.TheVariants.{Zero, One, X, Z}
 use Rattle.warp_block.specs.declared.message.Sign.{Sign}
 use Rattle.warp_block.specs.declared.message.Sign.TheVariants.{Plus, Minus}
 use Rattle.warp_block.specs.declared.entry.Entry.{Entry}
-use Rattle.warp_block.specs.declared.queue.Timed.{Timed}
+
+-- an entry and its time
+pub record Received : Type 0 where
+  pub time : ℕ
+  pub entry : Entry
 
 -- the number of a value
 abbrev pub number_of : Entry → Logic → ℤ
@@ -61,15 +65,15 @@ bump_of e v s =
     if is_within (number_of e v +ℤ weight_of s) then Some (with_number e v (number_of e v +ℤ weight_of s)) else None
 
 -- the entry of a queue at a time
-abbrev pub entry_in : List Timed → ℕ → Entry
+abbrev pub entry_in : List Received → ℕ → Entry
 entry_in [] t = no_messages
 entry_in (e ∷ es) t = if e.time == t then e.entry else entry_in es t
 
 -- the effective value of a queue at a time
-abbrev pub effective_in : List Timed → ℕ → Option Logic
+abbrev pub effective_in : List Received → ℕ → Option Logic
 effective_in es t = effective_of (entry_in es t)
 
 -- A queue is in order of time, with one entry a time; where nothing stands and nothing waits, it holds none.
-pub record IsQueue (es : List Timed) : Type 0 where
-  pub in_order : (i j : ℕ) (d : Timed) → i < j → j < length es → (slice_index_or es i d).time < (slice_index_or es j d).time
+pub record IsQueue (es : List Received) : Type 0 where
+  pub in_order : (i j : ℕ) (d : Received) → i < j → j < length es → (slice_index_or es i d).time < (slice_index_or es j d).time
   pub kept : All (λ e. e.entry ≢ no_messages) es

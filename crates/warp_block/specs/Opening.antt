@@ -3,17 +3,16 @@ use Rattle.std.specs.Prelude.{ℕ, ◌+◌, if◌then◌else◌, List, [], map}
 use Rattle.gate_values.specs.declared.logic.Change.{Change}
 use Rattle.gate_values.specs.Changes.{before_time}
 use Rattle.gate_vcd.specs.Given.{Given, changes_of}
-use Rattle.warp_block.specs.declared.queue.Timed.{Timed}
-use Rattle.warp_block.specs.Entries.{one_message}
+use Rattle.warp_block.specs.Entries.{Received, one_message}
 use Rattle.warp_block.specs.Portion.{Portion, is_input}
 use Rattle.warp_block.specs.View.{View}
 
 -- one message of the change stands
-abbrev pub message_of : Change → Timed
+abbrev pub message_of : Change → Received
 message_of c = record { time = c.time; entry = one_message c.value }
 
 -- the changes of an input up to the horizon, each with one message
-abbrev pub opening_queue : Portion → Given → ℕ → ℕ → List Timed
+abbrev pub opening_queue : Portion → Given → ℕ → ℕ → List Received
 opening_queue p stimulus horizon n = if is_input p n then map message_of (before_time (horizon + 1) (changes_of stimulus n)) else []
 
 -- what a new block has received, with nothing logged

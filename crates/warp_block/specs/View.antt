@@ -6,8 +6,7 @@ use Rattle.gate_values.specs.declared.logic.Change.{Change}
 use Rattle.gate_values.specs.Behaviour.{Moment, value, before}
 use Rattle.gate_values.specs.Changes.{held, pair_at}
 use Rattle.warp_block.specs.declared.entry.Entry.{Entry}
-use Rattle.warp_block.specs.declared.queue.Timed.{Timed}
-use Rattle.warp_block.specs.Entries.{entry_in, effective_of}
+use Rattle.warp_block.specs.Entries.{Received, entry_in, effective_of}
 use Rattle.warp_block.specs.Portion.{Portion, of_net, source_of, owns, is_used}
 
 -- Everything below the mark is processed, everything below the floor is committed. There is a queue for each net
@@ -17,7 +16,7 @@ pub record View : Type 0 where
   pub horizon : ℕ
   pub mark : ℕ
   pub floor : ℕ
-  pub queues : List (List Timed)
+  pub queues : List (List Received)
   pub logs : List (List Change)
 
 -- the values of the nets and the contents of the flip-flops, just before a mark, in the order of the nets
@@ -31,7 +30,7 @@ pub record Process : Type 0 where
   pub seen : View
   pub saved : List Saved
 
-abbrev pub queue_of : View → ℕ → List Timed
+abbrev pub queue_of : View → ℕ → List Received
 queue_of v n = of_net v.part.nets v.queues [] n
 
 -- the entry of a net at a time

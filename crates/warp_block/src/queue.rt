@@ -10,12 +10,43 @@ ghost use Rattle.warp_block.specs.View.{IsLeast};
 use crate::entry::Entry;
 use gate_values::{Change, Logic};
 use std::alloc::{AllocError, Global};
+use std::marker::Model;
 
 /// The entry of a net at a time.
-#[derive(Clone, Copy, Debug, PartialEq, Eq)]
+#[derive(Clone, Copy, Debug)]
 pub(crate) struct Timed {
-    pub(crate) time: u64,
-    pub(crate) entry: Entry,
+    time: u64,
+    entry: Entry,
+}
+
+impl Model for Timed {
+    ghost use Rattle.warp_block.specs.Entries.{Received};
+
+    ghost Value = { Received };
+
+    ghost view = { λ timed. record { time = timed.time; entry = timed.entry } };
+
+    ghost inverse = { λ received. record { time = received.time; entry = received.entry } };
+}
+
+impl Timed {
+    fn new(time: u64, entry: Entry) -> Timed
+        ensures { result ≡ record { time = time; entry = entry } }
+    {
+        Timed { time, entry }
+    }
+
+    fn time(&self) -> u64
+        ensures { result ≡ self.now.time }
+    {
+        self.time
+    }
+
+    fn entry(&self) -> Entry
+        ensures { result ≡ self.now.entry }
+    {
+        self.entry
+    }
 }
 
 /// How many entries of a queue are before a time.
@@ -24,7 +55,7 @@ fn count_before(queue: &[Timed], time: u64) -> usize
     ensures within { result ≤ length queue.now }
     ensures split { IsPartitionPoint (λ e. e.time < time) (λ e. time ≤ e.time) queue.now result }
 {
-    queue.partition_point(|timed| timed.time < time)
+    queue.partition_point(|timed| timed.time() < time)
 }
 
 /// How many entries of a queue aren't past a time.
@@ -33,7 +64,7 @@ fn count_until(queue: &[Timed], time: u64) -> usize
     ensures within { result ≤ length queue.now }
     ensures split { IsPartitionPoint (λ e. e.time ≤ time) (λ e. time < e.time) queue.now result }
 {
-    queue.partition_point(|timed| timed.time <= time)
+    queue.partition_point(|timed| timed.time() <= time)
 }
 
 /// The place of a time's entry in a queue, or the place where it belongs.
@@ -44,7 +75,7 @@ fn place_of(queue: &[Timed], time: u64) -> Result<usize, usize>
 {
     let place = count_before(queue, time);
     match queue.get(place) {
-        Some(timed) if timed.time == time => Ok(place),
+        Some(timed) if timed.time() == time => Ok(place),
         _ => Err(place),
     }
 }
@@ -55,7 +86,7 @@ pub(crate) fn entry_at(queue: &[Timed], time: u64) -> Entry
     ensures { result ≡ entry_in queue.now time }
 {
     match place_of(queue, time) {
-        Ok(place) => queue[place].entry,
+        Ok(place) => queue[place].entry(),
         Err(_) => Entry::EMPTY,
     }
 }
@@ -68,7 +99,7 @@ pub(crate) fn held_at(queue: &[Timed], time: u64) -> Logic
     let mut index = count_until(queue, time);
     while index > 0 {
         index -= 1;
-        if let Some(value) = queue[index].entry.effective() {
+        if let Some(value) = queue[index].entry().effective() {
             return value;
         }
     }
@@ -81,8 +112,8 @@ pub(crate) fn next_effective(queue: &[Timed], from: u64) -> Option<u64>
     ensures { IsLeast (λ t. (from ≤ t) × IsSome (effective_in queue.now t)) result }
 {
     for timed in &queue[count_before(queue, from)..] {
-        if timed.entry.effective().is_some() {
-            return Some(timed.time);
+        if timed.entry().effective().is_some() {
+            return Some(timed.time());
         }
     }
     None
@@ -94,7 +125,7 @@ pub(crate) fn next_kept(queue: &[Timed], from: u64) -> Option<u64>
     ensures { IsLeast (λ t. (from ≤ t) × (entry_in queue.now t ≢ no_messages)) result }
 {
     let timed = queue.get(count_before(queue, from))?;
-    Some(timed.time)
+    Some(timed.time())
 }
 
 /// Puts an entry into a queue at a time. After an error nothing has changed.
@@ -108,10 +139,10 @@ pub(crate) fn put(queue: &mut Vec<Timed>, time: u64, entry: Entry) -> Result<(),
         Ok(place) if entry.is_empty() => {
             queue.remove(place);
         }
-        Ok(place) => queue[place].entry = entry,
+        Ok(place) => queue[place] = Timed::new(time, entry),
         Err(place) => {
             if !entry.is_empty() {
-                queue.insert(place, Timed { time, entry })?;
+                queue.insert(place, Timed::new(time, entry))?;
             }
         }
     }
@@ -133,10 +164,7 @@ pub(crate) fn opening(
         if change.time > horizon {
             return Ok(queue);
         }
-        queue.push(Timed {
-            time: change.time,
-            entry: Entry::one_message(change.value),
-        })?;
+        queue.push(Timed::new(change.time, Entry::one_message(change.value)))?;
     }
     Ok(queue)
 }

@@ -10,5 +10,5 @@ returns-in_default-clause-belongs c =
       before.within,
       split-lacking c.args.queue.now c.args.time c.count_before-place.result before.split
           (lacks-split c.args.queue.now c.args.time c.count_before-place.result c.requires.in_order before.split
-          (λ d l same. c.if-timed-time.false (ap time_of (read.3.1 d) ∙ same))),
+          (λ d l same. c.if-time.false (c.time.ensures ∙ (ap time_of (read.3.1 d) ∙ same)))),
     )

@@ -1,8 +1,7 @@
 use Rattle.std.proofs.Common.{ap, sym, ◌∙◌, subst, List, get_or}
 use Rattle.gate_values.specs.declared.logic.Change.{Change}
 use Rattle.gate_values.specs.Changes.{pair_at}
-use Rattle.warp_block.specs.declared.queue.Timed.{Timed}
-use Rattle.warp_block.specs.Entries.{IsQueue, effective_in}
+use Rattle.warp_block.specs.Entries.{Received, IsQueue, effective_in}
 use Rattle.warp_block.specs.Logs.{IsLog}
 use Rattle.warp_block.specs.View.{news_of}
 use Rattle.warp_block.specs.Held.{view_of}
@@ -35,4 +34,4 @@ returns-else-is_own c =
     let in_nets = in_part c.self.inside c.args.self.now c.args.slot c.self.view_is c.requires in
     let row = c.deref-else-is_own.ensures.value ∙ sym (queue_row c.self.inside c.self.invariant c.args.slot in_nets c.index-else-is_own.result.now c.index-else-is_own.ensures) in
     rw (← c.self.view_is) (same_next v.mark (effective_in c.deref-else-is_own.result.now) (news_of v (get_or v.part.nets c.args.slot 0)) c.next_effective.result
-    (λ t. ap (λ (q : List Timed). effective_in q t) row ∙ sym (news_read v c.self.invariant c.args.slot in_nets (sym c.is_own.ensures ∙ c.if-is_own.false) t)) c.next_effective.ensures)
+    (λ t. ap (λ (q : List Received). effective_in q t) row ∙ sym (news_read v c.self.invariant c.args.slot in_nets (sym c.is_own.ensures ∙ c.if-is_own.false) t)) c.next_effective.ensures)

@@ -2,8 +2,7 @@ use Rattle.std.proofs.Common.{◌≡◌, ◌==◌, ℕ, [], cond, length, slice_
 use Rattle.std.specs.declared.alloc.Global.{Global}
 use Rattle.std.proofs.lemmas.List.{map-set, length-map}
 use Rattle.gate_values.specs.declared.logic.Change.{Change}
-use Rattle.warp_block.specs.declared.queue.Timed.{Timed}
-use Rattle.warp_block.specs.Entries.{IsQueue, entry_in}
+use Rattle.warp_block.specs.Entries.{Received, IsQueue, entry_in}
 use Rattle.warp_block.specs.Logs.{IsLog}
 use Rattle.warp_block.specs.Held.{lists_in, view_of}
 use Rattle.warp_block.proofs.Rows.{in_part, queue_row, queue_ordered, queues_kept, rows_len, all_rise}
@@ -33,7 +32,7 @@ invariant_of-self c =
     let v = view_of c.self.inside in
     let in_nets = in_part c.self.inside c.args.self.now c.args.slot c.self.view_is c.requires.slot in
     let put : (t : ℕ) → entry_in c.put.new.queue.items t ≡ cond (t == c.args.time) c.args.entry (entry_in (slice_index_or (lists_in c.self.inside.queues.items) c.args.slot []) t) =
-    λ t. c.in-Ok-put.ensures.ok t ∙ ap (λ (q : List Timed). cond (t == c.args.time) c.args.entry (entry_in q t)) (sym (queue_row c.self.inside c.self.invariant c.args.slot in_nets c.index_mut.result.now c.index_mut.ensures.value)) in
+    λ t. c.in-Ok-put.ensures.ok t ∙ ap (λ (q : List Received). cond (t == c.args.time) c.args.entry (entry_in q t)) (sym (queue_row c.self.inside c.self.invariant c.args.slot in_nets c.index_mut.result.now c.index_mut.ensures.value)) in
     let size : length c.cut_all.new.logs.items ≡ length c.self.inside.logs.items = omega (arith, c.cut_all.ensures.len, c.cut_all.new.logs.ok.0, c.self.inside.logs.ok.0) in
     let late = rw (← c.self.view_is) at c.requires.late in
     rw map-set (roll_lawful v c.self.invariant c.args.slot in_nets c.args.time c.args.entry c.put.new.queue.items c.put.ensures.queue put (lists_in c.cut_all.new.logs.items)
@@ -47,7 +46,7 @@ returns-in-Ok-put-clause-put c =
     let v = view_of c.self.inside in
     let in_nets = in_part c.self.inside c.args.self.now c.args.slot c.self.view_is c.requires.slot in
     let put : (t : ℕ) → entry_in c.put.new.queue.items t ≡ cond (t == c.args.time) c.args.entry (entry_in (slice_index_or (lists_in c.self.inside.queues.items) c.args.slot []) t) =
-    λ t. c.in-Ok-put.ensures.ok t ∙ ap (λ (q : List Timed). cond (t == c.args.time) c.args.entry (entry_in q t)) (sym (queue_row c.self.inside c.self.invariant c.args.slot in_nets c.index_mut.result.now c.index_mut.ensures.value)) in
+    λ t. c.in-Ok-put.ensures.ok t ∙ ap (λ (q : List Received). cond (t == c.args.time) c.args.entry (entry_in q t)) (sym (queue_row c.self.inside c.self.invariant c.args.slot in_nets c.index_mut.result.now c.index_mut.ensures.value)) in
     rw (← c.self.view_is) (rw map-set (put_is v c.self.invariant c.args.slot in_nets c.args.time c.args.entry c.put.new.queue.items c.put.ensures.queue put c.args.time (lists_in c.cut_all.new.logs.items)))
 
 pub returns-in-Ok-put-clause-sends : goal.returns-in-Ok-put-clause-sends
@@ -55,7 +54,7 @@ returns-in-Ok-put-clause-sends c =
     let v = view_of c.self.inside in
     let in_nets = in_part c.self.inside c.args.self.now c.args.slot c.self.view_is c.requires.slot in
     let put : (t : ℕ) → entry_in c.put.new.queue.items t ≡ cond (t == c.args.time) c.args.entry (entry_in (slice_index_or (lists_in c.self.inside.queues.items) c.args.slot []) t) =
-    λ t. c.in-Ok-put.ensures.ok t ∙ ap (λ (q : List Timed). cond (t == c.args.time) c.args.entry (entry_in q t)) (sym (queue_row c.self.inside c.self.invariant c.args.slot in_nets c.index_mut.result.now c.index_mut.ensures.value)) in
+    λ t. c.in-Ok-put.ensures.ok t ∙ ap (λ (q : List Received). cond (t == c.args.time) c.args.entry (entry_in q t)) (sym (queue_row c.self.inside c.self.invariant c.args.slot in_nets c.index_mut.result.now c.index_mut.ensures.value)) in
     let size : length c.cut_all.new.logs.items ≡ length c.self.inside.logs.items = omega (arith, c.cut_all.ensures.len, c.cut_all.new.logs.ok.0, c.self.inside.logs.ok.0) in
     rw (← c.self.view_is) (rw map-set (roll_sends v c.self.invariant c.args.slot in_nets c.args.time c.args.entry c.put.new.queue.items c.put.ensures.queue put c.args.time (lists_in c.cut_all.new.logs.items)
     c.args.out.now.items c.take_back_all.new.out.items (rows_len c.self.inside c.self.invariant c.cut_all.new.logs.items size) c.cut_all.ensures.logs.below (rw c.deref.ensures.value at c.in-Ok.ensures.ok)))

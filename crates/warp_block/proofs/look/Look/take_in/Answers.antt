@@ -1,7 +1,6 @@
 use Rattle.std.proofs.Common.{◌≡◌, ◌==◌, ℕ, [], cond, slice_index_or, ap, sym, ◌∙◌, arith, subst, List}
 use Rattle.std.proofs.lemmas.List.{map-set}
-use Rattle.warp_block.specs.declared.queue.Timed.{Timed}
-use Rattle.warp_block.specs.Entries.{IsQueue, entry_in}
+use Rattle.warp_block.specs.Entries.{Received, IsQueue, entry_in}
 use Rattle.warp_block.specs.Held.{lists_in, view_of}
 use Rattle.warp_block.proofs.Rows.{in_part, in_queues, queue_row, queue_ordered, queues_kept}
 use Rattle.gate_vcd.proofs.Waving.{on_err}
@@ -24,7 +23,7 @@ put-requires c =
 put_row : (c : goal.In_ok-put) (t : ℕ) → entry_in c.put.new.queue.items t ≡ cond (t == c.args.time) c.args.entry (entry_in (slice_index_or (lists_in c.self.inside.queues.items) c.args.slot []) t)
 put_row c t =
     let in_nets = in_part c.self.inside c.args.self.now c.args.slot c.self.view_is c.requires.slot in
-    c.in_ok-put.ensures.ok t ∙ ap (λ (q : List Timed). cond (t == c.args.time) c.args.entry (entry_in q t)) (sym (queue_row c.self.inside c.self.invariant c.args.slot in_nets c.index_mut.result.now c.index_mut.ensures.value))
+    c.in_ok-put.ensures.ok t ∙ ap (λ (q : List Received). cond (t == c.args.time) c.args.entry (entry_in q t)) (sym (queue_row c.self.inside c.self.invariant c.args.slot in_nets c.index_mut.result.now c.index_mut.ensures.value))
 
 pub invariant_of-self : goal.invariant_of-self
 invariant_of-self c = rw (queues_kept c.self.inside.queues.items c.args.slot c.index_mut.result.now c.put.new.queue c.index_mut.ensures.value c.in_err-put.ensures.err) c.self.invariant

@@ -2,8 +2,7 @@ use Rattle.std.proofs.Common.{ap, sym, ◌∙◌, subst, List}
 use Rattle.gate_values.specs.declared.logic.Logic.TheVariants.{X}
 use Rattle.gate_values.specs.declared.logic.Change.{Change}
 use Rattle.gate_values.specs.Changes.{latest, held}
-use Rattle.warp_block.specs.declared.queue.Timed.{Timed}
-use Rattle.warp_block.specs.Entries.{IsQueue, effective_in}
+use Rattle.warp_block.specs.Entries.{Received, IsQueue, effective_in}
 use Rattle.warp_block.specs.Logs.{IsLog}
 use Rattle.warp_block.specs.Held.{view_of}
 use Rattle.warp_block.proofs.Rows.{in_part, queue_row, log_row, queue_ordered, log_rises, value_own, value_read}
@@ -37,5 +36,5 @@ returns-else-is_own c =
     let v = view_of c.self.inside in
     let in_nets = in_part c.self.inside c.args.self.now c.args.slot c.self.view_is c.requires.slot in
     rw (← c.self.view_is) (c.held_at.ensures
-    ∙ (ap (λ (q : List Timed). held (effective_in q) c.args.time) (c.deref-else-is_own.ensures.value ∙ sym (queue_row c.self.inside c.self.invariant c.args.slot in_nets c.index-else-is_own.result.now c.index-else-is_own.ensures))
+    ∙ (ap (λ (q : List Received). held (effective_in q) c.args.time) (c.deref-else-is_own.ensures.value ∙ sym (queue_row c.self.inside c.self.invariant c.args.slot in_nets c.index-else-is_own.result.now c.index-else-is_own.ensures))
     ∙ value_read v c.self.invariant c.args.slot in_nets (sym c.is_own.ensures ∙ c.if-is_own.false) c.args.time))
