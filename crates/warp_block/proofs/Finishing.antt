@@ -127,6 +127,9 @@ module _ (v : View) (is : IsLawful v) (state : Saved) (saved : IsSaved v state) 
           (λ i l. (let h : i < length v.part.nets = omega (arith, len) in
           grown_log e i h ∙ (ap (λ t. run_log source (effective_at v) t v.horizon (at_net i)) (let k : suc s ≡ s + 1 = omega arith in k)
           ∙ sym (get_or-map (lawful_log after) v.part.nets i 0 [] h))));
+      floor = (let below = is.floor in omega (arith, below, from));
+      settled = is.settled;
+      within = is.within;
     }
 
     pub finish_sends : (before out : List Message) → IsEmitted v.part m s v.horizon (length v.part.nets) v.logs logs →

@@ -12,7 +12,7 @@ use Rattle.gate_values.proofs.ChangeLists.{before_time-changes}
 use Rattle.warp_block.specs.declared.entry.Entry.{Entry}
 use Rattle.warp_block.specs.declared.message.Message.{Message}
 use Rattle.warp_block.specs.declared.message.Sign.TheVariants.{Minus}
-use Rattle.warp_block.specs.Entries.{Received, IsQueue, entry_in, effective_of}
+use Rattle.warp_block.specs.Entries.{Received, IsQueue, entry_in, effective_of, is_settled}
 use Rattle.warp_block.specs.Logs.{IsLog}
 use Rattle.warp_block.specs.Portion.{is_driven, source_of, owns, hears, reads, is_input, slot_of, at_slot, of_net}
 use Rattle.warp_block.specs.View.{View, entry_of, effective_at}
@@ -109,13 +109,17 @@ module _ (v : View) (is : IsLawful v) (slot : ℕ) (in_nets : slot < length v.pa
     | inr other ↦ ap (λ (q : List Received). entry_in q t) (queue_other n other) ∙ ap (λ b. cond b entry (entry_of v n t)) (sym (ap (λ b. b && (t == time)) (ne_eqb n net other)))
   ]
 
+  -- entries at other times are as they were
+  entry_elsewhere : (n t : ℕ) → t ≢ time → entry_in (of_net v.part.nets (set v.queues slot queue) [] n) t ≡ entry_of v n t
+  entry_elsewhere n t ne = put_entries n t ∙ ap (λ b. cond b entry (entry_of v n t)) (and_right (n == net) (t == time) (ne_eqb t time ne))
+
   -- the effective values afterwards
   abbrev at_after : ℕ → ℕ → Option Logic
   at_after n t = effective_of (entry_in (of_net v.part.nets (set v.queues slot queue) [] n) t)
 
   -- other times keep theirs
   pub same_elsewhere : (n t : ℕ) → t ≢ time → effective_at v n t ≡ at_after n t
-  same_elsewhere n t ne = ap effective_of (sym (put_entries n t ∙ ap (λ b. cond b entry (entry_of v n t)) (and_right (n == net) (t == time) (ne_eqb t time ne))))
+  same_elsewhere n t ne = ap effective_of (sym (entry_elsewhere n t ne))
 
   same_where_kept : effective_of entry ≡ effective_at v net time → (n t : ℕ) → effective_at v n t ≡ at_after n t
   same_where_kept kept n t = elim (cases_eq t time) [
@@ -153,9 +157,9 @@ module _ (v : View) (is : IsLawful v) (slot : ℕ) (in_nets : slot < length v.pa
   put_is mark logs = record { part = refl; horizon = refl; floor = refl; entries = put_entries }
 
   -- logs that are cut at a mark, below which no effective value has changed
-  pub cut_lawful : (mark : ℕ) (logs : List (List Change)) → hears v.part net ≡ true → mark ≤ v.mark → ((n t : ℕ) → t < mark → effective_at v n t ≡ at_after n t) →
+  pub cut_lawful : (mark : ℕ) (logs : List (List Change)) → hears v.part net ≡ true → v.floor ≤ time → time ≤ v.horizon → v.floor ≤ mark → mark ≤ v.mark → ((n t : ℕ) → t < mark → effective_at v n t ≡ at_after n t) →
       length logs ≡ length v.part.nets → ((i : ℕ) → i < length v.part.nets → log_at logs i ≡ before_time (mark + delay_of (source_at v.part i)) (log_at v.logs i)) → IsLawful (after mark logs)
-  cut_lawful mark logs heard back keeps len cut = record {
+  cut_lawful mark logs heard past until above back keeps len cut = record {
     part = is.part;
     horizon = is.horizon;
     queues = length-set v.queues slot queue ∙ is.queues;
@@ -168,11 +172,14 @@ module _ (v : View) (is : IsLawful v) (slot : ℕ) (in_nets : slot < length v.pa
         ∙ (ap (λ (s : Source). before_time (mark + delay_of s) (run_log (source_of v.part) (effective_at v) v.mark v.horizon (get_or v.part.nets i 0))) (sym (source_here v is i h))
         ∙ (run_log-cut (source_of v.part) (timed v.part is.part) (effective_at v) at_after v.mark mark v.horizon (get_or v.part.nets i 0) back keeps
         ∙ sym (get_or-map (lawful_log (after mark logs)) v.part.nets i 0 [] h))))));
+    floor = above;
+    settled = λ n t l. subst (λ (e : Entry). is_settled e ≡ true) (sym (entry_elsewhere n t (let ne : t ≢ time = omega arith in ne))) (is.settled n t l);
+    within = λ n t l. entry_elsewhere n t (let ne : t ≢ time = omega arith in ne) ∙ is.within n t l;
   }
 
   -- the logs stay lawful where no effective value below the mark has changed
-  pub keep_lawful : hears v.part net ≡ true → (v.mark ≤ time) ⊎ (effective_of entry ≡ effective_at v net time) → IsLawful (after v.mark v.logs)
-  keep_lawful heard kept = cut_lawful v.mark v.logs heard (omega arith)
+  pub keep_lawful : hears v.part net ≡ true → v.floor ≤ time → time ≤ v.horizon → (v.mark ≤ time) ⊎ (effective_of entry ≡ effective_at v net time) → IsLawful (after v.mark v.logs)
+  keep_lawful heard past until kept = cut_lawful v.mark v.logs heard past until is.floor (omega arith)
       (λ n t below. elim kept [ inl late ↦ same_elsewhere n t (let ne : t ≢ time = omega arith in ne) | inr same ↦ same_where_kept same n t ])
       (logs_len v is)
       (λ i h. log_is v is i h
@@ -181,9 +188,9 @@ module _ (v : View) (is : IsLawful v) (slot : ℕ) (in_nets : slot < length v.pa
       ∙ ap (before_time (v.mark + delay_of (source_at v.part i))) (sym (log_is v is i h)))))
 
   -- a rollback to the time of the entry
-  pub roll_lawful : (logs : List (List Change)) → hears v.part net ≡ true → time ≤ v.mark → length logs ≡ length v.part.nets →
+  pub roll_lawful : (logs : List (List Change)) → hears v.part net ≡ true → v.floor ≤ time → time ≤ v.horizon → time ≤ v.mark → length logs ≡ length v.part.nets →
       ((i : ℕ) → i < length v.part.nets → log_at logs i ≡ before_time (time + delay_of (source_at v.part i)) (log_at v.logs i)) → IsLawful (after time logs)
-  roll_lawful logs heard back len cut = cut_lawful time logs heard back (λ n t below. same_elsewhere n t (let ne : t ≢ time = omega arith in ne)) len cut
+  roll_lawful logs heard past until back len cut = cut_lawful time logs heard past until past back (λ n t below. same_elsewhere n t (let ne : t ≢ time = omega arith in ne)) len cut
 
   -- what a rollback sends
   pub roll_sends : (mark : ℕ) (logs : List (List Change)) (before out : List Message) → length logs ≡ length v.part.nets →

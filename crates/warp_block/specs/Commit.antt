@@ -1,16 +1,10 @@
 -- What committing does to a block, and when it is refused.
-use Rattle.std.specs.Prelude.{◌≡◌, ℕ, max, ◌<◌, ◌≤◌, ◌⊎◌, ◌↔◌, Bool, nat_le, IsTrue, [], ◌∷◌, map}
-use Rattle.std.specs.List.{list_any, count_by}
-use Rattle.gate_values.specs.declared.logic.Logic.TheVariants.{Zero, One, X, Z}
-use Rattle.warp_block.specs.declared.entry.Entry.{Entry}
+use Rattle.std.specs.Prelude.{◌≡◌, ℕ, max, ◌<◌, ◌≤◌, ◌⊎◌, ◌↔◌, nat_le, IsTrue}
+use Rattle.std.specs.List.{count_by}
 use Rattle.warp_block.specs.declared.fault.BlockFault.{BlockFault}
 use Rattle.warp_block.specs.declared.fault.BlockFault.TheVariants.{FloorBack, Unprocessed, Unsettled}
-use Rattle.warp_block.specs.Entries.{no_messages, one_message, same_entry}
+use Rattle.warp_block.specs.Entries.{is_settled}
 use Rattle.warp_block.specs.View.{View, Process, entry_of, log_of, IsEventTime}
-
--- nothing stands and nothing waits, or one message of one value stands
-abbrev pub is_settled : Entry → Bool
-is_settled e = list_any (same_entry e) (no_messages ∷ map one_message (Zero ∷ One ∷ X ∷ Z ∷ []))
 
 -- an entry below a floor that isn't settled
 abbrev pub IsUnsettledBelow : View → ℕ → ℕ → ℕ → Type 0

@@ -1,6 +1,6 @@
 -- What a block has received of a net at a time: for each value the messages less the antimessages.
-use Rattle.std.specs.Prelude.{◌≢◌, ℕ, ◌<◌, ℤ, pos, negsuc, neg_ℤ, ◌+ℤ◌, int_lt, int_le, Bool, ◌&&◌, ◌==◌, if◌then◌else◌, Option, Some, None, List, [], ◌∷◌, length, slice_index_or}
-use Rattle.std.specs.List.{All}
+use Rattle.std.specs.Prelude.{◌≢◌, ℕ, ◌<◌, ℤ, pos, negsuc, neg_ℤ, ◌+ℤ◌, int_lt, int_le, Bool, ◌&&◌, ◌==◌, if◌then◌else◌, Option, Some, None, List, [], ◌∷◌, map, length, slice_index_or}
+use Rattle.std.specs.List.{All, list_any}
 use Rattle.std.specs.Ordering.{int_eq}
 use Rattle.gate_values.specs.declared.logic.Logic.{Logic}
 use Rattle.gate_values.specs.declared.logic.Logic.TheVariants.{Zero, One, X, Z}
@@ -46,6 +46,10 @@ one_message v = with_number no_messages v (pos 1)
 -- the two entries have the same numbers
 abbrev pub same_entry : Entry → Entry → Bool
 same_entry a b = int_eq a.zero b.zero && int_eq a.one b.one && int_eq a.x b.x && int_eq a.z b.z
+
+-- nothing stands and nothing waits, or one message of one value stands
+abbrev pub is_settled : Entry → Bool
+is_settled e = list_any (same_entry e) (no_messages ∷ map one_message (Zero ∷ One ∷ X ∷ Z ∷ []))
 
 -- what a message, or an antimessage, counts
 abbrev pub weight_of : Sign → ℤ

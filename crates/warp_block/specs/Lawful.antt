@@ -6,17 +6,18 @@ use Rattle.gate_values.specs.declared.logic.Change.{Change}
 use Rattle.gate_values.specs.Behaviour.{delay_of}
 use Rattle.gate_values.specs.Changes.{changes, before_time}
 use Rattle.warp_block.specs.declared.state.TheConstants.{SAVE_EVERY}
-use Rattle.warp_block.specs.Entries.{IsQueue}
+use Rattle.warp_block.specs.Entries.{no_messages, is_settled, IsQueue}
 use Rattle.warp_block.specs.Limits.{most_horizon}
 use Rattle.warp_block.specs.Portion.{IsPortion, source_of, owns}
-use Rattle.warp_block.specs.View.{View, Saved, Process, block_value, moment_before, busy_times, is_busy}
+use Rattle.warp_block.specs.View.{View, Saved, Process, entry_of, block_value, moment_before, busy_times, is_busy}
 
 -- The log of an own net: of the changes of its value up to the horizon, those less than one delay past the mark.
 abbrev pub lawful_log : View → ℕ → List Change
 lawful_log v n =
     if owns v.part n then before_time (v.mark + delay_of (source_of v.part n)) (changes (block_value v n) (v.horizon + 1)) else []
 
--- Entries and mark determine the logs.
+-- Entries and mark determine the logs. Everything below the floor is processed, and settled; there is nothing past the
+-- horizon.
 pub record IsLawful (v : View) : Type 0 where
   pub part : IsPortion v.part
   pub horizon : v.horizon ≤ most_horizon
@@ -24,6 +25,9 @@ pub record IsLawful (v : View) : Type 0 where
   pub ordered : All IsQueue v.queues
   pub own : (i : ℕ) → i < length v.part.nets → IsTrue (owns v.part (get_or v.part.nets i 0)) → get_or v.queues i [] ≡ []
   pub logs : v.logs ≡ map (lawful_log v) v.part.nets
+  pub floor : v.floor ≤ v.mark
+  pub settled : (n t : ℕ) → t < v.floor → IsTrue (is_settled (entry_of v n t))
+  pub within : (n t : ℕ) → v.horizon < t → entry_of v n t ≡ no_messages
 
 -- a saved state holds the block's values and contents just before its mark
 pub record IsSaved (v : View) (s : Saved) : Type 0 where

@@ -26,6 +26,8 @@ impl Look {
     pub(crate) fn take_in(&mut self, slot: usize, time: u64, entry: Entry) -> Result<(), AllocError>
         requires slot { slot < length self.old.part.nets }
         requires heard { IsTrue (hears self.old.part (slice_index self.old.part.nets slot)) }
+        requires from { self.old.floor ≤ time }
+        requires until { time ≤ self.old.horizon }
         requires in_time { (self.old.mark ≤ time) ⊎ (effective_of entry ≡ effective_at self.old (slice_index self.old.part.nets slot) time) }
         ensures put { OnOk result (IsPut self.old self.new (slice_index self.old.part.nets slot) time entry) }
         ensures mark { self.new.mark ≡ self.old.mark }
@@ -48,7 +50,8 @@ impl Look {
         requires slot { slot < length self.old.part.nets }
         requires heard { IsTrue (hears self.old.part (slice_index self.old.part.nets slot)) }
         requires late { time < self.old.mark }
-        requires within { time ≤ self.old.horizon }
+        requires from { self.old.floor ≤ time }
+        requires until { time ≤ self.old.horizon }
         ensures put { OnOk result (IsPut self.old self.new (slice_index self.old.part.nets slot) time entry) }
         ensures mark { OnOk result (self.new.mark ≡ time) }
         ensures sends { OnOk result (SendsOnce self.old self.new Minus (λ t. time < t) out.old.items out.new.items) }

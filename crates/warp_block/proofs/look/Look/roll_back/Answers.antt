@@ -36,7 +36,7 @@ invariant_of-self c =
     let size : length c.cut_all.new.logs.items ≡ length c.self.inside.logs.items = omega (arith, c.cut_all.ensures.len, c.cut_all.new.logs.ok.0, c.self.inside.logs.ok.0) in
     let late = rw (← c.self.view_is) at c.requires.late in
     rw map-set (roll_lawful v c.self.invariant c.args.slot in_nets c.args.time c.args.entry c.put.new.queue.items c.put.ensures.queue put (lists_in c.cut_all.new.logs.items)
-    (rw (← c.self.view_is) at c.requires.heard) (omega (arith, late)) (rows_len c.self.inside c.self.invariant c.cut_all.new.logs.items size) c.cut_all.ensures.logs.below)
+    (rw (← c.self.view_is) at c.requires.heard) (rw (← c.self.view_is) at c.requires.from) (rw (← c.self.view_is) at c.requires.until) (omega (arith, late)) (rows_len c.self.inside c.self.invariant c.cut_all.new.logs.items size) c.cut_all.ensures.logs.below)
 
 pub invariant_of-self-in-Err-put : goal.invariant_of-self-in-Err-put
 invariant_of-self-in-Err-put c = rw (queues_kept c.self.inside.queues.items c.args.slot c.index_mut.result.now c.put.new.queue c.index_mut.ensures.value c.in-Err-put.ensures.err) c.self.invariant

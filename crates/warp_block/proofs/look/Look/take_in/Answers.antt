@@ -32,7 +32,7 @@ pub invariant_of-self-2 : goal.invariant_of-self-2
 invariant_of-self-2 c =
     let v = view_of c.self.inside in
     let in_nets = in_part c.self.inside c.args.self.now c.args.slot c.self.view_is c.requires.slot in
-    rw map-set (keep_lawful v c.self.invariant c.args.slot in_nets c.args.time c.args.entry c.put.new.queue.items c.put.ensures.queue (put_row c) (rw (← c.self.view_is) at c.requires.heard) (rw (← c.self.view_is) at c.requires.in_time))
+    rw map-set (keep_lawful v c.self.invariant c.args.slot in_nets c.args.time c.args.entry c.put.new.queue.items c.put.ensures.queue (put_row c) (rw (← c.self.view_is) at c.requires.heard) (rw (← c.self.view_is) at c.requires.from) (rw (← c.self.view_is) at c.requires.until) (rw (← c.self.view_is) at c.requires.in_time))
 
 pub returns-clause-put : goal.returns-clause-put
 returns-clause-put c =
