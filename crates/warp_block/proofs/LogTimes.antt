@@ -2,7 +2,6 @@
 use Rattle.std.proofs.Common.{◌≡◌, ℕ, zero, suc, ◌-◌, ◌<◌, ◌≤◌, Bool, true, false, cond, List, [], ◌∷◌, length, get_or, take, drop, Some, None, IsSome, refl, sym, subst, arith, nat_lt, nat_le, nat_eq, inl, inr}
 use Rattle.std.specs.List.Sorted.{IsPartitionPoint}
 use Rattle.std.proofs.lemmas.Bool.{false≢true, cases_lt, lt-ltb, le-ltb, le-leb, lt-leb, eq-eqb, eqb-true}
-use Rattle.std.proofs.lemmas.List.Kept.{AllPairs-filter}
 use Rattle.gate_values.specs.declared.logic.Logic.{Logic}
 use Rattle.gate_values.specs.declared.logic.Logic.TheVariants.{X}
 use Rattle.gate_values.specs.declared.logic.Change.{Change}
@@ -14,10 +13,6 @@ use Rattle.warp_block.proofs.Rising.{rising-not_falling, filter-front, filter-re
 
 abbrev pub time_of : Change → ℕ
 time_of c = c.time
-
--- the changes of a log before a time are a log
-pub before_time-log : (k : ℕ) (cs : List Change) → IsLog cs → IsLog (before_time k cs)
-before_time-log k cs log = record { in_order = AllPairs-filter (λ (a b : Change). a.time < b.time) (λ (c : Change). nat_lt c.time k) cs log.in_order }
 
 pub before_time-take : (t : ℕ) (cs : List Change) (i : ℕ) → IsPartitionPoint (λ c. c.time < t) (λ c. t ≤ c.time) cs i → take i cs ≡ before_time t cs
 before_time-take t cs i (low, high) = sym (filter-front (λ (c : Change). nat_lt c.time t) cs i (λ k d a b. lt-ltb _ _ (low k d a b), λ k d a b. le-ltb _ _ (high k d a b)))

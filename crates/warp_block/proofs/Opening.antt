@@ -37,9 +37,6 @@ none_past end t (c ∷ cs) h = elim (cases_lt c.time end) [
 ]
 
 module _ (p : Portion) (is : IsPortion p) (stimulus : Given) (horizon : ℕ) where
-  abbrev v : View
-  v = opening_view p stimulus horizon
-
   -- at mark 0 there is no change yet
   pub empty_log : (n : ℕ) → lawful_log (opening_view p stimulus horizon) n ≡ []
   empty_log n = go (owns p n) refl

@@ -9,7 +9,7 @@ use Rattle.std.proofs.lemmas.List.Folds.{Any-from_list_any}
 use Rattle.std.proofs.lemmas.List.FromFn.{get_or-map-range_with_len, length-map-range_with_len}
 use Rattle.gate_values.specs.declared.gate.Kind.{Kind}
 use Rattle.gate_values.specs.Tables.{HasInputs}
-use Rattle.gate_values.specs.Behaviour.{Source, Outside}
+use Rattle.gate_values.specs.Behaviour.{Source}
 use Rattle.gate_netlist.specs.Circuit.{Design, IsCircuit, IsDriven, IsDelay, nets_of, driver_of, source_of, source_by, is_input, delay_of, delay_by}
 use Rattle.gate_netlist.specs.Cut.{Ownership}
 use Rattle.gate_netlist.specs.declared.driver.Driver.{Driver}
@@ -184,12 +184,6 @@ module _ (nets : List ℕ) where
   places_within ns h =
       All-map (λ place. place < length nets) (place_of nets) ns (λ k d l. (place_is nets (get_or ns k d) (h k d l)).0)
 
-  pub outer_cell : (pins : List ℕ) → IsCell nets pins Outside true cell.Input
-  outer_cell pins = record { fits = tt; source = refl; input = refl }
-
-  pub foreign_cell : (pins : List ℕ) → IsCell nets pins Outside false cell.Foreign
-  foreign_cell pins = record { fits = tt; source = refl; input = refl }
-
   pub gate_cell : (old inputs : List ℕ) (kind : Kind) (delay : ℕ) (span : Span) → All (λ u. IsTrue (is_some (slot_of nets u))) inputs → HasInputs kind (length inputs) → IsDelay delay
       → span.start ≡ length old → span.count ≡ length inputs
       → IsCell nets (old ++ map (place_of nets) inputs) (Source.Gate kind delay inputs) false (cell.Gate kind delay span)
@@ -222,12 +216,6 @@ module _ (nets : List ℕ) where
         input = h.input;
       }
   IsCell-more pins more sets outer (cell.Flop delay d clock) h = record { fits = h.fits; source = h.source; input = h.input }
-
-pub AreCells-none : (d : Design) (cut : Ownership) (b : ℕ) (nets : List ℕ) → AreCells d cut b nets [] []
-AreCells-none d cut b nets = record {
-  each = λ i e l. absurd (omega (arith, l));
-  places = All-nil (λ pin. pin < length nets);
-}
 
 -- one cell more
 pub AreCells-push : (d : Design) (cut : Ownership) (b : ℕ) (nets pins new : List ℕ) (cells : List Cell) (i : ℕ) (e : Cell) → length cells ≡ i → AreCells d cut b nets pins cells → HasMore (length nets) pins new

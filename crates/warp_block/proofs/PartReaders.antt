@@ -1,6 +1,6 @@
 -- The blocks that read the nets of a part, as they are gathered.
 use Rattle.std.specs.Result.{OnOk}
-use Rattle.std.proofs.Common.{◌≡◌, ◌≢◌, Result, Ok, Err, ℕ, suc, ◌+◌, ◌<◌, ◌≤◌, ◌==◌, Bool, true, false, not, ◌&&◌, ◌||◌, Option, Some, None, is_some, IsTrue, IfSome, List, [], ◌∷◌, ◌++◌, map, take, set, replicate, length, get_or, inl, inr, refl, ap, sym, subst, ◌∙◌, arith}
+use Rattle.std.proofs.Common.{◌≡◌, ◌≢◌, Result, Ok, Err, ℕ, suc, ◌+◌, ◌<◌, ◌≤◌, ◌==◌, Bool, true, false, not, ◌&&◌, ◌||◌, Option, Some, None, is_some, IsTrue, IfSome, List, [], ◌∷◌, ◌++◌, map, take, set, replicate, length, get_or, inl, inr, refl, ap, sym, ◌∙◌, arith}
 use Rattle.std.specs.Prelude.{Vec}
 use Rattle.std.specs.declared.alloc.Global.{Global}
 use Rattle.std.specs.List.{range_with_len, All}
@@ -71,21 +71,6 @@ module _ (cut : Ownership) (b reader : ℕ) (nets : List ℕ) where
         ∙ or_both (has (get_or old i []) c) o (reader == c) (has used n) (has more n)
         ∙ ap (λ t. has (get_or old i []) c || (o && ((reader == c) && t))) (sym (list_any-append (λ x. x == n) used more)));
   }
-
-  -- a net of another block tells nobody
-  pub AreTold-other : (net : ℕ) (lists : List (List ℕ)) → is_own cut b net ≡ false → AreRising lists → AreTold cut b nets (net ∷ []) reader lists lists
-  AreTold-other net lists other up = record {
-    same = refl;
-    rising = up;
-    told = λ i c l. sym (ap (λ t. has (get_or lists i []) c || t) (nothing i c) ∙ or_none (has (get_or lists i []) c));
-  }
-    where
-      nothing : (i c : ℕ) → (is_own cut b (get_or nets i 0) && ((reader == c) && has (net ∷ []) (get_or nets i 0))) ≡ false
-      nothing i c =
-          elim (cases_Bool (net == get_or nets i 0)) [
-            | inl same ↦ (let o : is_own cut b (get_or nets i 0) ≡ false = subst (λ n. is_own cut b n ≡ false) (eqb-true net (get_or nets i 0) same) other in rw o refl)
-            | inr apart ↦ and_last (is_own cut b (get_or nets i 0)) (reader == c) (has (net ∷ []) (get_or nets i 0)) (or_none (net == get_or nets i 0) ∙ apart)
-          ]
 
   pub AreTold-own : (net : ℕ) (lists : List (List ℕ)) (list : List ℕ) → IsStrictlyIncreasing nets → IsTrue (is_some (slot_of nets net)) → length lists ≡ length nets → is_own cut b net ≡ true
       → AreRising lists → IsStrictlyIncreasing list → ((c : ℕ) → has list c ≡ (has (get_or lists (place_of nets net) []) c || (reader == c)))

@@ -118,9 +118,6 @@ pub record IsIdleFrom (es : List Received) (t i : ℕ) : Type 0 where
   pub later : (k : ℕ) (d : Received) → i ≤ k → k < length es → (t < (get_or es k d).time) ⊎ (effective_of (get_or es k d).entry ≡ None)
   pub earlier : (k : ℕ) (d : Received) → k < i → (get_or es k d).time ≤ t
 
-pub idle-start : (es : List Received) (t n : ℕ) → n ≤ length es → IsPartitionPoint (λ e. e.time ≤ t) (λ e. t < e.time) es n → IsIdleFrom es t n
-idle-start es t n l split = record { within = l; later = λ k d a b. inl (split.1 k d a b); earlier = λ k d a. split.0 k d (omega arith) a }
-
 pub idle-more : (es : List Received) (t i j : ℕ) → IsIdleFrom es t i → i ≡ suc j → effective_of (get_or es j nothing).entry ≡ None → IsIdleFrom es t j
 idle-more es t i j idle same none = record {
   within = (let w = idle.within in omega arith);

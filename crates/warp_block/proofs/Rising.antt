@@ -39,14 +39,6 @@ module _ {X : Type 0} (time : X → ℕ) where
       (All-append (λ z. time x < time z) (take i xs) (y ∷ drop i xs) (All-take (λ z. time x < time z) i xs later) (All-cons (λ z. time x < time z) y (drop i xs) (before 0 x (omega arith)) (All-drop (λ z. time x < time z) i xs later)))
       (rising-insert xs i y (rising-tail x xs r) (omega arith) (λ k d h. before (suc k) d (omega arith)) (λ k d h l. after (suc k) d (omega arith) (omega arith)))
 
-  -- only the times count
-  pub rising-same : (xs ys : List X) → length ys ≡ length xs → ((k : ℕ) (d : X) → k < length xs → time (get_or ys k d) ≡ time (get_or xs k d)) → Rises xs → Rises ys
-  rising-same xs ys e h r i j d lt l =
-      let a = h i d (omega arith) in
-      let b = h j d (omega arith) in
-      let c = r i j d lt (omega arith) in
-      omega arith
-
 -- what passes a test, where that is the front of a list
 pub filter-front : {X : Type 0} (p : X → Bool) (xs : List X) (i : ℕ) → IsPartitionPoint (λ x. p x ≡ true) (λ x. p x ≡ false) xs i → filter p xs ≡ take i xs
 filter-front p [] zero (low, high) = refl

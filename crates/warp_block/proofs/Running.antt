@@ -153,10 +153,6 @@ module _ (source : ℕ → Source) (timed : (n : ℕ) → IsTimed (source n)) wh
   just_before_is at n zero = refl
   just_before_is at n (suc t) = refl
 
-  -- a net set from outside has what is held
-  pub outside_value : (at : ℕ → ℕ → Option Logic) (n s : ℕ) → source n ≡ Outside → value source (given at) n s ≡ held (at n) s
-  outside_value at n s e = outside_is source (given at) n s e
-
   outside_steady : (at : ℕ → ℕ → Option Logic) (n s : ℕ) → source n ≡ Outside → at n s ≡ None → value source (given at) n s ≡ (before source (given at) s).value n
   unfolding history
   outside_steady at n zero e none = outside_is source (given at) n zero e ∙ held-none (at n) zero none
