@@ -1,24 +1,93 @@
--- The test of two parts tells whether they are one.
-use Rattle.std.proofs.Common.{◌≡◌, ℕ, suc, ◌<◌, true, false, ◌&&◌, List, [], ◌∷◌, map, drop, length, get_or, inl, inr, refl, ap, sym, subst, ◌∙◌, arith}
-use Rattle.std.specs.Bool.{Decides, one_answer}
-use Rattle.std.specs.Str.{bytes_eq}
+-- The tests of two parts tell whether they are one.
+use Rattle.std.proofs.Common.{◌≡◌, ℕ, suc, ◌<◌, ◌==◌, ◌↔◌, Bool, false, ◌&&◌, cond, List, [], ◌∷◌, map, drop, length, get_or, inl, inr, refl, ap, sym, subst, ◌∙◌, arith}
+use Rattle.std.specs.Bool.{Decides}
 use Rattle.std.specs.List.{All}
 use Rattle.std.specs.List.Sorted.{IsStrictlyIncreasing}
+use Rattle.std.specs.Cmp.{unsigned_Decides, booleans_Decides}
+use Rattle.std.specs.Ordering.{on}
 use Rattle.std.proofs.lemmas.Bool.{cases_order, and_parts, and_from}
 use Rattle.std.proofs.lemmas.List.{ext_get_or, get_or-map}
 use Rattle.std.proofs.lemmas.List.Elements.{All-take, All-drop}
 use Rattle.std.proofs.lemmas.List.Kept.{AllPairs-from_increasing}
-use lib.Pointwise.{bytes_decides}
-use Rattle.gate_values.specs.Behaviour.{Outside}
+use Rattle.std.proofs.lemmas.Slice.Eq.{bytes_eq-Decides, slice_eq-Decides}
+use lib.Pointwise.{pointwise}
+use Rattle.gate_values.specs.declared.gate.Kind.{Kind}
+use Rattle.gate_values.specs.declared.gate.Kind.TheVariants.{And, Nand, Or, Nor, Xor, Xnor, Not, Buff}
+use Rattle.gate_values.specs.Behaviour.{Source, Outside, Gate, Flop}
 use Rattle.warp_block.specs.declared.cell.Cell.{Cell}
 use Rattle.warp_block.specs.declared.cell.Cell.TheVariants as cell
+use Rattle.warp_block.specs.declared.part.Part.TheInside.{Inside}
 use Rattle.warp_block.specs.HeldPart.{IsHeld, portion_of, CellFits, cell_source, is_input_cell, stretch}
 use Rattle.warp_block.specs.Portion.{Portion, IsPortion}
-use Rattle.warp_block.specs.SamePart.{same_part, same_at, same_cell}
-use Rattle.warp_block.specs.PartLaws.{at_decides, gates_same, gates_are, numbers_same, numbers_are, part_decides}
-use Rattle.warp_block.specs.declared.part.Part.TheInside.{Inside}
+use Rattle.warp_block.specs.SamePart.{kind_place, numbers_of, same_part, SameAt, SameCell}
 use Rattle.warp_block.proofs.PartHeld.{source-at, fits-at}
 use Rattle.warp_block.proofs.PartWhole.{same_portion}
+
+-- ---- the test of two parts
+
+kind_at : ℕ → Kind
+kind_at n = cond (n == 0) And (cond (n == 1) Nand (cond (n == 2) Or (cond (n == 3) Nor (cond (n == 4) Xor (cond (n == 5) Xnor (cond (n == 6) Not Buff))))))
+
+kind_again : (k : Kind) → kind_at (kind_place k) ≡ k
+unfolding kind_at
+kind_again And = refl
+kind_again Nand = refl
+kind_again Or = refl
+kind_again Nor = refl
+kind_again Xor = refl
+kind_again Xnor = refl
+kind_again Not = refl
+kind_again Buff = refl
+
+-- sources with the same numbers are one
+numbers_source : (s t : Source) → numbers_of s ≡ numbers_of t → s ≡ t
+numbers_source Outside Outside e = refl
+numbers_source (Gate k d xs) (Gate l c ys) e =
+    let places : kind_place k ≡ kind_place l = cc in
+    let kinds : k ≡ l = sym (kind_again k) ∙ (ap kind_at places ∙ kind_again l) in
+    cc
+numbers_source (Flop d n c) (Flop e m k) same = cc
+numbers_source Outside (Gate l c ys) e = cc
+numbers_source Outside (Flop e m k) same = cc
+numbers_source (Gate k d xs) Outside e = cc
+numbers_source (Gate k d xs) (Flop e m c) same = cc
+numbers_source (Flop d n c) Outside e = cc
+numbers_source (Flop d n c) (Gate l e ys) same = cc
+
+source_decides : (s t : Source) → Decides (on numbers_of (pointwise ◌==◌) s t) (s ≡ t)
+source_decides s t =
+    let numbers = bytes_eq-Decides (numbers_of s) (numbers_of t) in
+    (λ e. numbers_source s t (numbers.0 e), λ e. numbers.1 (ap numbers_of e))
+
+both : {P Q : Type 0} (a b : Bool) → Decides a P → Decides b Q → Decides (a && b) (P × Q)
+both a b p q = (λ e. (let (x, y) = and_parts a b e in (p.0 x, q.0 y)), λ h. and_from a b (p.1 h.0) (q.1 h.1))
+
+pub part_decides : (p q : Portion) → Decides (same_part p q) (p ≡ q)
+part_decides p q =
+    let nets = slice_eq-Decides unsigned_Decides p.nets q.nets (pointwise ◌==◌ p.nets q.nets) refl in
+    let sources = slice_eq-Decides source_decides p.sources q.sources (pointwise (on numbers_of (pointwise ◌==◌)) p.sources q.sources) refl in
+    let inputs = slice_eq-Decides booleans_Decides p.inputs q.inputs _ refl in
+    let readers = slice_eq-Decides bytes_eq-Decides p.readers q.readers (pointwise (pointwise ◌==◌) p.readers q.readers) refl in
+    let all = both _ _ (unsigned_Decides p.block q.block) (both _ _ nets (both _ _ sources (both _ _ inputs readers))) in (
+      λ e. (let h = all.0 e in same_portion p q h.0 h.1.0 h.1.1.0 h.1.1.1.0 h.1.1.1.1),
+      λ e. all.1 (ap (λ (r : Portion). r.block) e, (ap (λ (r : Portion). r.nets) e, (ap (λ (r : Portion). r.sources) e, (ap (λ (r : Portion). r.inputs) e, ap (λ (r : Portion). r.readers) e)))),
+    )
+
+-- parts that say the same of each net are one
+pub parts_same : (p q : Portion) → IsPortion p → IsPortion q → p.block ≡ q.block → p.nets ≡ q.nets → ((i : ℕ) → i < length p.nets → SameAt p q i) → p ≡ q
+parts_same p q g h block nets at =
+    let many : length p.nets ≡ length q.nets = ap length nets in
+    same_portion p q block nets
+    (ext_get_or Outside p.sources q.sources (omega (arith, g.sources, h.sources)) (λ i l. (at i (omega (arith, g.sources))).source))
+    (ext_get_or false p.inputs q.inputs (omega (arith, g.inputs, h.inputs)) (λ i l. (at i (omega (arith, g.inputs))).input))
+    (ext_get_or [] p.readers q.readers (omega (arith, g.readers, h.readers)) (λ i l. (at i (omega (arith, g.readers))).readers))
+
+pub one_same : (p q : Portion) → p ≡ q → (i : ℕ) → SameAt p q i
+one_same p q e i = record {
+  source = ap (λ (r : Portion). get_or r.sources i Outside) e;
+  input = ap (λ (r : Portion). get_or r.inputs i false) e;
+  readers = ap (λ (r : Portion). get_or r.readers i []) e;
+}
 
 -- ---- cells
 
@@ -42,82 +111,83 @@ module _ (nets : List ℕ) (up : IsStrictlyIncreasing nets) where
       let rest = places_same xs ys (λ k d l. g (suc k) d (omega (arith, l))) (λ k d l. h (suc k) d (omega (arith, l))) others in
       cc
 
-  abbrev pub Meaning : List ℕ → Cell → List ℕ → Cell → Type 0
-  Meaning pins a others b = (cell_source nets pins a ≡ cell_source nets others b) × (is_input_cell a ≡ is_input_cell b)
-
-  pub cell_decides : (pins others : List ℕ) → All (λ pin. pin < length nets) pins → All (λ pin. pin < length nets) others → (a b : Cell)
-      → CellFits (length nets) (length pins) a → CellFits (length nets) (length others) b → Decides (same_cell pins a others b) (Meaning pins a others b)
-  cell_decides pins others g h cell.Input cell.Input x y = (λ r. (refl, refl), λ r. refl)
-  cell_decides pins others g h cell.Foreign cell.Foreign x y = (λ r. (refl, refl), λ r. refl)
-  cell_decides pins others g h (cell.Gate k d s) (cell.Gate l e t) x y =
-      let net : ℕ → ℕ = λ place. get_or nets place 0 in (
-        λ r. (let (kinds, delays, same) = gates_are k l d e (stretch pins s) (stretch others t) r in
-            let nets_same : map (λ place. get_or nets place 0) (stretch pins s) ≡ map (λ place. get_or nets place 0) (stretch others t) = ap (map (λ place. get_or nets place 0)) same in
-            (cc, refl)),
-        λ r. (let source = r.0 in
-            let kinds : k ≡ l = cc in
-            let delays : d ≡ e = cc in
-            let same : map (λ place. get_or nets place 0) (stretch pins s) ≡ map (λ place. get_or nets place 0) (stretch others t) = cc in
-            gates_same k l d e (stretch pins s) (stretch others t) kinds delays
-            (places_same (stretch pins s) (stretch others t)
-            (All-take (λ pin. pin < length nets) s.count (drop s.start pins) (All-drop (λ pin. pin < length nets) s.start pins g))
-            (All-take (λ pin. pin < length nets) t.count (drop t.start others) (All-drop (λ pin. pin < length nets) t.start others h)) same)),
-      )
-  cell_decides pins others g h (cell.Flop d n c) (cell.Flop e m j) x y = (
-    λ r. (let (delays, data_same, clocks) = numbers_are d e n m c j r in (cc, refl)),
+  -- cells that say the same mean the same, and the other way round
+  cells_same : (pins others : List ℕ) → All (λ pin. pin < length nets) pins → All (λ pin. pin < length nets) others → (a b : Cell)
+      → CellFits (length nets) (length pins) a → CellFits (length nets) (length others) b
+      → SameCell pins a others b ↔ ((cell_source nets pins a ≡ cell_source nets others b) × (is_input_cell a ≡ is_input_cell b))
+  cells_same pins others g h cell.Input cell.Input x y = (λ r. (refl, refl), λ r. tt)
+  cells_same pins others g h cell.Foreign cell.Foreign x y = (λ r. (refl, refl), λ r. tt)
+  cells_same pins others g h (cell.Gate k d s) (cell.Gate l e t) x y = (
+    λ r. (let kinds = r.0 in
+        let delays = r.1 in
+        let nets_same : map (λ place. get_or nets place 0) (stretch pins s) ≡ map (λ place. get_or nets place 0) (stretch others t) = ap (map (λ place. get_or nets place 0)) r.2 in
+        (cc, refl)),
+    λ r. (let source = r.0 in
+        let kinds : k ≡ l = cc in
+        let delays : d ≡ e = cc in
+        let same : map (λ place. get_or nets place 0) (stretch pins s) ≡ map (λ place. get_or nets place 0) (stretch others t) = cc in (
+          kinds,
+          delays,
+          places_same (stretch pins s) (stretch others t)
+              (All-take (λ pin. pin < length nets) s.count (drop s.start pins) (All-drop (λ pin. pin < length nets) s.start pins g))
+              (All-take (λ pin. pin < length nets) t.count (drop t.start others) (All-drop (λ pin. pin < length nets) t.start others h)) same,
+        )),
+  )
+  cells_same pins others g h (cell.Flop d n c) (cell.Flop e m j) x y = (
+    λ r. (let delays = r.0 in let data_same = r.1 in let clocks = r.2 in (cc, refl)),
     λ r. (let source = r.0 in
         let delays : d ≡ e = cc in
         let data_same : get_or nets n 0 ≡ get_or nets m 0 = cc in
         let clocks : get_or nets c 0 ≡ get_or nets j 0 = cc in
-        numbers_same d e n m c j delays (place_same n m x.0 y.0 data_same) (place_same c j x.1 y.1 clocks)),
+        (delays, place_same n m x.0 y.0 data_same, place_same c j x.1 y.1 clocks)),
   )
-  cell_decides pins others g h cell.Input cell.Foreign x y = (λ r. absurd cc, λ r. absurd (let f = r.1 in cc))
-  cell_decides pins others g h cell.Input (cell.Gate l e t) x y = (λ r. absurd cc, λ r. absurd (let f = r.0 in cc))
-  cell_decides pins others g h cell.Input (cell.Flop e m j) x y = (λ r. absurd cc, λ r. absurd (let f = r.0 in cc))
-  cell_decides pins others g h cell.Foreign cell.Input x y = (λ r. absurd cc, λ r. absurd (let f = r.1 in cc))
-  cell_decides pins others g h cell.Foreign (cell.Gate l e t) x y = (λ r. absurd cc, λ r. absurd (let f = r.0 in cc))
-  cell_decides pins others g h cell.Foreign (cell.Flop e m j) x y = (λ r. absurd cc, λ r. absurd (let f = r.0 in cc))
-  cell_decides pins others g h (cell.Gate k d s) cell.Input x y = (λ r. absurd cc, λ r. absurd (let f = r.0 in cc))
-  cell_decides pins others g h (cell.Gate k d s) cell.Foreign x y = (λ r. absurd cc, λ r. absurd (let f = r.0 in cc))
-  cell_decides pins others g h (cell.Gate k d s) (cell.Flop e m j) x y = (λ r. absurd cc, λ r. absurd (let f = r.0 in cc))
-  cell_decides pins others g h (cell.Flop d n c) cell.Input x y = (λ r. absurd cc, λ r. absurd (let f = r.0 in cc))
-  cell_decides pins others g h (cell.Flop d n c) cell.Foreign x y = (λ r. absurd cc, λ r. absurd (let f = r.0 in cc))
-  cell_decides pins others g h (cell.Flop d n c) (cell.Gate l e t) x y = (λ r. absurd cc, λ r. absurd (let f = r.0 in cc))
+  cells_same pins others g h cell.Input cell.Foreign x y = (λ r. absurd r, λ r. absurd (let f = r.1 in cc))
+  cells_same pins others g h cell.Input (cell.Gate l e t) x y = (λ r. absurd r, λ r. absurd (let f = r.0 in cc))
+  cells_same pins others g h cell.Input (cell.Flop e m j) x y = (λ r. absurd r, λ r. absurd (let f = r.0 in cc))
+  cells_same pins others g h cell.Foreign cell.Input x y = (λ r. absurd r, λ r. absurd (let f = r.1 in cc))
+  cells_same pins others g h cell.Foreign (cell.Gate l e t) x y = (λ r. absurd r, λ r. absurd (let f = r.0 in cc))
+  cells_same pins others g h cell.Foreign (cell.Flop e m j) x y = (λ r. absurd r, λ r. absurd (let f = r.0 in cc))
+  cells_same pins others g h (cell.Gate k d s) cell.Input x y = (λ r. absurd r, λ r. absurd (let f = r.0 in cc))
+  cells_same pins others g h (cell.Gate k d s) cell.Foreign x y = (λ r. absurd r, λ r. absurd (let f = r.0 in cc))
+  cells_same pins others g h (cell.Gate k d s) (cell.Flop e m j) x y = (λ r. absurd r, λ r. absurd (let f = r.0 in cc))
+  cells_same pins others g h (cell.Flop d n c) cell.Input x y = (λ r. absurd r, λ r. absurd (let f = r.0 in cc))
+  cells_same pins others g h (cell.Flop d n c) cell.Foreign x y = (λ r. absurd r, λ r. absurd (let f = r.0 in cc))
+  cells_same pins others g h (cell.Flop d n c) (cell.Gate l e t) x y = (λ r. absurd r, λ r. absurd (let f = r.0 in cc))
 
--- of parts that have the law of parts
-pub same_decides : (p q : Portion) → IsPortion p → IsPortion q → Decides (same_part p q) (p ≡ q)
-same_decides p q g h = (
-  λ e. (let s = (part_decides p q).0 e in
-      let many : length p.nets ≡ length q.nets = ap length s.nets in
-      same_portion p q s.block s.nets
-      (ext_get_or Outside p.sources q.sources (omega (arith, g.sources, h.sources)) (λ i l. (s.at i (omega (arith, g.sources))).0))
-      (ext_get_or false p.inputs q.inputs (omega (arith, g.inputs, h.inputs)) (λ i l. (s.at i (omega (arith, g.inputs))).1))
-      (ext_get_or [] p.readers q.readers (omega (arith, g.readers, h.readers)) (λ i l. (s.at i (omega (arith, g.readers))).2))),
-  λ e. subst (λ r. same_part p r ≡ true) e ((part_decides p p).1 (record { block = refl; nets = refl; at = λ i l. (refl, refl, refl) })),
+-- two parts with the same nets say the same of a place where their cells do
+pub cells_at : (p q : Inside) (v w : Portion) → portion_of p ≡ v → portion_of q ≡ w → (i : ℕ) (a b : Cell) (pins others : List ℕ) → IsHeld p → IsHeld q → v.nets ≡ w.nets → i < length v.nets
+    → a ≡ get_or p.cells.items i a → b ≡ get_or q.cells.items i b → pins ≡ p.pins.items → others ≡ q.pins.items
+    → SameCell pins a others b ↔ ((get_or v.sources i Outside ≡ get_or w.sources i Outside) × (get_or v.inputs i false ≡ get_or w.inputs i false))
+cells_at p q v w is_v is_w i a b pins others g h same_nets in_v at bt pins_p pins_q = rw (pins_p, pins_q, ← is_v, ← is_w) (
+  λ e. (let means = cells.0 e in (source_p ∙ means.0 ∙ sym source_q, input_p ∙ means.1 ∙ sym input_q)),
+  λ s. cells.1 (sym source_p ∙ s.0 ∙ source_q, sym input_p ∙ s.1 ∙ input_q),
 )
+  where
+    nets : p.nets.items ≡ q.nets.items
+    nets = rw (← is_v, ← is_w) at same_nets
 
--- what two parts with the same nets say of a place, by their cells
-pub same_at-cells : (p q : Inside) (i : ℕ) (a b : Cell) → IsHeld p → IsHeld q → p.nets.items ≡ q.nets.items → i < length p.nets.items → get_or p.cells.items i a ≡ a → get_or q.cells.items i b ≡ b
-    → (same_cell p.pins.items a q.pins.items b && bytes_eq (get_or (portion_of p).readers i []) (get_or (portion_of q).readers i [])) ≡ same_at (portion_of p) (portion_of q) i
-same_at-cells p q i a b g h nets l at bt =
-    let nets_p = p.nets.items in
-    let many : length q.nets.items ≡ length p.nets.items = ap length (sym nets) in
-    let m : i < length q.nets.items = omega (arith, many) in
-    let pins : All (λ pin. pin < length p.nets.items) q.pins.items = λ k e n. omega (arith, h.pins k e n, many) in
-    let fits : CellFits (length p.nets.items) (length q.pins.items) b = subst (λ n. CellFits n (length q.pins.items) b) many (fits-at q i b b h m bt) in
-    let cells : Decides (same_cell p.pins.items a q.pins.items b) (Meaning p.nets.items g.portion.ascending p.pins.items a q.pins.items b) =
-    cell_decides p.nets.items g.portion.ascending p.pins.items q.pins.items g.pins pins a b (fits-at p i a a g l at) fits in
-    let source_p : get_or (portion_of p).sources i Outside ≡ cell_source p.nets.items p.pins.items a = source-at p i a a g l at in
-    let source_q : get_or (portion_of q).sources i Outside ≡ cell_source p.nets.items q.pins.items b = source-at q i b b h m bt ∙ ap (λ ns. cell_source ns q.pins.items b) (sym nets) in
-    let input_p : get_or (portion_of p).inputs i false ≡ is_input_cell a = get_or-map is_input_cell p.cells.items i a false (omega (arith, g.cells)) ∙ ap is_input_cell at in
-    let input_q : get_or (portion_of q).inputs i false ≡ is_input_cell b = get_or-map is_input_cell q.cells.items i b false (omega (arith, h.cells)) ∙ ap is_input_cell bt in
-    let first = same_cell p.pins.items a q.pins.items b in
-    let second = bytes_eq (get_or (portion_of p).readers i []) (get_or (portion_of q).readers i []) in
-    let readers = bytes_decides (get_or (portion_of p).readers i []) (get_or (portion_of q).readers i []) in
-    one_answer (first && second) (same_at (portion_of p) (portion_of q) i) (
-      λ e. (let (x, y) = and_parts first second e in
-          let means = cells.0 x in
-          (source_p ∙ means.0 ∙ sym source_q, input_p ∙ means.1 ∙ sym input_q, readers.0 y)),
-      λ s. and_from first second (cells.1 (sym source_p ∙ s.0 ∙ source_q, sym input_p ∙ s.1 ∙ input_q)) (readers.1 s.2),
-    )
-    (at_decides (portion_of p) (portion_of q) i)
+    l : i < length p.nets.items
+    l = rw (← is_v) at in_v
+
+    many : length q.nets.items ≡ length p.nets.items
+    many = ap length (sym nets)
+
+    m : i < length q.nets.items
+    m = omega (arith, many, l)
+
+    cells : SameCell p.pins.items a q.pins.items b ↔ ((cell_source p.nets.items p.pins.items a ≡ cell_source p.nets.items q.pins.items b) × (is_input_cell a ≡ is_input_cell b))
+    cells =
+        cells_same p.nets.items g.portion.ascending p.pins.items q.pins.items g.pins (λ k e n. omega (arith, h.pins k e n, many)) a b (fits-at p i a a g l (sym at))
+        (subst (λ n. CellFits n (length q.pins.items) b) many (fits-at q i b b h m (sym bt)))
+
+    source_p : get_or (portion_of p).sources i Outside ≡ cell_source p.nets.items p.pins.items a
+    source_p = source-at p i a a g l (sym at)
+
+    source_q : get_or (portion_of q).sources i Outside ≡ cell_source p.nets.items q.pins.items b
+    source_q = source-at q i b b h m (sym bt) ∙ ap (λ ns. cell_source ns q.pins.items b) (sym nets)
+
+    input_p : get_or (portion_of p).inputs i false ≡ is_input_cell a
+    input_p = get_or-map is_input_cell p.cells.items i a false (omega (arith, g.cells, l)) ∙ ap is_input_cell (sym at)
+
+    input_q : get_or (portion_of q).inputs i false ≡ is_input_cell b
+    input_q = get_or-map is_input_cell q.cells.items i b false (omega (arith, h.cells, m)) ∙ ap is_input_cell (sym bt)

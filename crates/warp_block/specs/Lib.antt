@@ -9,7 +9,6 @@ pub mod PartOf
 pub mod HeldPart
 pub mod Building
 pub mod SamePart
-pub mod PartLaws
 pub mod Moments
 pub mod Held
 pub mod Saving

@@ -1,7 +1,8 @@
--- When two parts are one: they have the same number, the same nets, and say the same of each net.
-use Rattle.std.specs.Prelude.{ℕ, ◌+◌, ◌≤◌, Bool, true, false, ◌&&◌, ◌==◌, List, [], get_or, length}
-use Rattle.std.specs.List.{list_all, range_with_len}
-use Rattle.std.specs.Str.{bytes_eq}
+-- The tests by which two parts are compared.
+use Rattle.std.specs.Prelude.{◌≡◌, ℕ, ◌+◌, ◌≤◌, Bool, false, ◌==◌, List, [], ◌∷◌, get_or}
+use Rattle.std.specs.Ordering.{on, eq_of_both}
+use Rattle.std.specs.Bool.{beq}
+use lib.Pointwise.{pointwise}
 use Rattle.gate_values.specs.declared.gate.Kind.{Kind}
 use Rattle.gate_values.specs.declared.gate.Kind.TheVariants.{And, Nand, Or, Nor, Xor, Xnor, Not, Buff}
 use Rattle.gate_values.specs.Behaviour.{Source, Outside, Gate, Flop}
@@ -21,36 +22,34 @@ kind_place Xnor = 5
 kind_place Not = 6
 kind_place Buff = 7
 
-abbrev pub same_kind : Kind → Kind → Bool
-same_kind k l = kind_place k == kind_place l
+-- a source as a list of numbers, which no other source has
+abbrev pub numbers_of : Source → List ℕ
+numbers_of Outside = []
+numbers_of (Gate kind delay inputs) = 0 ∷ kind_place kind ∷ delay ∷ inputs
+numbers_of (Flop delay data_net clock) = 1 ∷ delay ∷ data_net ∷ clock ∷ []
 
-abbrev pub same_source : Source → Source → Bool
-same_source Outside Outside = true
-same_source (Gate k d xs) (Gate l e ys) = same_kind k l && ((d == e) && bytes_eq xs ys)
-same_source (Flop d n c) (Flop e m k) = (d == e) && ((n == m) && (c == k))
-same_source _ _ = false
-
-abbrev pub same_flag : Bool → Bool → Bool
-same_flag true true = true
-same_flag false false = true
-same_flag _ _ = false
-
--- the parts say the same of the net at a place: what sets it, whether it is an input, and who reads it
-abbrev pub same_at : Portion → Portion → ℕ → Bool
-same_at p q i =
-    same_source (get_or p.sources i Outside) (get_or q.sources i Outside)
-    && (same_flag (get_or p.inputs i false) (get_or q.inputs i false) && bytes_eq (get_or p.readers i []) (get_or q.readers i []))
-
+-- field by field: block, nets, sources, inputs and readers
 abbrev pub same_part : Portion → Portion → Bool
-same_part p q = (p.block == q.block) && (bytes_eq p.nets q.nets && list_all (same_at p q) (range_with_len 0 (length p.nets)))
+same_part =
+    eq_of_both (on (λ p. p.block) ◌==◌)
+    (eq_of_both (on (λ p. p.nets) (pointwise ◌==◌))
+    (eq_of_both (on (λ p. p.sources) (pointwise (on numbers_of (pointwise ◌==◌))))
+    (eq_of_both (on (λ p. p.inputs) (pointwise beq))
+    (on (λ p. p.readers) (pointwise (pointwise ◌==◌))))))
+
+-- The parts say the same of the net at a place: what sets it, whether it is an input, and who reads it.
+pub record SameAt (p q : Portion) (i : ℕ) : Type 0 where
+  pub source : get_or p.sources i Outside ≡ get_or q.sources i Outside
+  pub input : get_or p.inputs i false ≡ get_or q.inputs i false
+  pub readers : get_or p.readers i [] ≡ get_or q.readers i []
 
 -- two cells, over their pins, say the same
-abbrev pub same_cell : List ℕ → Cell → List ℕ → Cell → Bool
-same_cell pins cell.Input others cell.Input = true
-same_cell pins cell.Foreign others cell.Foreign = true
-same_cell pins (cell.Gate k d s) others (cell.Gate l e t) = same_kind k l && ((d == e) && bytes_eq (stretch pins s) (stretch others t))
-same_cell pins (cell.Flop d n c) others (cell.Flop e m k) = (d == e) && ((n == m) && (c == k))
-same_cell _ _ _ _ = false
+abbrev pub SameCell : List ℕ → Cell → List ℕ → Cell → Type 0
+SameCell pins cell.Input others cell.Input = Unit {0}
+SameCell pins cell.Foreign others cell.Foreign = Unit {0}
+SameCell pins (cell.Gate k d s) others (cell.Gate l e t) = (k ≡ l) × (d ≡ e) × (stretch pins s ≡ stretch others t)
+SameCell pins (cell.Flop d n c) others (cell.Flop e m k) = (d ≡ e) × (n ≡ m) × (c ≡ k)
+SameCell _ _ _ _ = ⊥
 
 -- the stretch of a gate lies within so many pins
 abbrev pub Spans : ℕ → Cell → Type 0

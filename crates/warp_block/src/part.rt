@@ -1,11 +1,13 @@
-ghost use Rattle.std.specs.Prelude.{◌≡◌, ◌<◌, ◌≤◌, false, [], if◌then◌else◌, IfOk, OnOk, length, get_or, map, slice_index, vec_len, ◌↔◌, IsTrue};
-ghost use Rattle.std.specs.List.{All, list_all, range_with_len};
+ghost use Rattle.std.specs.Prelude.{◌≡◌, ◌<◌, ◌≤◌, ℕ, false, [], if◌then◌else◌, IfOk, OnOk, length, get_or, map, slice_index, vec_len, ◌↔◌, IsTrue};
+ghost use Rattle.std.specs.List.{All};
+ghost use Rattle.std.specs.Cmp.Rules.{comparing};
+ghost use Rattle.std.proofs.Common.{rules};
 ghost use Rattle.gate_values.specs.declared.logic.Logic.TheVariants.{X};
 ghost use Rattle.gate_values.specs.Behaviour.{Outside, output as source_output, next_content as source_content, delay_of};
 ghost use Rattle.gate_netlist.specs.Circuit.{CutFits};
 ghost use Rattle.warp_block.specs.Portion.{IsPortion, slot_of, owns, reads, hears, is_used, is_driven};
 ghost use Rattle.warp_block.specs.PartOf.{part_of};
-ghost use Rattle.warp_block.specs.SamePart.{same_at, same_part};
+ghost use Rattle.warp_block.specs.SamePart.{SameAt, same_part};
 ghost use Rattle.warp_block.specs.Moments.{moment_of, value_in};
 
 mod build;
@@ -251,7 +253,7 @@ impl Part {
     fn is_same_at(&self, other: &Part, slot: usize) -> bool
         requires slot { slot < length self.now.nets }
         requires nets { self.now.nets ≡ other.now.nets }
-        ensures { result ≡ same_at self.now other.now slot }
+        ensures { IsTrue result ↔ SameAt self.now other.now slot }
     {
         same::same_cell(self.cells[slot], &self.pins, other.cells[slot], &other.pins)
             && same::same_numbers(self.readers(slot), other.readers(slot))
@@ -259,8 +261,10 @@ impl Part {
 
     /// Whether two parts have the same number and nets, and say the same of each net.
     fn is_same(&self, other: &Part) -> bool
-        ensures { result ≡ same_part self.now other.now }
+        ensures { IsTrue result ↔ (self.now ≡ other.now) }
     {
+        self.law();
+        other.law();
         self.block == other.block
             && same::same_numbers(&self.nets, &other.nets)
             && self.is_same_everywhere(other)
@@ -269,7 +273,7 @@ impl Part {
     /// Whether two parts with the same nets say the same of each.
     fn is_same_everywhere(&self, other: &Part) -> bool
         requires { self.now.nets ≡ other.now.nets }
-        ensures { result ≡ list_all (same_at self.now other.now) (range_with_len 0 (length self.now.nets)) }
+        ensures { IsTrue result ↔ ((i : ℕ) → i < length self.now.nets → SameAt self.now other.now i) }
     {
         for slot in 0..self.len() {
             if !self.is_same_at(other, slot) {
@@ -281,18 +285,14 @@ impl Part {
 }
 
 impl PartialEq for Part {
-    ghost use Rattle.warp_block.specs.PartLaws.{same_part_laws};
-
     ghost eq = { same_part };
 
-    ghost laws = { same_part_laws };
+    ghost laws = { Prim.search (comparing, rules) depth 12 };
 
     fn eq(&self, other: &Part) -> bool
         ensures eq { result ≡ same_part self.now other.now }
         ensures same { IsTrue result ↔ (self.now ≡ other.now) }
     {
-        self.law();
-        other.law();
         self.is_same(other)
     }
 }

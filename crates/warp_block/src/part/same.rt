@@ -1,19 +1,18 @@
-ghost use Rattle.std.specs.Prelude.{◌≡◌, ◌≤◌, ◌+◌, length};
-ghost use Rattle.std.specs.Str.{bytes_eq};
-ghost use Rattle.warp_block.specs.SamePart.{same_kind, same_cell, Spans};
+ghost use Rattle.std.specs.Prelude.{◌≡◌, ◌≤◌, ◌+◌, ◌↔◌, IsTrue, length};
+ghost use Rattle.warp_block.specs.SamePart.{SameCell, Spans};
 
 use crate::cell::Cell;
 use gate_values::Kind;
 
 /// Whether two lists of numbers are equal.
 pub(super) fn same_numbers(first: &[u32], second: &[u32]) -> bool
-    ensures { result ≡ bytes_eq first.now second.now }
+    ensures { IsTrue result ↔ (first.now ≡ second.now) }
 {
     first == second
 }
 
 fn same_kind(first: Kind, second: Kind) -> bool
-    ensures { result ≡ same_kind first second }
+    ensures { IsTrue result ↔ (first ≡ second) }
 {
     first == second
 }
@@ -22,7 +21,7 @@ fn same_kind(first: Kind, second: Kind) -> bool
 pub(super) fn same_cell(first: Cell, pins: &[u32], second: Cell, others: &[u32]) -> bool
     requires first { Spans (length pins.now) first }
     requires second { Spans (length others.now) second }
-    ensures { result ≡ same_cell pins.now first others.now second }
+    ensures { IsTrue result ↔ SameCell pins.now first others.now second }
 {
     match first {
         Cell::Input => matches!(second, Cell::Input),

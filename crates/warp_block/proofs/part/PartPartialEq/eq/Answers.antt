@@ -1,5 +1,7 @@
-use Rattle.warp_block.proofs.PartEquality.{same_decides}
+use Rattle.std.proofs.lemmas.Bool.Decides.{same_from_decides}
+use Rattle.warp_block.specs.SamePart.{same_part}
+use Rattle.warp_block.proofs.PartEquality.{part_decides}
 use Rattle.warp_block.proofs.part.PartPartialEq.eq.Goals as goal
 
-pub returns-clause-same : goal.returns-clause-same
-returns-clause-same c = rw c.is_same.ensures (same_decides c.args.self.now c.args.other.now c.law.ensures c.law-2.ensures)
+pub returns-clause-eq : goal.returns-clause-eq
+returns-clause-eq c = same_from_decides c.is_same.result (same_part c.args.self.now c.args.other.now) c.is_same.ensures (part_decides c.args.self.now c.args.other.now)
