@@ -109,6 +109,13 @@ impl Part {
         }
     }
 
+    /// The nets that the block owns and those that its gates read, in ascending order.
+    pub fn nets(&self) -> &[u32]
+        ensures { result.now ≡ self.now.nets }
+    {
+        self.nets.as_slice()
+    }
+
     /// The number of its nets.
     pub(crate) fn len(&self) -> usize
         ensures count { result ≡ length self.now.nets }
