@@ -34,4 +34,8 @@ pub mod PartWhole
 pub mod Receiving
 pub mod PartEquality
 pub mod Starting
+pub mod Settled
+pub mod Unsettled
+pub mod Committing
+pub mod Committed
 pub mod Laws

@@ -13,7 +13,7 @@ use Rattle.warp_block.proofs.Views.{timed}
 use Rattle.warp_block.proofs.SavingTimes.{times-split, times-agree, times-one}
 
 -- two lists of what two functions give of each net
-map_same : {A : Type 0} (f g : ℕ → A) (ns : List ℕ) → ((n : ℕ) → f n ≡ g n) → map f ns ≡ map g ns
+pub map_same : {A : Type 0} (f g : ℕ → A) (ns : List ℕ) → ((n : ℕ) → f n ≡ g n) → map f ns ≡ map g ns
 map_same f g [] h = refl
 map_same f g (n ∷ ns) h = rw (h n, map_same f g ns h) refl
 

@@ -45,7 +45,7 @@ one_message v = with_number no_messages v (pos 1)
 
 -- the two entries have the same numbers
 abbrev pub same_entry : Entry → Entry → Bool
-same_entry a b = int_eq a.zero b.zero && int_eq a.one b.one && int_eq a.x b.x && int_eq a.z b.z
+same_entry a b = int_eq a.zero b.zero && (int_eq a.one b.one && (int_eq a.x b.x && int_eq a.z b.z))
 
 -- nothing stands and nothing waits, or one message of one value stands
 abbrev pub is_settled : Entry → Bool

@@ -1,4 +1,4 @@
-ghost use Rattle.std.specs.Prelude.{◌≡◌, ◌≢◌, ◌+◌, ◌≤◌, ◌<◌, ◌↔◌, ◌⊎◌, ℕ, IsTrue, IfOk, IfErr, OnOk, OnErr, Some, None, length, take};
+ghost use Rattle.std.specs.Prelude.{◌≡◌, ◌≢◌, ◌+◌, ◌-◌, ◌≤◌, ◌<◌, ◌↔◌, ◌⊎◌, ℕ, IsTrue, IfOk, IfErr, OnOk, OnErr, Some, None, length, take, drop};
 ghost use Rattle.std.specs.List.Sorted.{IsNonDecreasingBy, IsPartitionPoint};
 ghost use Rattle.warp_block.specs.Limits.{most_horizon};
 ghost use Rattle.warp_block.specs.declared.message.Sign.TheVariants.{Plus, Minus};
@@ -8,7 +8,7 @@ ghost use Rattle.warp_block.specs.Lawful.{IsLawful, IsLawfulProcess};
 ghost use Rattle.warp_block.specs.Opening.{silent_view, opening_view};
 ghost use Rattle.warp_block.specs.Receive.{refusal_of, IsRefusal, IsTaken};
 ghost use Rattle.warp_block.specs.Advance.{IsAdvanced, IsAfterEvent};
-ghost use Rattle.warp_block.specs.Commit.{IsCommittable, IsCommitted};
+ghost use Rattle.warp_block.specs.Commit.{IsCommittable, IsCommitted, IsCommitRefusal};
 ghost use Rattle.warp_block.specs.Sends.{SendsOnce};
 
 use crate::entry::Entry;
@@ -143,14 +143,22 @@ impl Block {
         Ok(())
     }
 
-    /// Commits everything below a floor.
+    /// Commits everything below a floor, which may be past the horizon: no message may come for it any more. Entries
+    /// and logs stay; of the saved states up to the floor the newest stays. Takes no memory.
+    ///
+    /// A floor below the block's own, one above an event time, and one above an entry that isn't settled are refused,
+    /// for the first of these causes; the entry named is the first by net, then time. After an error nothing has
+    /// changed.
     pub fn commit(&mut self, floor: u64) -> Result<(), BlockFault>
         ensures ok { OnOk result (IsCommitted self.old self.new floor) }
         ensures possible { OnOk result (IsCommittable self.old.seen floor) }
+        ensures refused { IfErr result (IsCommitRefusal self.old.seen floor) }
         ensures err { OnErr result (self.new ≡ self.old) }
     {
-        let _ = floor;
-        Err(BlockFault::FloorBack)
+        self.look.may_commit(floor)?;
+        self.look.commit(floor);
+        keep_from(&mut self.saved, floor);
+        Ok(())
     }
 
     /// What it holds, its saved states aside.
@@ -232,4 +240,22 @@ fn keep_until(saved: &mut Vec<State>, time: u64)
 {
     let kept = saved.partition_point(|state| state.mark <= time);
     saved.truncate(kept);
+}
+
+/// Drops the saved states before the newest one at a mark up to a time.
+fn keep_from(saved: &mut Vec<State>, time: u64)
+    requires { IsNonDecreasingBy (λ state. state.mark) saved.old.items }
+    ensures { (k : ℕ) × (k ≤ length saved.old.items) × (saved.new.items ≡ drop (k - 1) saved.old.items)
+        × IsPartitionPoint (λ state. state.mark ≤ time) (λ state. time < state.mark) saved.old.items k }
+{
+    let until = saved.partition_point(|state| state.mark <= time);
+    drop_first(saved, until.saturating_sub(1));
+}
+
+/// Drops the first so many saved states.
+fn drop_first(saved: &mut Vec<State>, count: usize)
+    requires { count ≤ length saved.old.items }
+    ensures { saved.new.items ≡ drop count saved.old.items }
+{
+    saved.drain(..count);
 }

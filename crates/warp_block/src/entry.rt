@@ -1,5 +1,5 @@
 ghost use Rattle.std.specs.Prelude.{◌≡◌, ◌≢◌, ◌↔◌, IsTrue, IfSome, IfNone, ◌+ℤ◌, if◌then◌else◌};
-ghost use Rattle.warp_block.specs.Entries.{effective_of, bump_of, number_of, with_number, no_messages, one_message, is_within, weight_of};
+ghost use Rattle.warp_block.specs.Entries.{effective_of, bump_of, number_of, with_number, no_messages, one_message, is_settled, is_within, weight_of};
 
 use crate::message::Sign;
 use gate_values::Logic;
@@ -58,6 +58,16 @@ impl Entry {
         match counted(self.number(value), sign) {
             Some(number) => Some(self.with(value, number)),
             None => None,
+        }
+    }
+
+    /// Whether nothing stands and nothing waits, or one message of one value stands.
+    pub(crate) fn is_settled(&self) -> bool
+        ensures { IsTrue result ↔ IsTrue (is_settled self.now) }
+    {
+        match self.effective() {
+            Some(value) => *self == Entry::one_message(value),
+            None => self.is_empty(),
         }
     }
 

@@ -12,6 +12,7 @@ ghost use Rattle.warp_block.specs.Receive.{is_for};
 ghost use Rattle.warp_block.specs.Held.{lists_in};
 
 mod admit;
+mod commit;
 mod emit;
 mod undo;
 

@@ -1,10 +1,10 @@
-ghost use Rattle.std.specs.Prelude.{◌≡◌, ◌≢◌, ◌<◌, ◌≤◌, ◌+◌, ℕ, ◌==◌, if◌then◌else◌, IsSome, OnOk, OnErr, IfOk, IfErr, map, length};
+ghost use Rattle.std.specs.Prelude.{◌≡◌, ◌≢◌, ◌<◌, ◌≤◌, ◌+◌, ℕ, ◌==◌, if◌then◌else◌, IsSome, IsTrue, OnOk, OnErr, IfOk, IfErr, map, length};
 ghost use Rattle.std.specs.List.{HoldsAt};
 ghost use Rattle.std.specs.List.Sorted.{IsPartitionPoint};
 ghost use Rattle.gate_values.specs.Changes.{held, before_time};
 ghost use Rattle.gate_vcd.specs.Lists.{IsRising};
 ghost use Rattle.warp_block.specs.Opening.{message_of};
-ghost use Rattle.warp_block.specs.Entries.{entry_in, effective_in, no_messages, IsQueue};
+ghost use Rattle.warp_block.specs.Entries.{entry_in, effective_in, no_messages, is_settled, IsQueue};
 ghost use Rattle.warp_block.specs.View.{IsLeast};
 
 use crate::entry::Entry;
@@ -126,6 +126,22 @@ pub(crate) fn next_kept(queue: &[Timed], from: u64) -> Option<u64>
 {
     let timed = queue.get(count_before(queue, from))?;
     Some(timed.time())
+}
+
+/// The least time from a time on, and below an end, at which the entry of a queue isn't settled.
+pub(crate) fn next_unsettled(queue: &[Timed], from: u64, end: u64) -> Option<u64>
+    requires { IsQueue queue.now }
+    ensures { IsLeast (λ t. (from ≤ t) × (t < end) × ¬ IsTrue (is_settled (entry_in queue.now t))) result }
+{
+    for timed in &queue[count_before(queue, from)..] {
+        if timed.time() >= end {
+            return None;
+        }
+        if !timed.entry().is_settled() {
+            return Some(timed.time());
+        }
+    }
+    None
 }
 
 /// Puts an entry into a queue at a time. After an error nothing has changed.
