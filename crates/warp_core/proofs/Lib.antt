@@ -1,0 +1,7 @@
+pub mod Parts
+pub mod Finished
+pub mod Matching
+pub mod Entries
+pub mod Sweeping
+pub mod Walking
+pub mod Filling

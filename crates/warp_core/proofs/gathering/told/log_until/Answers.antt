@@ -1,0 +1,12 @@
+use Rattle.std.proofs.Common.{sym, subst}
+use Rattle.gate_vcd.specs.Waves.{IsWave, IsUntil}
+use Rattle.warp_core.proofs.Finished.{log_wave}
+use Rattle.warp_core.proofs.gathering.told.log_until.Goals as goal
+
+pub returns-clause-wave : goal.returns-clause-wave
+returns-clause-wave c =
+    subst IsWave (sym c.log.ensures) (log_wave c.args.block.now.seen c.law.ensures.seen c.args.net).0
+
+pub returns-clause-until : goal.returns-clause-until
+returns-clause-until c =
+    subst (IsUntil c.args.block.now.seen.horizon) (sym c.log.ensures) (log_wave c.args.block.now.seen c.law.ensures.seen c.args.net).1

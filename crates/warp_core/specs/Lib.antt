@@ -1,0 +1,4 @@
+pub mod Values
+pub mod Matched
+pub mod Gather
+pub mod Walk
