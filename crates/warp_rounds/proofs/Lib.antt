@@ -1,3 +1,6 @@
-pub mod Ends
-pub mod Steps
-pub mod Sums
+mod Ends
+mod Pending
+mod Receiving
+mod Steps
+mod Sums
+mod Turning

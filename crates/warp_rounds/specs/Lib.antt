@@ -1,4 +1,5 @@
 pub mod Inside
 pub mod Rule
 pub mod Seats
+pub mod Turn
 pub mod Words

@@ -1,18 +1,29 @@
 //! Rounds of workers over the blocks of a circuit.
 //!
+//! A [`turn`] is what a block does at one go: it receives messages, commits what is below a floor, and finishes event
+//! times. A [`Site`] keeps a block behind a lock, and what is in flight to it behind another; a [`Gate`] watches turns.
+//!
 //! A [`Round`] shares the blocks out as its workers get to them: each worker has a [`RoundSeat`], draws blocks with it
 //! until none is left, and reports a time for each. Drawing and reporting are one atomic step each, and wait for
 //! nobody. [`Round::end`] takes all the seats back: it answers the least time reported, where every block was drawn.
-//! Times are whole numbers in units of the stimulus's timescale.
 //!
-//! The definitions stand in `specs/`: `Seats` for what callers see of a round and of its seats, `Rule` for the rule of
-//! the two shared words and what each step does to a seat, `Words` for words over lists of draws.
+//! Times are whole numbers in units of the stimulus's timescale. The definitions stand in `specs/`: `Turn` says what a
+//! turn does to a block, what it reports, and what it has done where it meets a fault; `Seats` what callers see of a
+//! round and of its seats; `Rule` the rule of a round's two shared words, and what each step does to a seat.
 #![tactic(auto)]
 
+mod gate;
 mod hand;
 mod round;
+mod site;
+mod turns;
 
+pub use gate::{Gate, NoGate};
 pub use round::{EndFault, Round, RoundSeat};
+pub use site::Site;
+pub use turns::{TurnReport, turn};
 
 #[cfg(test)]
 mod round_tests;
+#[cfg(test)]
+mod site_tests;

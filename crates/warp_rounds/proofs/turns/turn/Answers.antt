@@ -1,0 +1,59 @@
+use Rattle.std.proofs.Common.{◌∙◌, ap, rules}
+use Rattle.warp_rounds.proofs.Receiving.{received_part, received_horizon}
+use Rattle.warp_rounds.proofs.Turning.{turned_part, turned_horizon, turned_numbers, turned_sends, held_back}
+use Rattle.warp_rounds.proofs.turns.turn.Goals as goal
+
+pub returns-clause-numbers : goal.returns-clause-numbers
+returns-clause-numbers c =
+    turned_numbers c.args.block.now c.receive_all.new.block c.commit.new.self c.advance.new.self.seen _ _ _
+    c.in_ok-receive_all.ensures.received c.in_ok-commit.ensures.ok c.in_ok-advance.ensures.ok
+
+pub returns-clause-part : goal.returns-clause-part
+returns-clause-part c =
+    turned_part c.args.block.now c.receive_all.new.block c.commit.new.self c.advance.new.self.seen _ _ _
+    c.in_ok-receive_all.ensures.received c.in_ok-commit.ensures.ok c.in_ok-advance.ensures.ok
+
+pub returns-clause-horizon : goal.returns-clause-horizon
+returns-clause-horizon c =
+    turned_horizon c.args.block.now c.receive_all.new.block c.commit.new.self c.advance.new.self.seen _ _ _
+    c.in_ok-receive_all.ensures.received c.in_ok-commit.ensures.ok c.in_ok-advance.ensures.ok
+
+pub returns-clause-sends : goal.returns-clause-sends
+returns-clause-sends c =
+    turned_sends c.args.block.now c.receive_all.new.block c.commit.new.self c.advance.new.self.seen _ _ _ _ _
+    c.in_ok-receive_all.ensures.received c.in_ok-commit.ensures.ok c.receive_all.ensures.pending c.receive_all.ensures.sends c.advance.ensures.sends
+
+pub returns-in_err-receive_all-clause-part : goal.returns-in_err-receive_all-clause-part
+returns-in_err-receive_all-clause-part c = received_part c.args.block.now.seen c.receive_all.new.block.seen _ c.in_err-receive_all.ensures.refused.received
+
+pub returns-in_err-receive_all-clause-horizon : goal.returns-in_err-receive_all-clause-horizon
+returns-in_err-receive_all-clause-horizon c = received_horizon c.args.block.now.seen c.receive_all.new.block.seen _ c.in_err-receive_all.ensures.refused.received
+
+pub returns-in_err-commit-clause-part : goal.returns-in_err-commit-clause-part
+returns-in_err-commit-clause-part c =
+    ap (λ p. p.seen.part) c.in_err-commit.ensures.err ∙ received_part c.args.block.now.seen c.receive_all.new.block.seen _ c.in_ok-receive_all.ensures.received
+
+pub returns-in_err-commit-clause-horizon : goal.returns-in_err-commit-clause-horizon
+returns-in_err-commit-clause-horizon c =
+    ap (λ p. p.seen.horizon) c.in_err-commit.ensures.err ∙ received_horizon c.args.block.now.seen c.receive_all.new.block.seen _ c.in_ok-receive_all.ensures.received
+
+pub returns-in_err-commit-clause-fault : goal.returns-in_err-commit-clause-fault
+returns-in_err-commit-clause-fault c =
+    let fault = held_back c.args.block.now c.receive_all.new.block c.commit.new.self c.args.messages.now c.args.floor c.args.window c.in_err-commit.field-0.0
+    c.in_ok-receive_all.ensures.received c.in_err-commit.ensures.err c.in_err-commit.ensures.refused in
+    search rules
+
+pub returns-in_err-advance-clause-part : goal.returns-in_err-advance-clause-part
+returns-in_err-advance-clause-part c =
+    turned_part c.args.block.now c.receive_all.new.block c.commit.new.self c.advance.new.self.seen _ _ _
+    c.in_ok-receive_all.ensures.received c.in_ok-commit.ensures.ok c.in_err-advance.ensures.some.2
+
+pub returns-in_err-advance-clause-horizon : goal.returns-in_err-advance-clause-horizon
+returns-in_err-advance-clause-horizon c =
+    turned_horizon c.args.block.now c.receive_all.new.block c.commit.new.self c.advance.new.self.seen _ _ _
+    c.in_ok-receive_all.ensures.received c.in_ok-commit.ensures.ok c.in_err-advance.ensures.some.2
+
+pub returns-in_err-advance-clause-sends : goal.returns-in_err-advance-clause-sends
+returns-in_err-advance-clause-sends c =
+    turned_sends c.args.block.now c.receive_all.new.block c.commit.new.self c.advance.new.self.seen _ _ _ _ _
+    c.in_ok-receive_all.ensures.received c.in_ok-commit.ensures.ok c.receive_all.ensures.pending c.receive_all.ensures.sends c.advance.ensures.sends

@@ -1,0 +1,89 @@
+ghost use Rattle.std.specs.Prelude.{◌≡◌, ◌⊎◌, ℕ, IfOk, IfErr, OnOk};
+ghost use Rattle.warp_block.specs.View.{IsEventTime, IsLeast, earlier_of};
+ghost use Rattle.warp_block.specs.Sends.{Sends};
+ghost use Rattle.warp_rounds.specs.Turn.{AreReceived, AddsUp, IsPending, IsFromPending, IsAfterPending, IsLeastPending, IsRefusedAt, IsTurn, IsFaultyTurn, put_behind};
+
+use warp_block::{Block, BlockFault, Message};
+
+/// What a turn answers.
+#[derive(Clone, Copy, Debug, PartialEq, Eq)]
+pub struct TurnReport {
+    /// The least of the block's next time and the times of what the turn sent; the horizon and one, where there is
+    /// none.
+    pub least: u64,
+}
+
+/// What a block does at one go: it receives the messages in order, commits what is below the floor, and finishes up to
+/// `window` event times. What it sends goes behind `out`.
+///
+/// The faults are those of [`Block::receive`], [`Block::commit`] and [`Block::advance`]. What was done and sent before a
+/// fault stands.
+pub fn turn(
+    block: &mut Block,
+    messages: &[Message],
+    floor: u64,
+    window: u32,
+    out: &mut Vec<Message>,
+) -> Result<TurnReport, BlockFault>
+    ensures part { block.new.seen.part ≡ block.old.seen.part }
+    ensures horizon { block.new.seen.horizon ≡ block.old.seen.horizon }
+    ensures floor { OnOk result (block.new.seen.floor ≡ floor) }
+    ensures numbers { OnOk result (AddsUp block.old.seen block.new.seen messages.now) }
+    ensures turn { OnOk result (IsTurn block.old block.new messages.now floor window) }
+    ensures least { IfOk result (λ report. IsLeastPending block.new.seen (put_behind out.old.items out.new.items) report.least) }
+    ensures fault { IfErr result (IsFaultyTurn block.old block.new messages.now floor window) }
+    ensures sends { Sends block.old.seen block.new.seen (IsAfterPending block.old.seen messages.now) out.old.items out.new.items }
+{
+    let start = out.len();
+    receive_all(block, messages, out)?;
+    block.commit(floor)?;
+    block.law();
+    block.advance(window, out)?;
+    let least = least_pending(block, &out[start..]);
+    Ok(TurnReport {
+        least: least.unwrap_or(block.horizon() + 1),
+    })
+}
+
+/// Receives some messages in order, up to one that is refused.
+fn receive_all(
+    block: &mut Block,
+    messages: &[Message],
+    out: &mut Vec<Message>,
+) -> Result<(), BlockFault>
+    ensures received { OnOk result (AreReceived block.old.seen block.new.seen messages.now) }
+    ensures refused { IfErr result (IsRefusedAt block.old.seen block.new.seen messages.now) }
+    ensures pending { (t : ℕ) → IsEventTime block.new.seen t → IsFromPending block.old.seen messages.now t }
+    ensures sends { Sends block.old.seen block.new.seen (IsAfterPending block.old.seen messages.now) out.old.items out.new.items }
+{
+    block.law();
+    for message in messages {
+        match block.receive(*message, out) {
+            Ok(()) => block.law(),
+            Err(fault) => return Err(fault),
+        }
+    }
+    Ok(())
+}
+
+/// The least of the next time of a block and the times of some messages.
+fn least_pending(block: &Block, messages: &[Message]) -> Option<u64>
+    ensures { IsLeast (IsPending block.now.seen messages.now) result }
+{
+    let mut least = block.next_time();
+    for message in messages {
+        least = earlier(least, Some(message.time));
+    }
+    least
+}
+
+/// The lesser of two times, where there is one.
+fn earlier(first: Option<u64>, second: Option<u64>) -> Option<u64>
+    ensures { result ≡ earlier_of first second }
+{
+    match (first, second) {
+        (Some(first), Some(second)) if first <= second => Some(first),
+        (Some(first), None) => Some(first),
+        _ => second,
+    }
+}
