@@ -1,5 +1,7 @@
+pub mod Faults
 pub mod Inside
 pub mod Rule
 pub mod Seats
 pub mod Turn
 pub mod Words
+pub mod Work

@@ -7,23 +7,32 @@
 //! until none is left, and reports a time for each. Drawing and reporting are one atomic step each, and wait for
 //! nobody. [`Round::end`] takes all the seats back: it answers the least time reported, where every block was drawn.
 //!
+//! [`run`] plays rounds until nothing is left, and answers the circuit's waves.
+//!
 //! Times are whole numbers in units of the stimulus's timescale. The definitions stand in `specs/`: `Turn` says what a
 //! turn does to a block, what it reports, and what it has done where it meets a fault; `Seats` what callers see of a
 //! round and of its seats; `Rule` the rule of a round's two shared words, and what each step does to a seat.
 #![tactic(auto)]
 
+mod fault;
 mod gate;
 mod hand;
 mod round;
+mod runs;
 mod site;
 mod turns;
+mod work;
 
+pub use fault::RunFault;
 pub use gate::{Gate, NoGate};
 pub use round::{EndFault, Round, RoundSeat};
+pub use runs::run;
 pub use site::Site;
 pub use turns::{TurnReport, turn};
 
 #[cfg(test)]
 mod round_tests;
+#[cfg(test)]
+mod run_tests;
 #[cfg(test)]
 mod site_tests;

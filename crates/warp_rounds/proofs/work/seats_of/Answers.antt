@@ -1,0 +1,16 @@
+use Rattle.std.proofs.Common.{◌≡◌, All}
+use Rattle.std.proofs.lemmas.List.Elements.{All-head, All-tail, All-push, All-same}
+use Rattle.warp_rounds.specs.Seats.{RoundId, SeatView}
+use Rattle.warp_rounds.specs.Work.{IsOfRound}
+use Rattle.warp_rounds.proofs.work.seats_of.Goals as goal
+
+pub loop-worker-preserved : goal.loop-worker-preserved
+loop-worker-preserved c = let steps = c.in-Some.ensures.steps in record {
+  can_next = tt;
+  is_finite = tt;
+  ours = λ r all.
+      let both = c.loop-worker.invariant.ours r all in let rest = rw steps.0 at both.1 in
+      let IsOf : SeatView → Type 0 = λ s. s.round ≡ r in
+      let pushed = rw c.in_ok-reserve.ensures.items at c.push_reserved.ensures.items in
+      (All-same IsOf _ _ pushed (All-push IsOf _ c.in-Some.worker.seat both.0 (All-head (IsOfRound r) c.in-Some.worker _ rest)), All-tail (IsOfRound r) c.in-Some.worker _ rest);
+}

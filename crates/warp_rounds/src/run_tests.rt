@@ -1,0 +1,172 @@
+ghost use Rattle.std.specs.Prelude.{◌≤◌};
+
+use crate::{Gate, run};
+use Logic::{One, Zero};
+use gate_netlist::{Circuit, Cut, read_bench};
+use gate_values::{Change, Logic};
+use gate_vcd::{Waves, read_stimulus};
+use std::alloc::Global;
+use std::hint;
+use std::sync::Wait;
+use std::sync::atomic::AtomicBool;
+use std::sync::atomic::Ordering::SeqCst;
+use std::test::Fail;
+use std::thread::Threads;
+use warp_block::Block;
+
+const BENCH: &str = "INPUT(P)\nINPUT(Q)\nA = BUFF(P)\nB = BUFF(Q)\nY = AND(A, B)\nZ = NOT(Y)\n";
+
+const STIMULUS: &str = "$var wire 1 p P $end $var wire 1 q Q $end $enddefinitions $end #0 1p 1q";
+
+/// Each net's one change up to time 10, with delays of 1.
+const WAVES: [(u32, u64, Logic); 6] = [
+    (0, 0, One),
+    (1, 0, One),
+    (2, 1, One),
+    (3, 1, One),
+    (4, 2, One),
+    (5, 3, Zero),
+];
+
+const POLLS: u32 = 10_000_000;
+
+/// Holds a block's turn until turns of others have begun, for at most `POLLS` polls.
+#[derive(Drop)]
+struct Meeting {
+    /// The blocks that each block waits for.
+    awaits: [&'static [usize]; 3],
+    /// Whether a turn of the block has begun.
+    begun: [AtomicBool; 3],
+    /// Whether the block was finished, with the right logs, when its last turn ended.
+    finished: [AtomicBool; 3],
+    gave_up: AtomicBool,
+}
+
+impl Meeting {
+    fn new(awaits: [&'static [usize]; 3]) -> Meeting {
+        Meeting {
+            awaits,
+            begun: unset(),
+            finished: unset(),
+            gave_up: AtomicBool::new(false),
+        }
+    }
+
+    fn have_begun(&self, blocks: &[usize]) -> bool {
+        for block in blocks {
+            if !is_set(&self.begun, *block) {
+                return false;
+            }
+        }
+        true
+    }
+}
+
+impl Gate for Meeting {
+    fn entered(&self, block: &Block) {
+        let block = block.part().block() as usize;
+        store(&self.begun, block, true);
+        let Some(awaited) = self.awaits.get(block) else {
+            return;
+        };
+        for _ in 0..POLLS {
+            if self.have_begun(awaited) {
+                return;
+            }
+            hint::spin_loop();
+        }
+        self.gave_up.store(true, SeqCst);
+    }
+
+    fn leaving(&self, block: &Block) {
+        let number = block.part().block() as usize;
+        store(
+            &self.finished,
+            number,
+            block.done() && logs_are_right(block),
+        );
+    }
+}
+
+fn unset() -> [AtomicBool; 3] {
+    [
+        AtomicBool::new(false),
+        AtomicBool::new(false),
+        AtomicBool::new(false),
+    ]
+}
+
+fn is_set(flags: &[AtomicBool; 3], at: usize) -> bool {
+    match flags.get(at) {
+        Some(flag) => flag.load(SeqCst),
+        None => false,
+    }
+}
+
+fn store(flags: &[AtomicBool; 3], at: usize, value: bool) {
+    if let Some(flag) = flags.get(at) {
+        flag.store(value, SeqCst);
+    }
+}
+
+fn logs_are_right(block: &Block) -> bool {
+    for (net, time, value) in WAVES {
+        if block.part().owns(net) && block.log(net) != [Change { time, value }].as_slice() {
+            return false;
+        }
+    }
+    true
+}
+
+fn waves_are_right(waves: &Waves) -> bool {
+    for (net, time, value) in WAVES {
+        if net >= waves.nets() || waves.changes(net) != [Change { time, value }].as_slice() {
+            return false;
+        }
+    }
+    waves.nets() == 6
+}
+
+/// Runs the circuit cut evenly into so many blocks, and answers whether the waves are right.
+fn runs<R: Threads + Wait + Sync>(
+    rt: &R,
+    alloc: Global,
+    blocks: u32,
+    workers: u32,
+    gate: &Meeting,
+) -> Result<bool, Fail>
+    requires blocks { (1 ≤ blocks) × (blocks ≤ 1024) }
+    requires workers { (1 ≤ workers) × (workers ≤ 64) }
+{
+    let bench = read_bench(alloc, BENCH.as_bytes())?;
+    let circuit = Circuit::of(alloc, bench, b"")?;
+    let stimulus = read_stimulus(alloc, STIMULUS.as_bytes(), &circuit)?;
+    let cut = Cut::even(alloc, &circuit, blocks)?;
+    let waves = run(rt, alloc, &circuit, &cut, &stimulus, 10, workers, 5, gate)?;
+    Ok(waves_are_right(&waves))
+}
+
+#[test]
+fn two_turns_meet(rt: HostRuntime) -> Result<(), Fail> {
+    let gate = Meeting::new([&[1], &[0], &[]]);
+    assert!(rt; runs(&rt, rt.alloc(), 2, 2, &gate)?);
+    assert!(rt; !gate.gave_up.load(SeqCst));
+    assert!(rt; is_set(&gate.finished, 0) && is_set(&gate.finished, 1));
+    Ok(())
+}
+
+#[test]
+fn one_worker_takes_one_turn_at_a_time(rt: HostRuntime) -> Result<(), Fail> {
+    let gate = Meeting::new([&[1], &[0], &[]]);
+    assert!(rt; runs(&rt, rt.alloc(), 2, 1, &gate)?);
+    assert!(rt; gate.gave_up.load(SeqCst));
+    Ok(())
+}
+
+#[test]
+fn a_held_worker_leaves_the_other_blocks_to_the_other_one(rt: HostRuntime) -> Result<(), Fail> {
+    let gate = Meeting::new([&[1, 2], &[], &[]]);
+    assert!(rt; runs(&rt, rt.alloc(), 3, 2, &gate)?);
+    assert!(rt; !gate.gave_up.load(SeqCst));
+    Ok(())
+}
