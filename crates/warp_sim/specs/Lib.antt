@@ -1,9 +1,12 @@
+pub mod Limits
 pub mod FaultLines
 pub mod Failures
 pub mod Joined
 pub mod Answer
 pub mod CountLines
 pub mod Replies
+pub mod Outside
 pub mod Line
+pub mod Deliveries
 pub mod Endings
 pub mod Plain

@@ -2,6 +2,7 @@
 
 ghost use Rattle.std.specs.Prelude.{◌≡◌, ◌≤◌, IfOk, codes};
 ghost use Rattle.gate_vcd.specs.Dump.{vcd_text};
+ghost use Rattle.warp_sim.specs.Limits.{most_until};
 ghost use Rattle.warp_sim.specs.Plain.{value_under};
 
 use crate::evaluate::evaluate;
@@ -17,7 +18,7 @@ pub fn dump_of(
     stimulus: &Stimulus,
     horizon: u64,
 ) -> Result<Vec<u8>, AllocError>
-    requires { horizon ≤ 1000000000000 }
+    requires { horizon ≤ most_until }
     ensures { IfOk result (λ dump. dump.items ≡ vcd_text (codes "top") circuit.now stimulus.now (value_under circuit.now stimulus.now) horizon) }
 {
     let cells = evaluate(alloc, circuit, stimulus, horizon)?;

@@ -5,6 +5,7 @@ ghost use Rattle.std.specs.List.{All};
 ghost use Rattle.gate_values.specs.Tables.{table_of, flip_of, HasInputs};
 ghost use Rattle.gate_netlist.specs.Circuit.{nets_of, IsDriven};
 ghost use Rattle.gate_vcd.specs.Given.{Given};
+ghost use Rattle.warp_sim.specs.Limits.{most_until};
 ghost use Rattle.warp_sim.specs.Plain.{value_under, content_under, IsFilled, IsTable};
 
 use gate_netlist::{Circuit, Driver};
@@ -194,7 +195,7 @@ pub fn evaluate(
     stimulus: &Stimulus,
     horizon: u64,
 ) -> Result<Vec<Logic>, AllocError>
-    requires { horizon ≤ 1000000000000 }
+    requires { horizon ≤ most_until }
     ensures { IfOk result (λ v. IsTable (value_under circuit.now stimulus.now) (nets_of circuit.now) (horizon + 1) v.items) }
 {
     let cells = circuit.nets() as usize * (horizon as usize + 1);

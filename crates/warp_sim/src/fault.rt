@@ -12,7 +12,7 @@ ghost use Rattle.warp_sim.specs.declared.fault.Fault.TheVariants as faults;
 
 use gate_netlist::{BenchCause, BenchFault, SettingsFault};
 use gate_vcd::{StimCause, StimFault};
-use std::alloc::{AllocError, AllocFailed};
+use std::alloc::AllocError;
 use std::fmt;
 
 /// Why a run ends without a dump: the text that is refused, with its fault, or want of memory,
@@ -112,14 +112,6 @@ impl From<AllocError> for Fault {
     ghost from_gives = { λ _ fault. fault ≡ faults.Memory };
 
     fn from(_: AllocError) -> Fault {
-        Fault::Memory
-    }
-}
-
-impl<T: Drop> From<AllocFailed<T>> for Fault {
-    ghost from_gives = { λ _ fault. fault ≡ faults.Memory };
-
-    fn from(_: AllocFailed<T>) -> Fault {
         Fault::Memory
     }
 }

@@ -3,6 +3,7 @@
 ghost use Rattle.std.specs.Prelude.{◌≡◌, ℕ, ◌+◌, ◌*◌, ◌<◌, ◌≤◌, ◌++◌, [], length, IfOk, OnOk, slice_set};
 ghost use Rattle.gate_values.specs.Changes.{changes, just_before, last_value};
 ghost use Rattle.gate_vcd.specs.Waves.{wave_of, end_time};
+ghost use Rattle.warp_sim.specs.Limits.{most_until};
 ghost use Rattle.warp_sim.specs.Plain.{cell_value, new_change};
 
 use crate::evaluate::cell;
@@ -31,7 +32,7 @@ fn push_changes(
     net: u32,
 ) -> Result<(), AllocError>
     requires cells { length cells.now ≡ (horizon + 1) * length waves.old }
-    requires horizon { horizon ≤ 1000000000000 }
+    requires horizon { horizon ≤ most_until }
     requires known { net < length waves.old }
     requires empty { wave_of waves.old net ≡ [] }
     ensures { OnOk result (waves.new ≡ slice_set waves.old net (changes (cell_value cells.now (length waves.old) net) (horizon + 1))) }
@@ -54,7 +55,7 @@ pub fn waves_of(
     horizon: u64,
 ) -> Result<Waves, AllocError>
     requires cells { length cells.now ≡ (horizon + 1) * nets }
-    requires horizon { horizon ≤ 1000000000000 }
+    requires horizon { horizon ≤ most_until }
     ensures count { IfOk result (λ waves. length waves ≡ nets) }
     ensures waves { IfOk result (λ waves. (n : ℕ) → n < nets → wave_of waves n ≡ changes (cell_value cells.now nets n) (horizon + 1)) }
 {

@@ -7,6 +7,7 @@
 #![tactic(auto)]
 
 mod counts;
+mod delivery;
 mod dump;
 #[cfg(test)]
 mod dump_tests;
@@ -27,12 +28,13 @@ mod simulate;
 mod tests;
 mod texts;
 
+pub use delivery::{Delivery, put, tell};
 pub use failure::Failure;
 pub use fault::Fault;
 pub use joined::split_joined;
 pub use line::read_line;
 pub use outside::{Outside, read_all};
-pub use program::{execute, program, show};
+pub use program::{Ending, answer, execute, program, show};
 pub use reply::reply_to;
 pub use request::{Check, MOST_UNTIL, Request, Run, Sources};
 pub use simulate::{counts_of_texts, simulate_text};
@@ -61,9 +63,9 @@ fn main(rt: HostRuntime) -> ExitCode {
     let mut err = rt.stderr();
     let words = match words_of(&rt) {
         Ok(words) => words,
-        Err(failure) => return ExitCode::from(show(&Err(failure), &mut out, &mut err)),
+        Err(failure) => return ExitCode::from(show(&Err(failure), &mut out, &mut err).status),
     };
-    let mut texts = Outside { rt: &rt };
+    let mut texts = Outside::new(&rt);
     let status = program(rt.alloc(), words.as_slice(), &mut texts, &mut out, &mut err);
     ExitCode::from(status)
 }

@@ -1,10 +1,9 @@
 //! The program, over texts that are handed in and writers that may fail.
-ghost use Rattle.std.specs.Prelude.{◌≡◌, ◌⊎◌, OnOk};
-ghost use Rattle.std.specs.Io.KnownBytes.{Appends};
-ghost use Rattle.warp_sim.specs.Failures.{failure_status, failure_text};
-ghost use Rattle.warp_sim.specs.Endings.{IsShown, Executes, Refuses};
-ghost use Rattle.warp_sim.specs.declared.request.Request.{Request as ARequest};
+ghost use Rattle.std.specs.Prelude.{◌≡◌};
+ghost use Rattle.warp_sim.specs.Endings.{channels, IsShown, Executes, Answers};
+ghost use Rattle.warp_sim.specs.declared.program.Ending.{Ending as AnEnding};
 
+use crate::delivery::{Delivery, put, tell};
 use crate::failure::Failure;
 use crate::line::read_line;
 use crate::reply::reply_to;
@@ -12,44 +11,46 @@ use crate::request::Request;
 use crate::texts::Texts;
 use std::alloc::Global;
 use std::convert::AsStr;
-use std::io::{self, Write};
+use std::io::Write;
 
-fn write_text<O: Write>(out: &mut O, text: &[u8]) -> io::Result<()>
-    ensures { OnOk result (Appends (O.contents out.old) (O.contents out.new) text.now) }
-{
-    out.write_all(text)?;
-    out.flush()
+/// How the program ends: its exit status, and what came of the texts for the two writers.
+#[derive(Clone, Copy, Debug)]
+pub struct Ending {
+    pub status: u8,
+    pub out: Delivery,
+    pub err: Delivery,
 }
 
-fn write_failure<E: Write>(err: &mut E, failure: &Failure<'_>) -> io::Result<()>
-    ensures { OnOk result (Appends (E.contents err.old) (E.contents err.new) (failure_text failure.now)) }
-{
-    write!(err, "{failure}")
-}
-
-/// Tells a failure; where it can't be told, the status stays.
-fn fail<E: Write>(err: &mut E, failure: &Failure<'_>) -> u8
-    ensures { result ≡ failure_status failure.now }
-{
-    let _ = write_failure(err, failure);
-    failure.status()
-}
-
-/// Shows what a request is answered: the text on `out`, or the failure's on `err`. Answers the
-/// program's exit status.
+/// Shows what a request is answered: the text on `out`, or the failure's on `err`.
 pub fn show<O: Write, E: Write>(
     reply: &Result<Vec<u8>, Failure<'_>>,
     out: &mut O,
     err: &mut E,
-) -> u8
-    ensures { IsShown reply.now result (O.contents out.old) (O.contents out.new) }
+) -> Ending
+    ensures { IsShown reply.now result
+        (channels (O.contents out.old) (E.contents err.old)) (channels (O.contents out.new) (E.contents err.new)) }
 {
     match reply {
-        Ok(text) => match write_text(out, text.as_slice()) {
-            Ok(()) => 0,
-            Err(_) => fail(err, &Failure::Unwritten),
+        Ok(text) => {
+            let delivery = put(out, text.as_slice());
+            if delivery.has_failed() {
+                return Ending {
+                    status: Failure::Unwritten.status(),
+                    out: delivery,
+                    err: tell(err, &Failure::Unwritten),
+                };
+            }
+            Ending {
+                status: 0,
+                out: delivery,
+                err: Delivery::nothing(),
+            }
+        }
+        Err(failure) => Ending {
+            status: failure.status(),
+            out: Delivery::nothing(),
+            err: tell(err, failure),
         },
-        Err(failure) => fail(err, failure),
     }
 }
 
@@ -60,11 +61,30 @@ pub fn execute<T: Texts, O: Write, E: Write>(
     texts: &mut T,
     out: &mut O,
     err: &mut E,
-) -> u8
-    ensures { Executes T.gives request.entry texts.old texts.new result (O.contents out.old) (O.contents out.new) }
+) -> Ending
+    ensures { Executes T.gives request.entry texts.old texts.new result
+        (channels (O.contents out.old) (E.contents err.old)) (channels (O.contents out.new) (E.contents err.new)) }
 {
     let reply = reply_to(alloc, request, texts);
     show(&reply, out, err)
+}
+
+/// Reads the words of a command line, its own name first, answers the request and shows the answer;
+/// of a line that is refused, says why.
+pub fn answer<S: AsStr, T: Texts, O: Write, E: Write>(
+    alloc: Global,
+    words: &[S],
+    texts: &mut T,
+    out: &mut O,
+    err: &mut E,
+) -> Ending
+    ensures { Answers T.gives texts.old texts.new result
+        (channels (O.contents out.old) (E.contents err.old)) (channels (O.contents out.new) (E.contents err.new)) }
+{
+    match read_line(alloc, words) {
+        Ok(request) => execute(alloc, request, texts, out, err),
+        Err(failure) => show(&Err(failure), out, err),
+    }
 }
 
 /// Runs the program on the words of a command line, its own name first, and answers its exit
@@ -78,11 +98,8 @@ pub fn program<S: AsStr, T: Texts, O: Write, E: Write>(
     out: &mut O,
     err: &mut E,
 ) -> u8
-    ensures { ((request : ARequest) × Executes T.gives request texts.old texts.new result (O.contents out.old) (O.contents out.new))
-        ⊎ Refuses texts.old texts.new result (O.contents out.old) (O.contents out.new) }
+    ensures { (ending : AnEnding) × (result ≡ ending.status) × Answers T.gives texts.old texts.new ending
+        (channels (O.contents out.old) (E.contents err.old)) (channels (O.contents out.new) (E.contents err.new)) }
 {
-    match read_line(alloc, words) {
-        Ok(request) => execute(alloc, request, texts, out, err),
-        Err(failure) => show(&Err(failure), out, err),
-    }
+    answer(alloc, words, texts, out, err).status
 }

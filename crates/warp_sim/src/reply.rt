@@ -1,5 +1,6 @@
 //! What a request is answered.
 ghost use Rattle.std.specs.Prelude.{◌≡◌, ◌≤◌, codes};
+ghost use Rattle.warp_sim.specs.Limits.{most_until};
 ghost use Rattle.warp_sim.specs.Replies.{
   Fetches,
   FetchesSettings,
@@ -52,13 +53,10 @@ fn simulated<'a>(
     stimulus: &[u8],
     until: u64,
 ) -> Result<Vec<u8>, Failure<'a>>
-    requires { until ≤ 1000000000000 }
+    requires { until ≤ most_until }
     ensures { IsSimulated bench.now settings.now stimulus.now until result }
 {
-    match simulate_text(alloc, bench, settings, stimulus, until) {
-        Ok(dump) => Ok(dump),
-        Err(fault) => Err(Failure::Fault(fault)),
-    }
+    Ok(simulate_text(alloc, bench, settings, stimulus, until)?)
 }
 
 fn run_joined<'a, T: Texts>(
@@ -67,7 +65,7 @@ fn run_joined<'a, T: Texts>(
     until: u64,
     texts: &mut T,
 ) -> Result<Vec<u8>, Failure<'a>>
-    requires { until ≤ 1000000000000 }
+    requires { until ≤ most_until }
     ensures { RunsJoined T.gives settings.now until texts.old result texts.new }
 {
     let joined = fetch(alloc, "-", texts)?;
@@ -83,7 +81,7 @@ fn run_apart<'a, T: Texts>(
     until: u64,
     texts: &mut T,
 ) -> Result<Vec<u8>, Failure<'a>>
-    requires { until ≤ 1000000000000 }
+    requires { until ≤ most_until }
     ensures { RunsApart T.gives bench.entry.now stimulus.entry.now settings.now until texts.old result texts.new }
 {
     let bench = fetch(alloc, bench, texts)?;
@@ -104,7 +102,7 @@ fn run_sources<'a, T: Texts>(
     until: u64,
     texts: &mut T,
 ) -> Result<Vec<u8>, Failure<'a>>
-    requires { until ≤ 1000000000000 }
+    requires { until ≤ most_until }
     ensures { RunsSources T.gives sources.entry settings.now until texts.old result texts.new }
 {
     match sources {
@@ -129,14 +127,9 @@ fn reply_to_run<'a, T: Texts>(
 fn counted<'a>(alloc: Global, bench: &[u8], settings: &[u8]) -> Result<Vec<u8>, Failure<'a>>
     ensures { IsCountReply bench.now settings.now result }
 {
-    let counts = match counts_of_texts(alloc, bench, settings) {
-        Ok(counts) => counts,
-        Err(fault) => return Err(Failure::Fault(fault)),
-    };
-    match count_text(alloc, counts) {
-        Ok(text) => Ok(text.into_bytes()),
-        Err(_) => Err(Failure::Fault(Fault::Memory)),
-    }
+    let counts = counts_of_texts(alloc, bench, settings)?;
+    let text = count_text(alloc, counts)?;
+    Ok(text.into_bytes())
 }
 
 fn reply_to_check<'a, T: Texts>(

@@ -1,5 +1,6 @@
 //! What a command line asks for.
 ghost use Rattle.std.specs.Prelude.{◌≤◌};
+ghost use Rattle.warp_sim.specs.Limits.{most_until};
 
 /// The greatest horizon.
 pub const MOST_UNTIL: u64 = 1_000_000_000_000;
@@ -19,7 +20,7 @@ pub struct Run<'a> {
     pub until: u64,
     pub settings: Option<&'a str>,
     pub sources: Sources<'a>,
-    ghost within_limit: { until ≤ 1000000000000 },
+    ghost within_limit: { until ≤ most_until },
 }
 
 /// Where a run's bench and stimulus stand: both in standard input, or in texts of these names.

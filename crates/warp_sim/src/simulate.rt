@@ -1,5 +1,6 @@
 //! From three texts to a dump.
 ghost use Rattle.std.specs.Prelude.{◌≡◌, ◌≤◌};
+ghost use Rattle.warp_sim.specs.Limits.{most_until};
 ghost use Rattle.warp_sim.specs.Answer.{IsCircuitAnswer, IsAnswer, IsCounted};
 
 use crate::dump::dump_of;
@@ -12,14 +13,8 @@ use std::alloc::Global;
 fn circuit_of(alloc: Global, bench: &[u8], settings: &[u8]) -> Result<Circuit, Fault>
     ensures { IsCircuitAnswer bench.now settings.now result }
 {
-    let bench = match read_bench(alloc, bench) {
-        Ok(bench) => bench,
-        Err(fault) => return Err(Fault::from(fault)),
-    };
-    match Circuit::of(alloc, bench, settings) {
-        Ok(circuit) => Ok(circuit),
-        Err(fault) => Err(Fault::from(fault)),
-    }
+    let bench = read_bench(alloc, bench)?;
+    Ok(Circuit::of(alloc, bench, settings)?)
 }
 
 /// The dump of every net of a circuit, from time 0 to `until` (at most 10^12, in units of the stimulus's timescale):
@@ -35,21 +30,12 @@ pub fn simulate_text(
     stimulus: &[u8],
     until: u64,
 ) -> Result<Vec<u8>, Fault>
-    requires { until ≤ 1000000000000 }
+    requires { until ≤ most_until }
     ensures { IsAnswer bench.now settings.now stimulus.now until result }
 {
-    let circuit = match circuit_of(alloc, bench, settings) {
-        Ok(circuit) => circuit,
-        Err(fault) => return Err(fault),
-    };
-    let stimulus = match read_stimulus(alloc, stimulus, &circuit) {
-        Ok(stimulus) => stimulus,
-        Err(fault) => return Err(Fault::from(fault)),
-    };
-    match dump_of(alloc, &circuit, &stimulus, until) {
-        Ok(dump) => Ok(dump),
-        Err(_) => Err(Fault::Memory),
-    }
+    let circuit = circuit_of(alloc, bench, settings)?;
+    let stimulus = read_stimulus(alloc, stimulus, &circuit)?;
+    Ok(dump_of(alloc, &circuit, &stimulus, until)?)
 }
 
 /// How many parts a circuit has.
@@ -57,8 +43,6 @@ pub fn simulate_text(
 pub fn counts_of_texts(alloc: Global, bench: &[u8], settings: &[u8]) -> Result<Counts, Fault>
     ensures { IsCounted bench.now settings.now result }
 {
-    match circuit_of(alloc, bench, settings) {
-        Ok(circuit) => Ok(circuit.counts()),
-        Err(fault) => Err(fault),
-    }
+    let circuit = circuit_of(alloc, bench, settings)?;
+    Ok(circuit.counts())
 }

@@ -3,8 +3,8 @@ use Rattle.warp_sim.specs.Answer.{IsAnswer}
 use Rattle.warp_sim.proofs.Simulating.{dump-means}
 use Rattle.warp_sim.proofs.simulate.simulate_text.Goals as goal
 
-pub returns-in-Ok-dump_of : goal.returns-in-Ok-dump_of
+pub returns : goal.returns
 unfolding IsAnswer
-returns-in-Ok-dump_of c =
-    let (r, read, means) = c.in-Ok-read_stimulus.ensures in
-    (c.in-Ok.circuit, c.in-Ok.ensures, r, read, c.in-Ok-dump_of.ensures ∙ dump-means (codes "top") c.in-Ok.circuit r c.in-Ok-read_stimulus.stimulus c.args.until means)
+returns c =
+    let (r, read, means) = c.in_ok-stimulus.ensures in
+    (c.in_ok-circuit.circuit, c.in_ok-circuit.ensures, r, read, c.in_ok-dump_of.ensures ∙ dump-means (codes "top") c.in_ok-circuit.circuit r c.in_ok-stimulus.stimulus c.args.until means)
