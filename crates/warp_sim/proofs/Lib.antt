@@ -1,4 +1,2 @@
 pub mod Parting
-pub mod Plain
-pub mod Filling
 pub mod Simulating

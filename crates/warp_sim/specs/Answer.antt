@@ -12,6 +12,10 @@ use Rattle.gate_netlist.specs.Circuit.{Design, source_of}
 use Rattle.gate_netlist.specs.Counts.{counts_of}
 use Rattle.gate_vcd.specs.Stimulus.{Reading, reading_of, signal}
 use Rattle.gate_vcd.specs.Dump.{dump_text}
+use Rattle.warp_block.specs.declared.fault.BlockFault.TheVariants as block
+use Rattle.warp_core.specs.declared.fault.GatherFault.TheVariants as gathering
+use Rattle.warp_rounds.specs.declared.fault.RunFault.{RunFault}
+use Rattle.warp_rounds.specs.declared.fault.RunFault.TheVariants as run
 use Rattle.warp_sim.specs.declared.fault.Fault.{Fault}
 use Rattle.warp_sim.specs.declared.fault.Fault.TheVariants as faults
 
@@ -25,6 +29,7 @@ IsNoCircuit bench text (faults.Bench f) = bench_of bench ≡ Err f
 IsNoCircuit bench text (faults.Settings settings.Memory) = ⊥
 IsNoCircuit bench text (faults.Settings f) = (b : Netlist) × (bench_of bench ≡ Ok b) × IsSettled b text (Err f)
 IsNoCircuit bench text (faults.Stimulus f) = ⊥
+IsNoCircuit bench text (faults.Run f) = ⊥
 IsNoCircuit bench text faults.Memory = Unit {0}
 
 abbrev pub IsCircuitAnswer : (bench settings : List ℕ) → Result Design Fault → Type 0
@@ -41,11 +46,21 @@ IsCounted bench text (Err fault) = IsNoCircuit bench text fault
 abbrev pub circuit_value : Design → (ℕ → ℕ → Logic) → ℕ → ℕ → Logic
 circuit_value d signals n t = value (source_of d) (λ time net. signals net time) n t
 
+-- a fault of a run is no want of memory, whatever part of the run wanted it
+abbrev pub IsRunFault : RunFault → Type 0
+IsRunFault run.Memory = ⊥
+IsRunFault (run.Block block.Memory) = ⊥
+IsRunFault (run.Gather gathering.Memory) = ⊥
+IsRunFault _ = Unit {0}
+
 -- The dump is the one text of the values of the circuit that the first two texts mean, under the signals of the
--- third. A fault is that of the bench text, else of the settings, else of the stimulus; or want of memory.
+-- third. A fault is that of the bench text, else of the settings, else of the stimulus, else of the run; or want of
+-- memory.
 unfoldable pub IsAnswer : (bench settings stimulus : List ℕ) (until : ℕ) → Result (Vec ℕ Global) Fault → Type 0
 IsAnswer bench text stimulus until (Ok dump) =
     (d : Design) × IsCircuitOf bench text d × (r : Reading) × (reading_of stimulus d ≡ Ok r)
     × (dump.items ≡ dump_text (codes "top") d.names r.timescale (circuit_value d (signal r)) until)
 IsAnswer bench text stimulus until (Err (faults.Stimulus f)) = (d : Design) × IsCircuitOf bench text d × (reading_of stimulus d ≡ Err f)
+IsAnswer bench text stimulus until (Err (faults.Run f)) =
+    (d : Design) × IsCircuitOf bench text d × (r : Reading) × (reading_of stimulus d ≡ Ok r) × IsRunFault f
 IsAnswer bench text stimulus until (Err fault) = IsNoCircuit bench text fault

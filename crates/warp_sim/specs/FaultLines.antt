@@ -9,6 +9,12 @@ use Rattle.gate_vcd.specs.Faults.{stim_cause_name}
 use Rattle.gate_vcd.specs.declared.fault.StimCause.{StimCause}
 use Rattle.gate_vcd.specs.declared.fault.StimCause.TheVariants as stimulus
 use Rattle.gate_vcd.specs.declared.fault.StimFault.{StimFault}
+use Rattle.warp_block.specs.declared.fault.BlockFault.{BlockFault}
+use Rattle.warp_block.specs.declared.fault.BlockFault.TheVariants as block
+use Rattle.warp_core.specs.Gather.{gather_fault_name}
+use Rattle.warp_core.specs.declared.fault.GatherFault.TheVariants as gathering
+use Rattle.warp_rounds.specs.declared.fault.RunFault.{RunFault}
+use Rattle.warp_rounds.specs.declared.fault.RunFault.TheVariants as run
 use Rattle.warp_sim.specs.declared.fault.Fault.{Fault}
 use Rattle.warp_sim.specs.declared.fault.Fault.TheVariants as faults
 
@@ -18,20 +24,40 @@ place_word stimulus.MissingInput = codes "net"
 place_word stimulus.NotScalar = codes "net"
 place_word _ = codes "at"
 
+abbrev pub block_fault_name : BlockFault → List ℕ
+block_fault_name block.WrongNet = codes "WrongNet"
+block_fault_name block.PastHorizon = codes "PastHorizon"
+block_fault_name block.BelowFloor = codes "BelowFloor"
+block_fault_name block.CountLimit = codes "CountLimit"
+block_fault_name block.Memory = codes "Memory"
+block_fault_name block.FloorBack = codes "FloorBack"
+block_fault_name block.Unprocessed = codes "Unprocessed"
+block_fault_name (block.Unsettled net time) = codes "Unsettled"
+
+-- of a run that is refused though its texts are not
+abbrev pub run_fault_line : RunFault → List ℕ
+run_fault_line (run.Block f) = codes "run: block " ++ block_fault_name f
+run_fault_line (run.Stalled time) = codes "run: stalled at " ++ decimal time
+run_fault_line (run.Gather f) = codes "run: gather " ++ gather_fault_name f
+run_fault_line run.NoThread = codes "run: no thread"
+run_fault_line run.Memory = codes "memory"
+
 -- the line of a fault, without its end
 abbrev pub fault_line : Fault → List ℕ
 fault_line (faults.Bench f) = codes "bench line " ++ decimal f.line ++ codes ": " ++ bench_cause_name f.cause
 fault_line (faults.Settings f) = codes "settings: " ++ settings_fault_name f
 fault_line (faults.Stimulus f) =
     codes "stimulus " ++ place_word f.cause ++ codes " " ++ decimal f.at ++ codes ": " ++ stim_cause_name f.cause
+fault_line (faults.Run f) = run_fault_line f
 fault_line faults.Memory = codes "memory"
 
--- a refused text ends the program with 1, want of memory with 3
+-- a refused text ends the program with 1, a refused run and want of memory with 3
 abbrev pub status_of : Fault → ℕ
+status_of (faults.Run f) = 3
 status_of faults.Memory = 3
 status_of _ = 1
 
--- want of memory while a text is read is want of memory, and no fault of the text
+-- want of memory in any part is want of memory, and no fault of that part
 abbrev pub bench_fault : BenchFault → Fault
 bench_fault f = elim f.cause [ bench.Memory ↦ faults.Memory | _ ↦ faults.Bench f ]
 
@@ -41,3 +67,9 @@ settings_fault f = faults.Settings f
 
 abbrev pub stimulus_fault : StimFault → Fault
 stimulus_fault f = elim f.cause [ stimulus.Memory ↦ faults.Memory | _ ↦ faults.Stimulus f ]
+
+abbrev pub run_fault : RunFault → Fault
+run_fault run.Memory = faults.Memory
+run_fault (run.Block block.Memory) = faults.Memory
+run_fault (run.Gather gathering.Memory) = faults.Memory
+run_fault f = faults.Run f

@@ -1,4 +1,4 @@
-pub mod Limits
+pub mod Options
 pub mod FaultLines
 pub mod Failures
 pub mod Joined
@@ -9,4 +9,3 @@ pub mod Outside
 pub mod Line
 pub mod Deliveries
 pub mod Endings
-pub mod Plain

@@ -80,7 +80,7 @@ RunsSources gives sources.Joined = RunsJoined gives
 RunsSources gives (sources.Apart bench stimulus) = RunsApart gives bench.now stimulus.now
 
 abbrev pub Runs : {T : Type 0} → Gives T → Run → Step T
-Runs gives run = Then (FetchesSettings gives run.settings) (λ settings. RunsSources gives run.sources settings.items run.until)
+Runs gives run = Then (FetchesSettings gives run.settings) (λ settings. RunsSources gives run.sources settings.items run.options.until)
 
 -- the counts are printed; want of memory may keep them from it
 abbrev pub IsCountReply : (bench settings : List ℕ) → Reply → Type 0

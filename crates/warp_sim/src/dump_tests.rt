@@ -104,7 +104,7 @@ fn dumps_are_exact(rt: HostRuntime) -> Result<(), Fail> {
             ("s", dump.settings.as_bytes()),
             ("v", dump.stimulus.as_bytes()),
         ];
-        let told = tell(rt.alloc(), dump.line, &texts)?;
+        let told = tell(&rt, rt.alloc(), dump.line, &texts)?;
         let want = format!(in rt.alloc(); "{}{}", dump.head, dump.changes)?;
         assert_eq!(rt; told.err.as_slice(), b"".as_slice(), "{}", dump.line);
         assert_eq!(rt; told.out.as_slice(), want.as_bytes(), "{}", dump.line);
@@ -117,6 +117,7 @@ fn dumps_are_exact(rt: HostRuntime) -> Result<(), Fail> {
 fn joined_texts_give_a_dump(rt: HostRuntime) -> Result<(), Fail> {
     let joined = format!(in rt.alloc(); "{INVERTER}%%\n{RISE_AT_5}\n")?;
     let told = tell(
+        &rt,
         rt.alloc(),
         "warp_sim run --until 10 -",
         &[("-", joined.as_bytes())],
@@ -129,6 +130,7 @@ fn joined_texts_give_a_dump(rt: HostRuntime) -> Result<(), Fail> {
 #[test]
 fn circuits_are_counted(rt: HostRuntime) -> Result<(), Fail> {
     let told = tell(
+        &rt,
         rt.alloc(),
         "warp_sim check -",
         &[("-", INVERTER.as_bytes())],
@@ -191,6 +193,7 @@ fn refused_texts_are_told(rt: HostRuntime) -> Result<(), Fail> {
             ("v", stimulus.as_bytes()),
         ];
         let told = tell(
+            &rt,
             rt.alloc(),
             "warp_sim run --until 5 --settings s b v",
             &texts,

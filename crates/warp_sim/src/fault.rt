@@ -7,6 +7,8 @@ ghost use Rattle.warp_sim.specs.FaultLines.{
   bench_fault,
   settings_fault,
   stimulus_fault,
+  run_fault,
+  block_fault_name,
 };
 ghost use Rattle.warp_sim.specs.declared.fault.Fault.TheVariants as faults;
 
@@ -14,25 +16,29 @@ use gate_netlist::{BenchCause, BenchFault, SettingsFault};
 use gate_vcd::{StimCause, StimFault};
 use std::alloc::AllocError;
 use std::fmt;
+use warp_block::BlockFault;
+use warp_core::GatherFault;
+use warp_rounds::RunFault;
 
-/// Why a run ends without a dump: the text that is refused, with its fault, or want of memory,
-/// whatever part wanted it.
+/// Why a run ends without a dump: the text that is refused, with its fault; the fault of the run itself; or want of
+/// memory, whatever part wanted it.
 #[derive(Clone, Copy, Debug, PartialEq, Eq)]
 pub enum Fault {
     Bench(BenchFault),
     Settings(SettingsFault),
     Stimulus(StimFault),
+    Run(RunFault),
     Memory,
 }
 
 impl Fault {
-    /// The program's exit status: 1 for a refused text, 3 for want of memory.
+    /// The program's exit status: 1 for a refused text, 3 for a refused run and for want of memory.
     pub fn status(&self) -> u8
         ensures { result ≡ status_of self.now }
     {
         match self {
             Fault::Bench(_) | Fault::Settings(_) | Fault::Stimulus(_) => 1,
-            Fault::Memory => 3,
+            Fault::Run(_) | Fault::Memory => 3,
         }
     }
 }
@@ -44,6 +50,22 @@ fn place_name(cause: StimCause) -> &'static str
     match cause {
         StimCause::MissingInput | StimCause::NotScalar => "net",
         _ => "at",
+    }
+}
+
+/// The name of a block's fault.
+fn block_fault_name(fault: BlockFault) -> &'static str
+    ensures { result.now ≡ block_fault_name fault }
+{
+    match fault {
+        BlockFault::WrongNet => "WrongNet",
+        BlockFault::PastHorizon => "PastHorizon",
+        BlockFault::BelowFloor => "BelowFloor",
+        BlockFault::CountLimit => "CountLimit",
+        BlockFault::Memory => "Memory",
+        BlockFault::FloorBack => "FloorBack",
+        BlockFault::Unprocessed => "Unprocessed",
+        BlockFault::Unsettled { .. } => "Unsettled",
     }
 }
 
@@ -68,7 +90,17 @@ impl fmt::Display for Fault {
                 let cause = fault.cause.name();
                 write!(f, "stimulus {place} {at}: {cause}")
             }
-            Fault::Memory => f.write_str("memory"),
+            Fault::Run(RunFault::Block(block)) => {
+                let cause = block_fault_name(*block);
+                write!(f, "run: block {cause}")
+            }
+            Fault::Run(RunFault::Stalled { time }) => write!(f, "run: stalled at {time}"),
+            Fault::Run(RunFault::Gather(gathering)) => {
+                let cause = gathering.name();
+                write!(f, "run: gather {cause}")
+            }
+            Fault::Run(RunFault::NoThread) => f.write_str("run: no thread"),
+            Fault::Run(RunFault::Memory) | Fault::Memory => f.write_str("memory"),
         }
     }
 }
@@ -104,6 +136,19 @@ impl From<StimFault> for Fault {
         match fault.cause {
             StimCause::Memory => Fault::Memory,
             _ => Fault::Stimulus(fault),
+        }
+    }
+}
+
+impl From<RunFault> for Fault {
+    ghost from_gives = { λ part fault. fault ≡ run_fault part };
+
+    fn from(fault: RunFault) -> Fault {
+        match fault {
+            RunFault::Memory
+            | RunFault::Block(BlockFault::Memory)
+            | RunFault::Gather(GatherFault::Memory) => Fault::Memory,
+            _ => Fault::Run(fault),
         }
     }
 }

@@ -4,11 +4,13 @@ ghost use Rattle.std.specs.Prelude.{◌≡◌};
 
 use crate::failure::Failure;
 use crate::fault::Fault;
-use crate::request::{Check, MOST_UNTIL, Request, Run, Sources};
+use crate::options::{MOST_BLOCKS, MOST_WINDOW, MOST_WORKERS, Options};
+use crate::request::{Check, Request, Run, Sources};
 use clap::error::ErrorKind;
 use clap::{Arg, ArgAction, ArgMatches, Command, Error, value_parser};
 use std::alloc::{AllocError, Global};
 use std::convert::AsStr;
+use warp_block::MOST_HORIZON;
 
 fn settings_option<'a>(alloc: Global) -> Arg<'a> {
     Arg::new(alloc, "settings")
@@ -21,23 +23,56 @@ fn bench_argument<'a>(alloc: Global, help: &'a str) -> Arg<'a> {
     Arg::new(alloc, "BENCH").required(true).help(help)
 }
 
-fn run_command<'a>(alloc: Global) -> Result<Command<'a>, AllocError> {
-    let until = Arg::new(alloc, "until")
+fn until_option<'a>(alloc: Global) -> Arg<'a> {
+    Arg::new(alloc, "until")
         .long("until")
         .value_name("T")
         .required(true)
         .action(ArgAction::Set)
-        .value_parser(value_parser!(u64).range(0..=MOST_UNTIL as i64))
-        .help("The time at which the dump ends");
+        .value_parser(value_parser!(u64).range(0..=MOST_HORIZON as i64))
+        .help("The time at which the dump ends")
+}
+
+fn blocks_option<'a>(alloc: Global) -> Arg<'a> {
+    Arg::new(alloc, "blocks")
+        .long("blocks")
+        .value_name("N")
+        .action(ArgAction::Set)
+        .value_parser(value_parser!(u32).range(1..=MOST_BLOCKS as i64))
+        .help("Cuts the circuit evenly into N blocks, whatever cut the settings give")
+}
+
+fn workers_option<'a>(alloc: Global) -> Arg<'a> {
+    Arg::new(alloc, "workers")
+        .long("workers")
+        .value_name("K")
+        .default_value("1")
+        .action(ArgAction::Set)
+        .value_parser(value_parser!(u32).range(1..=MOST_WORKERS as i64))
+        .help("The number of threads that run blocks")
+}
+
+fn window_option<'a>(alloc: Global) -> Arg<'a> {
+    Arg::new(alloc, "window")
+        .long("window")
+        .value_name("W")
+        .default_value("1000")
+        .action(ArgAction::Set)
+        .value_parser(value_parser!(u32).range(1..=MOST_WINDOW as i64))
+        .help("The most event times that a block takes at one turn")
+}
+
+fn run_command<'a>(alloc: Global) -> Result<Command<'a>, AllocError> {
+    let bench = "The circuit; - for standard input, with the stimulus after a line %%";
     let stimulus = Arg::new(alloc, "STIMULUS").help("The inputs' changes, as VCD");
     Command::new(alloc, "run")
         .about("Simulates a circuit and writes its value change dump")
-        .arg(until)?
+        .arg(until_option(alloc))?
+        .arg(blocks_option(alloc))?
+        .arg(workers_option(alloc))?
+        .arg(window_option(alloc))?
         .arg(settings_option(alloc))?
-        .arg(bench_argument(
-            alloc,
-            "The circuit; - for standard input, with the stimulus after a line %%",
-        ))?
+        .arg(bench_argument(alloc, bench))?
         .arg(stimulus)
 }
 
@@ -79,20 +114,27 @@ fn incomplete<'a>(alloc: Global) -> Failure<'a> {
     Failure::line(alloc, "the line is incomplete\n")
 }
 
+/// What is chosen for a run; None where the line lacks a number or has one out of its limits, which `clap` refuses
+/// before.
+fn options_of<'a>(found: &ArgMatches<'a>) -> Option<Options> {
+    let until = found.get_one::<u64>("until")?;
+    let blocks = found.get_one::<u32>("blocks");
+    let workers = found.get_one::<u32>("workers")?;
+    let window = found.get_one::<u32>("window")?;
+    Options::new(until, blocks, workers, window)
+}
+
 fn run_request<'a>(alloc: Global, found: &ArgMatches<'a>) -> Result<Request<'a>, Failure<'a>> {
-    let Some(until) = found.get_one::<u64>("until") else {
+    let Some(options) = options_of(found) else {
         return Err(incomplete(alloc));
     };
     let Some(bench) = found.get_str("BENCH") else {
         return Err(incomplete(alloc));
     };
-    if until > MOST_UNTIL {
-        return Err(incomplete(alloc));
-    }
     let sources = sources_of(bench, found.get_str("STIMULUS"))?;
     let settings = found.get_str("settings");
     Ok(Request::Run(Run {
-        until,
+        options,
         settings,
         sources,
     }))

@@ -1,9 +1,9 @@
 //! The program: gate-level simulation from a command line to a value change dump.
 //!
 //! [`simulate_text`] answers the dump of a circuit's values for a bench text (ISCAS'89), a settings text (TOML) and
-//! a stimulus text (IEEE 1364-2005, section 18), or the first fault among them; [`counts_of_texts`] answers what a circuit
-//! has. [`program`] reads a command line and the texts that it names, and says the status with which the process
-//! ends. What is promised stands in `specs/`: `Answer` for the dump, `Replies` and `Endings` for the program.
+//! a stimulus text (IEEE 1364-2005, section 18), or the first fault among them, or that of the run of its blocks;
+//! [`counts_of_texts`] answers what a circuit has. [`program`] reads a command line and the texts that it names, and
+//! says the status with which the process ends. What is promised stands in `specs/`: `Answer` for the dump, `Replies` and `Endings` for the program.
 #![tactic(auto)]
 
 mod counts;
@@ -11,16 +11,21 @@ mod delivery;
 mod dump;
 #[cfg(test)]
 mod dump_tests;
-mod evaluate;
 mod failure;
 mod fault;
-mod fill;
 mod joined;
 mod line;
+#[cfg(test)]
+mod meeting_tests;
+mod options;
 mod outside;
+#[cfg(test)]
+mod plain;
 mod program;
 mod reply;
 mod request;
+#[cfg(test)]
+mod run_tests;
 #[cfg(test)]
 mod s27_tests;
 mod simulate;
@@ -33,10 +38,11 @@ pub use failure::Failure;
 pub use fault::Fault;
 pub use joined::split_joined;
 pub use line::read_line;
+pub use options::{MOST_BLOCKS, MOST_WINDOW, MOST_WORKERS, Options};
 pub use outside::{Outside, read_all};
 pub use program::{Ending, answer, execute, program, show};
 pub use reply::reply_to;
-pub use request::{Check, MOST_UNTIL, Request, Run, Sources};
+pub use request::{Check, Request, Run, Sources};
 pub use simulate::{counts_of_texts, simulate_text};
 use std::alloc::Global;
 use std::env;
@@ -66,6 +72,13 @@ fn main(rt: HostRuntime) -> ExitCode {
         Err(failure) => return ExitCode::from(show(&Err(failure), &mut out, &mut err).status),
     };
     let mut texts = Outside::new(&rt);
-    let status = program(rt.alloc(), words.as_slice(), &mut texts, &mut out, &mut err);
+    let status = program(
+        &rt,
+        rt.alloc(),
+        words.as_slice(),
+        &mut texts,
+        &mut out,
+        &mut err,
+    );
     ExitCode::from(status)
 }

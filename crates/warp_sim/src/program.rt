@@ -12,6 +12,8 @@ use crate::texts::Texts;
 use std::alloc::Global;
 use std::convert::AsStr;
 use std::io::Write;
+use std::sync::Wait;
+use std::thread::Threads;
 
 /// How the program ends: its exit status, and what came of the texts for the two writers.
 #[derive(Clone, Copy, Debug)]
@@ -55,7 +57,8 @@ pub fn show<O: Write, E: Write>(
 }
 
 /// Answers a request, and shows the answer.
-pub fn execute<T: Texts, O: Write, E: Write>(
+pub fn execute<R: Threads + Wait + Sync, T: Texts, O: Write, E: Write>(
+    rt: &R,
     alloc: Global,
     request: Request<'_>,
     texts: &mut T,
@@ -65,13 +68,14 @@ pub fn execute<T: Texts, O: Write, E: Write>(
     ensures { Executes T.gives request.entry texts.old texts.new result
         (channels (O.contents out.old) (E.contents err.old)) (channels (O.contents out.new) (E.contents err.new)) }
 {
-    let reply = reply_to(alloc, request, texts);
+    let reply = reply_to(rt, alloc, request, texts);
     show(&reply, out, err)
 }
 
 /// Reads the words of a command line, its own name first, answers the request and shows the answer;
 /// of a line that is refused, says why.
-pub fn answer<S: AsStr, T: Texts, O: Write, E: Write>(
+pub fn answer<R: Threads + Wait + Sync, S: AsStr, T: Texts, O: Write, E: Write>(
+    rt: &R,
     alloc: Global,
     words: &[S],
     texts: &mut T,
@@ -82,16 +86,17 @@ pub fn answer<S: AsStr, T: Texts, O: Write, E: Write>(
         (channels (O.contents out.old) (E.contents err.old)) (channels (O.contents out.new) (E.contents err.new)) }
 {
     match read_line(alloc, words) {
-        Ok(request) => execute(alloc, request, texts, out, err),
+        Ok(request) => execute(rt, alloc, request, texts, out, err),
         Err(failure) => show(&Err(failure), out, err),
     }
 }
 
 /// Runs the program on the words of a command line, its own name first, and answers its exit
-/// status: 0; 1 for a refused text; 2 for a refused line; 3 for want of memory; 4 where a text
+/// status: 0; 1 for a refused text; 2 for a refused line; 3 for a refused run and for want of memory; 4 where a text
 /// can't be read or `out` fails. What goes wrong is told on `err`; where that fails too, the
 /// status stays.
-pub fn program<S: AsStr, T: Texts, O: Write, E: Write>(
+pub fn program<R: Threads + Wait + Sync, S: AsStr, T: Texts, O: Write, E: Write>(
+    rt: &R,
     alloc: Global,
     words: &[S],
     texts: &mut T,
@@ -101,5 +106,5 @@ pub fn program<S: AsStr, T: Texts, O: Write, E: Write>(
     ensures { (ending : AnEnding) × (result ≡ ending.status) × Answers T.gives texts.old texts.new ending
         (channels (O.contents out.old) (E.contents err.old)) (channels (O.contents out.new) (E.contents err.new)) }
 {
-    answer(alloc, words, texts, out, err).status
+    answer(rt, alloc, words, texts, out, err).status
 }

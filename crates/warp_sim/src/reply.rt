@@ -1,6 +1,5 @@
 //! What a request is answered.
 ghost use Rattle.std.specs.Prelude.{◌≡◌, ◌≤◌, codes};
-ghost use Rattle.warp_sim.specs.Limits.{most_until};
 ghost use Rattle.warp_sim.specs.Replies.{
   Fetches,
   FetchesSettings,
@@ -18,10 +17,14 @@ use crate::counts::count_text;
 use crate::failure::Failure;
 use crate::fault::Fault;
 use crate::joined::split_joined;
+use crate::options::Options;
 use crate::request::{Check, Request, Run, Sources};
 use crate::simulate::{counts_of_texts, simulate_text};
 use crate::texts::{FetchFault, Texts};
 use std::alloc::Global;
+use std::sync::Wait;
+use std::thread::Threads;
+use warp_rounds::NoGate;
 
 fn fetch<'a, T: Texts>(alloc: Global, name: &'a str, texts: &mut T) -> Result<Vec<u8>, Failure<'a>>
     ensures { Fetches T.gives name.entry.now texts.old result texts.new }
@@ -46,74 +49,76 @@ fn fetch_settings<'a, T: Texts>(
     }
 }
 
-fn simulated<'a>(
+fn simulated<'a, R: Threads + Wait + Sync>(
+    rt: &R,
     alloc: Global,
     bench: &[u8],
     settings: &[u8],
     stimulus: &[u8],
-    until: u64,
+    options: &Options,
 ) -> Result<Vec<u8>, Failure<'a>>
-    requires { until ≤ most_until }
-    ensures { IsSimulated bench.now settings.now stimulus.now until result }
+    ensures { IsSimulated bench.now settings.now stimulus.now options.now.until result }
 {
-    Ok(simulate_text(alloc, bench, settings, stimulus, until)?)
+    Ok(simulate_text(rt, alloc, bench, settings, stimulus, options, &NoGate)?)
 }
 
-fn run_joined<'a, T: Texts>(
+fn run_joined<'a, R: Threads + Wait + Sync, T: Texts>(
+    rt: &R,
     alloc: Global,
     settings: &[u8],
-    until: u64,
+    options: &Options,
     texts: &mut T,
 ) -> Result<Vec<u8>, Failure<'a>>
-    requires { until ≤ most_until }
-    ensures { RunsJoined T.gives settings.now until texts.old result texts.new }
+    ensures { RunsJoined T.gives settings.now options.now.until texts.old result texts.new }
 {
     let joined = fetch(alloc, "-", texts)?;
     let (bench, stimulus) = split_joined(joined.as_slice());
-    simulated(alloc, bench, settings, stimulus, until)
+    simulated(rt, alloc, bench, settings, stimulus, options)
 }
 
-fn run_apart<'a, T: Texts>(
+fn run_apart<'a, R: Threads + Wait + Sync, T: Texts>(
+    rt: &R,
     alloc: Global,
     bench: &'a str,
     stimulus: &'a str,
     settings: &[u8],
-    until: u64,
+    options: &Options,
     texts: &mut T,
 ) -> Result<Vec<u8>, Failure<'a>>
-    requires { until ≤ most_until }
-    ensures { RunsApart T.gives bench.entry.now stimulus.entry.now settings.now until texts.old result texts.new }
+    ensures { RunsApart T.gives bench.entry.now stimulus.entry.now settings.now options.now.until texts.old result texts.new }
 {
     let bench = fetch(alloc, bench, texts)?;
     let stimulus = fetch(alloc, stimulus, texts)?;
     simulated(
+        rt,
         alloc,
         bench.as_slice(),
         settings,
         stimulus.as_slice(),
-        until,
+        options,
     )
 }
 
-fn run_sources<'a, T: Texts>(
+fn run_sources<'a, R: Threads + Wait + Sync, T: Texts>(
+    rt: &R,
     alloc: Global,
     sources: Sources<'a>,
     settings: &[u8],
-    until: u64,
+    options: &Options,
     texts: &mut T,
 ) -> Result<Vec<u8>, Failure<'a>>
-    requires { until ≤ most_until }
-    ensures { RunsSources T.gives sources.entry settings.now until texts.old result texts.new }
+    ensures { RunsSources T.gives sources.entry settings.now options.now.until texts.old result texts.new }
 {
     match sources {
-        Sources::Joined => run_joined(alloc, settings, until, texts),
+        Sources::Joined => run_joined(rt, alloc, settings, options, texts),
         Sources::Apart { bench, stimulus } => {
-            run_apart(alloc, bench, stimulus, settings, until, texts)
+            run_apart(rt, alloc, bench, stimulus, settings, options, texts)
         }
     }
 }
 
-fn reply_to_run<'a, T: Texts>(
+fn reply_to_run<'a, R: Threads + Wait + Sync, T: Texts>(
+    rt: &R,
     alloc: Global,
     run: Run<'a>,
     texts: &mut T,
@@ -121,7 +126,14 @@ fn reply_to_run<'a, T: Texts>(
     ensures { Runs T.gives run.entry texts.old result texts.new }
 {
     let settings = fetch_settings(alloc, run.settings, texts)?;
-    run_sources(alloc, run.sources, settings.as_slice(), run.until, texts)
+    run_sources(
+        rt,
+        alloc,
+        run.sources,
+        settings.as_slice(),
+        &run.options,
+        texts,
+    )
 }
 
 fn counted<'a>(alloc: Global, bench: &[u8], settings: &[u8]) -> Result<Vec<u8>, Failure<'a>>
@@ -146,7 +158,8 @@ fn reply_to_check<'a, T: Texts>(
 
 /// What a request is answered: the text to show, or why there is none. The texts that it names
 /// are fetched first, the settings before the bench before the stimulus.
-pub fn reply_to<'a, T: Texts>(
+pub fn reply_to<'a, R: Threads + Wait + Sync, T: Texts>(
+    rt: &R,
     alloc: Global,
     request: Request<'a>,
     texts: &mut T,
@@ -155,7 +168,7 @@ pub fn reply_to<'a, T: Texts>(
 {
     match request {
         Request::Help(text) => Ok(text.into_bytes()),
-        Request::Run(run) => reply_to_run(alloc, run, texts),
+        Request::Run(run) => reply_to_run(rt, alloc, run, texts),
         Request::Check(check) => reply_to_check(alloc, check, texts),
     }
 }

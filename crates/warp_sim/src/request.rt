@@ -1,9 +1,5 @@
 //! What a command line asks for.
-ghost use Rattle.std.specs.Prelude.{◌≤◌};
-ghost use Rattle.warp_sim.specs.Limits.{most_until};
-
-/// The greatest horizon.
-pub const MOST_UNTIL: u64 = 1_000_000_000_000;
+use crate::options::Options;
 
 /// What the words of a command line ask for.
 #[derive(Debug, Drop)]
@@ -14,13 +10,12 @@ pub enum Request<'a> {
     Check(Check<'a>),
 }
 
-/// To be shown the dump of a circuit up to a time, which counts in the stimulus's timescale.
+/// To be shown the dump of a circuit.
 #[derive(Clone, Copy, Debug)]
 pub struct Run<'a> {
-    pub until: u64,
+    pub options: Options,
     pub settings: Option<&'a str>,
     pub sources: Sources<'a>,
-    ghost within_limit: { until ≤ most_until },
 }
 
 /// Where a run's bench and stimulus stand: both in standard input, or in texts of these names.

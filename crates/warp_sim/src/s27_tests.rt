@@ -1,7 +1,7 @@
 use crate::tests::tell;
 use std::test::Fail;
 
-const S27: &str = "INPUT(G0)
+pub const S27: &str = "INPUT(G0)
 INPUT(G1)
 INPUT(G2)
 INPUT(G3)
@@ -23,7 +23,7 @@ G12 = NOR(G1, G7)
 G13 = NOR(G2, G12)
 ";
 
-const STIMULUS: &str = "$timescale 1 ns $end
+pub const STIMULUS: &str = "$timescale 1 ns $end
 $scope module tb $end
 $var reg 1 a G0 $end
 $var reg 1 b G1 $end
@@ -130,16 +130,28 @@ $end
 #[test]
 fn s27_is_dumped_exactly(rt: HostRuntime) -> Result<(), Fail> {
     let texts = [("s27", S27.as_bytes()), ("v", STIMULUS.as_bytes())];
-    let told = tell(rt.alloc(), "warp_sim run --until 20 s27 v", &texts)?;
-    assert_eq!(rt; told.err.as_slice(), b"".as_slice());
-    assert_eq!(rt; told.out.as_slice(), DUMP.as_bytes());
-    assert_eq!(rt; told.status, 0);
+    for blocks in [1, 3, 13] {
+        for workers in [1, 2, 4] {
+            let line = format!(in rt.alloc();
+                "warp_sim run --until 20 --blocks {blocks} --workers {workers} s27 v"
+            )?;
+            let told = tell(&rt, rt.alloc(), line.as_str(), &texts)?;
+            assert_eq!(rt; told.err.as_slice(), b"".as_slice(), "{line}");
+            assert_eq!(rt; told.out.as_slice(), DUMP.as_bytes(), "{line}");
+            assert_eq!(rt; told.status, 0, "{line}");
+        }
+    }
     Ok(())
 }
 
 #[test]
 fn s27_is_counted(rt: HostRuntime) -> Result<(), Fail> {
-    let told = tell(rt.alloc(), "warp_sim check s27", &[("s27", S27.as_bytes())])?;
+    let told = tell(
+        &rt,
+        rt.alloc(),
+        "warp_sim check s27",
+        &[("s27", S27.as_bytes())],
+    )?;
     let want = "nets 18\ninputs 5\ngates 10\nflip-flops 3\noutputs 1\nblocks 1\n";
     assert_eq!(rt; told.out.as_slice(), want.as_bytes());
     assert_eq!(rt; told.status, 0);

@@ -1,13 +1,19 @@
 //! From three texts to a dump.
-ghost use Rattle.std.specs.Prelude.{◌≡◌, ◌≤◌};
-ghost use Rattle.warp_sim.specs.Limits.{most_until};
+ghost use Rattle.std.specs.Prelude.{◌≡◌, IfOk, IfSome};
+ghost use Rattle.gate_netlist.specs.Circuit.{CutFits};
+ghost use Rattle.gate_vcd.specs.Given.{Fits};
+ghost use Rattle.warp_core.specs.Values.{AreCircuitWaves};
 ghost use Rattle.warp_sim.specs.Answer.{IsCircuitAnswer, IsAnswer, IsCounted};
 
 use crate::dump::dump_of;
 use crate::fault::Fault;
-use gate_netlist::{Circuit, Counts, read_bench};
-use gate_vcd::read_stimulus;
+use crate::options::Options;
+use gate_netlist::{Circuit, Counts, Cut, read_bench};
+use gate_vcd::{Stimulus, Waves, read_stimulus};
 use std::alloc::Global;
+use std::sync::Wait;
+use std::thread::Threads;
+use warp_rounds::{Gate, RunFault, run};
 
 /// The circuit of a bench text and a settings text.
 fn circuit_of(alloc: Global, bench: &[u8], settings: &[u8]) -> Result<Circuit, Fault>
@@ -17,25 +23,85 @@ fn circuit_of(alloc: Global, bench: &[u8], settings: &[u8]) -> Result<Circuit, F
     Ok(Circuit::of(alloc, bench, settings)?)
 }
 
-/// The dump of every net of a circuit, from time 0 to `until` (at most 10^12, in units of the stimulus's timescale):
+/// Runs the blocks of a cut circuit.
+fn run_cut<G: Gate + Sync, R: Threads + Wait + Sync>(
+    rt: &R,
+    alloc: Global,
+    circuit: &Circuit,
+    cut: &Cut,
+    stimulus: &Stimulus,
+    options: &Options,
+    gate: &G,
+) -> Result<Waves, RunFault>
+    requires cut { CutFits circuit.now cut.now }
+    requires stimulus { Fits stimulus.now circuit.now }
+    ensures { IfOk result (AreCircuitWaves circuit.now stimulus.now options.now.until) }
+{
+    run(
+        rt,
+        alloc,
+        circuit,
+        cut,
+        stimulus,
+        options.until(),
+        options.workers(),
+        options.window(),
+        gate,
+    )
+}
+
+/// The cut that the settings of a circuit give.
+fn settled_cut(circuit: &Circuit) -> Option<&Cut>
+    ensures { IfSome result (λ cut. CutFits circuit.now cut.now) }
+{
+    circuit.law();
+    circuit.cut()
+}
+
+/// Runs the blocks of a circuit, which is cut evenly where the options give a number of blocks, else as its settings
+/// say, else not at all.
+fn waves_of<G: Gate + Sync, R: Threads + Wait + Sync>(
+    rt: &R,
+    alloc: Global,
+    circuit: &Circuit,
+    stimulus: &Stimulus,
+    options: &Options,
+    gate: &G,
+) -> Result<Waves, RunFault>
+    requires { Fits stimulus.now circuit.now }
+    ensures { IfOk result (AreCircuitWaves circuit.now stimulus.now options.now.until) }
+{
+    let blocks = match (options.blocks(), settled_cut(circuit)) {
+        (None, Some(cut)) => return run_cut(rt, alloc, circuit, cut, stimulus, options, gate),
+        (None, None) => 1,
+        (Some(blocks), _) => blocks,
+    };
+    let cut = Cut::even(alloc, circuit, blocks)?;
+    run_cut(rt, alloc, circuit, &cut, stimulus, options, gate)
+}
+
+/// The dump of every net of a circuit, from time 0 to the options' `until`, in units of the stimulus's timescale: of
 /// the circuit of a bench text and a settings text, under a stimulus.
 ///
-/// The texts are judged in this order, and the first that is refused is answered, with its fault. Want of memory in
-/// any part is `Fault::Memory`, and no other fault carries it.
+/// The texts are judged in this order, and the first that is refused is answered, with its fault; then the run's fault.
+/// Want of memory in any part is `Fault::Memory`, and no other fault carries it. The gate is lent each block as its
+/// turns begin and end.
 #[tactic(auto, unfolding(crate::specs::Answer::IsAnswer))]
-pub fn simulate_text(
+pub fn simulate_text<G: Gate + Sync, R: Threads + Wait + Sync>(
+    rt: &R,
     alloc: Global,
     bench: &[u8],
     settings: &[u8],
     stimulus: &[u8],
-    until: u64,
+    options: &Options,
+    gate: &G,
 ) -> Result<Vec<u8>, Fault>
-    requires { until ≤ most_until }
-    ensures { IsAnswer bench.now settings.now stimulus.now until result }
+    ensures { IsAnswer bench.now settings.now stimulus.now options.now.until result }
 {
     let circuit = circuit_of(alloc, bench, settings)?;
     let stimulus = read_stimulus(alloc, stimulus, &circuit)?;
-    Ok(dump_of(alloc, &circuit, &stimulus, until)?)
+    let waves = waves_of(rt, alloc, &circuit, &stimulus, options, gate)?;
+    Ok(dump_of(alloc, &circuit, &stimulus, &waves, options.until())?)
 }
 
 /// How many parts a circuit has.

@@ -2,7 +2,12 @@ use super::*;
 use gate_netlist::{BenchCause, BenchFault, SettingsFault};
 use gate_vcd::{StimCause, StimFault};
 use std::io::{self, Read, Write};
+use std::sync::Wait;
 use std::test::Fail;
+use std::thread::Threads;
+use warp_block::{BlockFault, MOST_HORIZON};
+use warp_core::GatherFault;
+use warp_rounds::RunFault;
 
 /// Texts by name; `full` has no memory left, and all other names are unreadable.
 #[derive(Drop)]
@@ -53,7 +58,12 @@ pub struct Told {
     pub asked: String,
 }
 
-pub fn tell(alloc: Global, line: &str, texts: &[(&str, &[u8])]) -> Result<Told, Fail> {
+pub fn tell<R: Threads + Wait + Sync>(
+    rt: &R,
+    alloc: Global,
+    line: &str,
+    texts: &[(&str, &[u8])],
+) -> Result<Told, Fail> {
     let words: Vec<&str> = line.split(' ').collect(alloc)?;
     let mut shelf = Shelf {
         texts,
@@ -61,7 +71,7 @@ pub fn tell(alloc: Global, line: &str, texts: &[(&str, &[u8])]) -> Result<Told, 
     };
     let mut out = Vec::new(alloc);
     let mut err = Vec::new(alloc);
-    let status = program(alloc, words.as_slice(), &mut shelf, &mut out, &mut err);
+    let status = program(rt, alloc, words.as_slice(), &mut shelf, &mut out, &mut err);
     Ok(Told {
         status,
         out,
@@ -87,6 +97,11 @@ fn lines_are_read_before_any_text(rt: HostRuntime) -> Result<(), Fail> {
             4,
             "cannot read s\n",
         ),
+        (
+            "warp_sim run --until 5 --blocks 1024 --workers 64 --window 1000000 b v",
+            4,
+            "cannot read b\n",
+        ),
         ("warp_sim run --until 5 --settings full b v", 3, "memory\n"),
         ("warp_sim run --until 5 b", 2, "stimulus expected\n"),
         (
@@ -100,7 +115,7 @@ fn lines_are_read_before_any_text(rt: HostRuntime) -> Result<(), Fail> {
         ("warp_sim check --settings s b", 4, "cannot read s\n"),
         ("warp_sim check -", 4, "cannot read -\n"),
     ] {
-        let told = tell(rt.alloc(), line, &[])?;
+        let told = tell(&rt, rt.alloc(), line, &[])?;
         assert_eq!(rt; told.status, status, "{line}");
         assert_eq!(rt; told.err.as_slice(), message.as_bytes(), "{line}");
         assert!(rt; told.out.is_empty(), "{line}");
@@ -121,11 +136,18 @@ fn refused_lines_end_with_2(rt: HostRuntime) -> Result<(), Fail> {
         "warp_sim run --until 5 --until 6 b v",
         "warp_sim run --until 5 b v w",
         "warp_sim run --until 5 --speed 6 b v",
+        "warp_sim run --until 5 --blocks 0 b v",
+        "warp_sim run --until 5 --blocks 1025 b v",
+        "warp_sim run --until 5 --workers 0 b v",
+        "warp_sim run --until 5 --workers 65 b v",
+        "warp_sim run --until 5 --window 0 b v",
+        "warp_sim run --until 5 --window 1000001 b v",
+        "warp_sim check --workers 1 b",
         "warp_sim check",
         "warp_sim check b v",
         "warp_sim check --until 5 b",
     ] {
-        let told = tell(rt.alloc(), line, &[])?;
+        let told = tell(&rt, rt.alloc(), line, &[])?;
         assert_eq!(rt; told.status, 2, "{line}");
         assert_eq!(rt; told.err.last(), Some(&b'\n'), "{line}");
         assert!(rt; told.out.is_empty() && told.asked.is_empty(), "{line}");
@@ -141,7 +163,7 @@ fn help_is_shown_on_standard_output(rt: HostRuntime) -> Result<(), Fail> {
         "warp_sim run --help",
         "warp_sim check --help",
     ] {
-        let told = tell(alloc, line, &[])?;
+        let told = tell(&rt, alloc, line, &[])?;
         assert_eq!(rt; told.status, 0, "{line}");
         assert!(rt; !told.out.is_empty() && told.err.is_empty(), "{line}");
     }
@@ -152,6 +174,7 @@ fn help_is_shown_on_standard_output(rt: HostRuntime) -> Result<(), Fail> {
     let words = ["warp_sim", "--help"];
     let mut err = Vec::new(alloc);
     let status = program(
+        &rt,
         alloc,
         words.as_slice(),
         &mut shelf,
@@ -174,6 +197,7 @@ fn a_failing_err_changes_no_status(rt: HostRuntime) -> Result<(), Fail> {
         let words = ["warp_sim", "check", word];
         let mut out = Vec::new(alloc);
         let told = program(
+            &rt,
             alloc,
             words.as_slice(),
             &mut shelf,
@@ -202,9 +226,28 @@ fn texts_are_fetched_in_order(rt: HostRuntime) -> Result<(), Fail> {
         ),
         ("warp_sim check --settings s c", "s c ", "cannot read c\n"),
     ] {
-        let told = tell(rt.alloc(), line, &texts)?;
+        let told = tell(&rt, rt.alloc(), line, &texts)?;
         assert_eq!(rt; told.asked.as_str(), asked, "{line}");
         assert_eq!(rt; told.err.as_slice(), message.as_bytes(), "{line}");
+    }
+    Ok(())
+}
+
+#[test]
+fn options_keep_to_their_limits(rt: HostRuntime) -> Result<(), Fail> {
+    for (until, blocks, workers, window, fits) in [
+        (0, None, 1, 1, true),
+        (MOST_HORIZON, Some(1024), 64, 1_000_000, true),
+        (MOST_HORIZON + 1, None, 1, 1, false),
+        (0, Some(0), 1, 1, false),
+        (0, Some(1025), 1, 1, false),
+        (0, None, 0, 1, false),
+        (0, None, 65, 1, false),
+        (0, None, 1, 0, false),
+        (0, None, 1, 1_000_001, false),
+    ] {
+        let options = Options::new(until, blocks, workers, window);
+        assert_eq!(rt; options.is_some(), fits, "{until} {workers} {window}");
     }
     Ok(())
 }
@@ -220,10 +263,12 @@ fn a_line_gives_its_request(rt: HostRuntime) -> Result<(), Fail> {
         "v",
         "--until",
         "7",
+        "--workers",
+        "2",
     ];
     match read_line(rt.alloc(), words.as_slice()) {
         Ok(Request::Run(run)) => {
-            assert_eq!(rt; run.until, 7);
+            assert_eq!(rt; Some(run.options), Options::new(7, None, 2, 1000));
             assert_eq!(rt; run.settings, Some("s"));
             match run.sources {
                 Sources::Apart { bench, stimulus } => {
@@ -266,6 +311,22 @@ fn faults_have_their_lines(rt: HostRuntime) -> Result<(), Fail> {
         (Fault::Stimulus(token), "stimulus at 48: StampFalls", 1),
         (Fault::Stimulus(net), "stimulus net 0: MissingInput", 1),
         (Fault::Stimulus(scalar), "stimulus net 3: NotScalar", 1),
+        (
+            Fault::Run(RunFault::Block(BlockFault::BelowFloor)),
+            "run: block BelowFloor",
+            3,
+        ),
+        (
+            Fault::Run(RunFault::Stalled { time: 7 }),
+            "run: stalled at 7",
+            3,
+        ),
+        (
+            Fault::Run(RunFault::Gather(GatherFault::Unfinished { block: 1 })),
+            "run: gather Unfinished",
+            3,
+        ),
+        (Fault::Run(RunFault::NoThread), "run: no thread", 3),
         (Fault::Memory, "memory", 3),
     ] {
         let text = fault.to_string(rt.alloc())?;
@@ -275,6 +336,15 @@ fn faults_have_their_lines(rt: HostRuntime) -> Result<(), Fail> {
     assert_eq!(rt; Fault::from(BenchFault::MEMORY), Fault::Memory);
     assert_eq!(rt; Fault::from(StimFault::MEMORY), Fault::Memory);
     assert_eq!(rt; Fault::from(SettingsFault::Memory), Fault::Memory);
+    assert_eq!(rt;
+        Fault::from(RunFault::Block(BlockFault::Memory)),
+        Fault::Memory
+    );
+    assert_eq!(rt;
+        Fault::from(RunFault::Gather(GatherFault::Memory)),
+        Fault::Memory
+    );
+    assert_eq!(rt; Fault::from(RunFault::Memory), Fault::Memory);
     Ok(())
 }
 

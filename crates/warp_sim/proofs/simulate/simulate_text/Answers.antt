@@ -5,6 +5,6 @@ use Rattle.warp_sim.proofs.simulate.simulate_text.Goals as goal
 
 pub returns : goal.returns
 unfolding IsAnswer
-returns c =
+returns g c =
     let (r, read, means) = c.in_ok-stimulus.ensures in
-    (c.in_ok-circuit.circuit, c.in_ok-circuit.ensures, r, read, c.in_ok-dump_of.ensures ∙ dump-means (codes "top") c.in_ok-circuit.circuit r c.in_ok-stimulus.stimulus c.args.until means)
+    (c.in_ok-circuit.circuit, c.in_ok-circuit.ensures, r, read, (rw c.until.ensures at c.in_ok-dump_of.ensures) ∙ dump-means (codes "top") c.in_ok-circuit.circuit r c.in_ok-stimulus.stimulus c.args.options.now.until means)

@@ -1,0 +1,253 @@
+//! What runs are judged by: the values of a circuit's nets straight from their definition, time by time and net by net,
+//! and the dump of them from `#0` on.
+ghost use Rattle.std.specs.Prelude.{◌<◌, ◌≤◌};
+ghost use Rattle.gate_netlist.specs.Circuit.{nets_of};
+
+use Logic::{One, X, Z, Zero};
+use gate_netlist::{Circuit, Driver, read_bench};
+use gate_values::{Kind, Logic};
+use gate_vcd::{Stimulus, read_stimulus};
+use std::alloc::Global;
+use std::test::Fail;
+
+/// The codes of the first nets.
+const CODES: &[u8] = b"!\"#$%&'()*+,-./0123456789";
+
+/// The value of a net at a time, of rows for the times from 0 on; X past them.
+fn at(rows: &[Vec<Logic>], time: u64, net: u32) -> Logic {
+    match rows.get(time as usize) {
+        Some(row) => row.get(net as usize).copied().unwrap_or(X),
+        None => X,
+    }
+}
+
+fn inverse(value: Logic) -> Logic {
+    match value {
+        Zero => One,
+        One => Zero,
+        X | Z => X,
+    }
+}
+
+/// What a gate makes of its inputs at a time.
+fn output(kind: Kind, inputs: &[u32], values: &[Vec<Logic>], time: u64) -> Logic {
+    let mut has_zero = false;
+    let mut has_unknown = false;
+    let mut is_odd = false;
+    let mut has_one = false;
+    for input in inputs {
+        match at(values, time, *input) {
+            Zero => has_zero = true,
+            One => {
+                has_one = true;
+                is_odd = !is_odd;
+            }
+            X | Z => has_unknown = true,
+        }
+    }
+    match kind {
+        Kind::And => all_of(has_zero, has_unknown),
+        Kind::Nand => inverse(all_of(has_zero, has_unknown)),
+        Kind::Or => inverse(all_of(has_one, has_unknown)),
+        Kind::Nor => all_of(has_one, has_unknown),
+        Kind::Xor | Kind::Buff => parity_of(is_odd, has_unknown),
+        Kind::Xnor | Kind::Not => inverse(parity_of(is_odd, has_unknown)),
+    }
+}
+
+/// Zero where something excludes One, else X where something is unknown.
+fn all_of(is_excluded: bool, has_unknown: bool) -> Logic {
+    if is_excluded {
+        Zero
+    } else if has_unknown {
+        X
+    } else {
+        One
+    }
+}
+
+fn parity_of(is_odd: bool, has_unknown: bool) -> Logic {
+    if has_unknown {
+        X
+    } else if is_odd {
+        One
+    } else {
+        Zero
+    }
+}
+
+/// What a flip-flop holds, by its content, its clock and its data just before, and its clock now.
+fn next_content(content: Logic, before: Logic, now: Logic, data: Logic) -> Logic {
+    let data = if data == Z { X } else { data };
+    match (before, now) {
+        (Zero, One) => data,
+        (Zero, X) | (Zero, Z) | (X, One) | (Z, One) => { if content == data { content } else { X } }
+        _ => content,
+    }
+}
+
+/// The value of a net at a time, by the values and contents of the times before.
+fn value_of(
+    circuit: &Circuit,
+    stimulus: &Stimulus,
+    values: &[Vec<Logic>],
+    contents: &[Vec<Logic>],
+    time: u64,
+    net: u32,
+) -> Logic
+    requires { net < nets_of circuit.now }
+{
+    let Some(delay) = circuit.delay(net) else {
+        return stimulus.at(net, time);
+    };
+    let delay = delay as u64;
+    if time < delay {
+        return X;
+    }
+    match circuit.driver(net) {
+        Driver::Gate { kind, inputs } => output(*kind, inputs.as_slice(), values, time - delay),
+        Driver::Flop { .. } => at(contents, time - delay, net),
+        Driver::Input => X,
+    }
+}
+
+/// What the flip-flop of a net holds at a time, by the contents of the times before and the values up to it.
+fn content_of(
+    circuit: &Circuit,
+    values: &[Vec<Logic>],
+    contents: &[Vec<Logic>],
+    time: u64,
+    net: u32,
+) -> Logic
+    requires { net < nets_of circuit.now }
+{
+    let Driver::Flop { d, clock } = circuit.driver(net) else {
+        return X;
+    };
+    let now = at(values, time, *clock);
+    if time == 0 {
+        return next_content(X, X, now, X);
+    }
+    let before = time - 1;
+    next_content(
+        at(contents, before, net),
+        at(values, before, *clock),
+        now,
+        at(values, before, *d),
+    )
+}
+
+/// The values of all nets at the times up to a last one.
+fn values_of(
+    alloc: Global,
+    circuit: &Circuit,
+    stimulus: &Stimulus,
+    until: u64,
+) -> Result<Vec<Vec<Logic>>, Fail>
+    requires { until ≤ 1000 }
+{
+    let mut values = Vec::new(alloc);
+    let mut contents = Vec::new(alloc);
+    for time in 0..until + 1 {
+        let mut row = Vec::new(alloc);
+        for net in 0..circuit.nets() {
+            let value = value_of(
+                circuit,
+                stimulus,
+                values.as_slice(),
+                contents.as_slice(),
+                time,
+                net,
+            );
+            row.push(value)?;
+        }
+        values.push(row)?;
+        let mut row = Vec::new(alloc);
+        for net in 0..circuit.nets() {
+            let content = content_of(circuit, values.as_slice(), contents.as_slice(), time, net);
+            row.push(content)?;
+        }
+        contents.push(row)?;
+    }
+    Ok(values)
+}
+
+fn push_value(dump: &mut Vec<u8>, value: Logic, net: u32) -> Result<(), Fail> {
+    let letter = match value {
+        Zero => b'0',
+        One => b'1',
+        X => b'x',
+        Z => b'z',
+    };
+    dump.push(letter)?;
+    dump.push(CODES.get(net as usize).copied().unwrap_or(b'?'))?;
+    dump.push(b'\n')?;
+    Ok(())
+}
+
+fn push_stamp(alloc: Global, dump: &mut Vec<u8>, time: u64) -> Result<(), Fail> {
+    let stamp = format!(in alloc; "#{time}\n")?;
+    dump.extend_from_slice(stamp.as_bytes())?;
+    Ok(())
+}
+
+/// Appends what changes at a time; at the last one its stamp alone, where nothing does.
+fn push_changes(
+    alloc: Global,
+    dump: &mut Vec<u8>,
+    values: &[Vec<Logic>],
+    nets: u32,
+    time: u64,
+    is_last: bool,
+) -> Result<(), Fail>
+    requires { 0 < time }
+{
+    let mut is_stamped = false;
+    for net in 0..nets {
+        let value = at(values, time, net);
+        if value != at(values, time - 1, net) {
+            if !is_stamped {
+                push_stamp(alloc, dump, time)?;
+                is_stamped = true;
+            }
+            push_value(dump, value, net)?;
+        }
+    }
+    if is_last && !is_stamped {
+        push_stamp(alloc, dump, time)?;
+    }
+    Ok(())
+}
+
+/// The dump of a circuit's values, from `#0` on.
+pub fn dump_of(
+    alloc: Global,
+    bench: &str,
+    settings: &str,
+    stimulus: &str,
+    until: u64,
+) -> Result<Vec<u8>, Fail>
+    requires { until ≤ 1000 }
+{
+    let bench = read_bench(alloc, bench.as_bytes())?;
+    let circuit = Circuit::of(alloc, bench, settings.as_bytes())?;
+    let stimulus = read_stimulus(alloc, stimulus.as_bytes(), &circuit)?;
+    let values = values_of(alloc, &circuit, &stimulus, until)?;
+    let nets = circuit.nets();
+    let mut dump = Vec::from_slice(alloc, b"#0\n$dumpvars\n")?;
+    for net in 0..nets {
+        push_value(&mut dump, at(values.as_slice(), 0, net), net)?;
+    }
+    dump.extend_from_slice(b"$end\n")?;
+    for time in 1..until + 1 {
+        push_changes(
+            alloc,
+            &mut dump,
+            values.as_slice(),
+            nets,
+            time,
+            time == until,
+        )?;
+    }
+    Ok(dump)
+}
