@@ -31,6 +31,8 @@ pub use part::Part;
 pub use state::SAVE_EVERY;
 
 #[cfg(test)]
+mod commit_tests;
+#[cfg(test)]
 mod part_tests;
 #[cfg(test)]
 mod tests;

@@ -22,13 +22,13 @@ const SAMPLED_CUT: &str = "[block]\nA = 0\nQ = 1\n";
 const SAMPLED_CLOCK: &str =
     "$var wire 1 p P $end $var wire 1 c CK $end $enddefinitions $end #0 0c #2 1c #4 0c #6 xc";
 
-const P: u32 = 0;
+pub(crate) const P: u32 = 0;
 
-const A: u32 = 2;
+pub(crate) const A: u32 = 2;
 
 const B: u32 = 3;
 
-const Y: u32 = 4;
+pub(crate) const Y: u32 = 4;
 
 /// A new block of a circuit that three texts give, with horizon 10.
 fn block_of(
@@ -50,11 +50,11 @@ fn block_of(
     Ok(Block::new(alloc, part, &stimulus, 10, out)?)
 }
 
-fn pair(alloc: Global, out: &mut Vec<Message>) -> Result<Block, Fail> {
+pub(crate) fn pair(alloc: Global, out: &mut Vec<Message>) -> Result<Block, Fail> {
     block_of(alloc, PAIR, PAIR_CUT, PAIR_UNSET, 1, out)
 }
 
-fn to(block: u32, sign: Sign, net: u32, time: u64, value: Logic) -> Message {
+pub(crate) fn to(block: u32, sign: Sign, net: u32, time: u64, value: Logic) -> Message {
     Message {
         time,
         block,
@@ -65,7 +65,7 @@ fn to(block: u32, sign: Sign, net: u32, time: u64, value: Logic) -> Message {
 }
 
 /// A message to block 1.
-fn told(net: u32, time: u64, value: Logic) -> Message {
+pub(crate) fn told(net: u32, time: u64, value: Logic) -> Message {
     to(1, Plus, net, time, value)
 }
 
@@ -176,7 +176,7 @@ fn a_look_shows_entries_and_logs(rt: HostRuntime) -> Result<(), Fail> {
     Ok(())
 }
 
-fn numbers(zero: i128, one: i128, x: i128, z: i128) -> Entry {
+pub(crate) fn numbers(zero: i128, one: i128, x: i128, z: i128) -> Entry {
     Entry { zero, one, x, z }
 }
 
