@@ -189,7 +189,7 @@ impl Block {
         self.look.mark()
     }
 
-    /// Everything below it is committed.
+    /// Everything below it is committed: processed, and settled.
     pub fn floor(&self) -> u64
         ensures { result ≡ self.now.seen.floor }
     {

@@ -4,7 +4,9 @@ ghost use Rattle.warp_block.specs.declared.fault.BlockFault.TheVariants as fault
 use std::alloc::{AllocError, AllocFailed};
 use thiserror::Error;
 
-/// Why a block refuses a call. Of the causes that apply the first in this order is answered.
+/// Why a block refuses a call: the first five causes are of [`receive`](crate::Block::receive), want of memory is of
+/// [`advance`](crate::Block::advance) too, and the last three are of [`commit`](crate::Block::commit). Of the causes that
+/// apply to a call the first in this order is answered, want of memory last.
 #[derive(Clone, Copy, Debug, PartialEq, Eq, Error)]
 pub enum BlockFault {
     /// The message is for another block, or for a net that the block reads from no other block.

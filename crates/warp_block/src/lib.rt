@@ -3,12 +3,14 @@
 //!
 //! A [`Block`] holds a [`Part`] of a circuit. [`Block::receive`] takes a [`Message`] or its antimessage, from the
 //! block's past too; [`Block::advance`] runs the block up to a number of event times; both put what other blocks are
-//! to be told at the end of a list. At every moment the block's logs and saved states are those of running what it has
-//! received, in order of time, from the start: that is the invariant of the types [`Block`] and [`Look`]. Times are
-//! whole numbers in units of the stimulus's timescale.
+//! to be told at the end of a list. [`Block::commit`] takes a time below which no message may come any more, and gives
+//! up the saved states that no rollback can need then; entries and logs stay. At every moment the block's logs and
+//! saved states are those of running what it has received, in order of time, from the start: that is the invariant of
+//! the types [`Block`] and [`Look`]. Times are whole numbers in units of the stimulus's timescale.
 //!
 //! The definitions stand in `specs/`: `Portion` and `PartOf` for parts, `Entries` for what is received, `View` for what
-//! a block shows, its value and its event times, `Lawful` for the invariant, `Receive`, `Advance` and `Sends` for calls.
+//! a block shows, its value and its event times, `Lawful` for the invariant, `Receive`, `Advance`, `Commit` and `Sends`
+//! for calls, `Limits` for the horizon's limit.
 #![tactic(auto)]
 
 mod block;

@@ -113,7 +113,7 @@ impl Look {
         self.mark
     }
 
-    /// Everything below it is committed.
+    /// Everything below it is committed: processed, and settled.
     pub fn floor(&self) -> u64
         ensures { result ≡ self.now.floor }
     {
