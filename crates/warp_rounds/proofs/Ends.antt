@@ -69,34 +69,34 @@ all_unmarked (s ∷ rest) none = let e = sum_by-cons (λ (s : SeatView). cond s.
 
 module _ (blocks seats id : ℕ) (h : Hand) (n m : ℕ) (last : IsLast blocks seats id h n m) where
   no_more : h.shares ≤ seats
-  no_more = omega (arith, last.kept.shared, part_le (λ (v : Hand). v.shares) last.state.views id h last.there)
+  no_more = omega (arith, last.kept.shares.all, part_le (λ (v : Hand). v.shares) last.state.views id h last.there)
 
   -- a sum over all hands is that of the one with every share
   alone : h.shares ≡ seats → (f : Hand → ℕ) → ((v : Hand) → v.draws ≡ [] → v.marks ≡ 0 → f v ≡ 0) → sum_by f last.state.views ≡ f h
-  alone every f none = sum_alone (λ (v : Hand). v.shares) f last.state.views id h last.there (last.kept.shared ∙ sym every)
-      (λ j v at no_share. let fair = last.kept.fair j v at in none v (fair.empty no_share).0 (omega (arith, fair.marked)))
+  alone every f none = sum_alone (λ (v : Hand). v.shares) f last.state.views id h last.there (last.kept.shares.all ∙ sym every)
+      (λ j v at no_share. let fair = last.kept.shares.fair j v at in none v (fair.empty no_share).0 (omega (arith, fair.marked)))
 
   -- another hand has no share, and so no time
   never_else : h.shares ≡ seats → (i : ℕ) (v : Hand) → ¬ (i ≡ id) → get_elem? last.state.views i ≡ some v → v.least ≡ never
   never_else every i v else at =
       let others = sum_set (λ (v : Hand). v.shares) last.state.views id h spent_hand last.there in
       let part = part_le (λ (v : Hand). v.shares) (set last.state.views id spent_hand) i v (set_else last.state.views id i spent_hand else ∙ at) in
-      ((last.kept.fair i v at).empty (omega (arith, others, part, last.kept.shared))).1
+      ((last.kept.shares.fair i v at).empty (omega (arith, others, part, last.kept.shares.all))).1
 
   least_here : h.shares ≡ seats → h.least ≤ never → last.kept.least ≡ h.least
-  least_here every timed = let low = last.kept.below id h last.there in let top = last.kept.top in ⊎_elim (λ (none : last.kept.least ≡ never). omega arith)
+  least_here every timed = let low = last.kept.earliest.below id h last.there in let top = last.kept.earliest.top in ⊎_elim (λ (none : last.kept.least ≡ never). omega arith)
       (λ (t : (i : ℕ) × (v : Hand) × (get_elem? last.state.views i ≡ some v) × (v.least ≡ last.kept.least)).
       dite (ℕ_discrete t.0 id)
       (λ here. sym t.3 ∙ ap (λ (v : Hand). v.least) (some-injective t.1 h (sym t.2 ∙ (ap (get_elem? last.state.views) here ∙ last.there))))
-      (λ else. omega (arith, never_else every t.0 t.1 else t.2, t.3))) last.kept.reached
+      (λ else. omega (arith, never_else every t.0 t.1 else t.2, t.3))) last.kept.earliest.reached
 
   whole : h.shares ≡ seats → IsWhole blocks h n m
   whole every =
       let lengths = alone every (λ (v : Hand). length v.draws) (λ v none no_mark. ap (length {A = ℕ}) none) in
       record {
-        once = λ x. sym (alone every (λ (v : Hand). times_in x v.draws) (λ v none no_mark. ap (times_in x) none)) ∙ (last.kept.once x ∙ ap (λ k. once_below x (min k blocks)) last.number_is);
-        drawn = sym lengths ∙ (last.kept.drawn ∙ ap (λ k. min k blocks) last.number_is);
-        counted = omega (arith, lengths, alone every (λ (v : Hand). v.marks) (λ v none no_mark. no_mark), last.kept.counted, last.number_is);
+        once = λ x. sym (alone every (λ (v : Hand). times_in x v.draws) (λ v none no_mark. ap (times_in x) none)) ∙ (last.kept.count.once x ∙ ap (λ k. once_below x (min k blocks)) last.number_is);
+        drawn = sym lengths ∙ (last.kept.count.drawn ∙ ap (λ k. min k blocks) last.number_is);
+        counted = omega (arith, lengths, alone every (λ (v : Hand). v.marks) (λ v none no_mark. no_mark), last.kept.count.counted, last.number_is);
         least_is = λ timed. sym last.least_is ∙ least_here every timed;
       }
 

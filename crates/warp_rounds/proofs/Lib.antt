@@ -1,6 +1,9 @@
+mod Counting
 mod Ends
 mod Pending
 mod Receiving
+mod Sharing
 mod Steps
 mod Sums
+mod Timing
 mod Turning

@@ -1,6 +1,6 @@
-use Rattle.std.proofs.Common.{◌≡◌, All}
+use Rattle.std.proofs.Common.{◌≡◌}
 use Rattle.std.proofs.lemmas.List.Elements.{All-head, All-tail, All-push, All-same}
-use Rattle.warp_rounds.specs.Seats.{RoundId, SeatView}
+use Rattle.warp_rounds.specs.Seats.{SeatView}
 use Rattle.warp_rounds.specs.Work.{IsOfRound}
 use Rattle.warp_rounds.proofs.work.seats_of.Goals as goal
 

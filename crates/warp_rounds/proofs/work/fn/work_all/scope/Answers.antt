@@ -1,4 +1,4 @@
-use Rattle.std.proofs.Common.{◌≡◌, refl, ap, All}
+use Rattle.std.proofs.Common.{◌≡◌, refl, ap}
 use Rattle.std.proofs.lemmas.List.Elements.{All-rest, All-push, All-same}
 use Rattle.std.specs.declared.thread.PromisedHandle.{PromisedHandle}
 use Rattle.warp_rounds.specs.Seats.{SeatView}
@@ -16,7 +16,7 @@ loop-seat-preserved g c =
       can_next = tt;
       is_finite = tt;
       ours = All-rest IsOf _ _ _ steps.0 loop.ours;
-      blocks = loop.blocks;
+      as_many = loop.as_many;
       same = refl;
       promised = All-same IsPromised _ _ pushed (All-push IsPromised _ c.in-Ok.handle loop.promised (ap (λ promise. promise.0.now.round) c.in-Ok.ensures.ok));
     }

@@ -8,7 +8,7 @@ invariant-loop-seat g l = record {
   can_next : (goal.iterator-loop-seat g).can_next l.seat-iterator;
   is_finite : (goal.iterator-loop-seat g).is_finite l.seat-iterator;
   ours : AreSeatsOfRound l.round.now.round (into_iter_items l.seat-iterator);
-  blocks : l.round.now.round.blocks ≡ length l.sites.now;
+  as_many : l.round.now.round.blocks ≡ length l.sites.now;
   same : l.round ≡ l.initial.round;
   promised : All (λ handle. handle.promise.0.now.round ≡ l.round.now.round) l.handles.items;
 }
