@@ -1,7 +1,7 @@
 -- Finishing an event time keeps what every block keeps.
 use Rattle.std.proofs.Common.{◌≡◌, ℕ, suc, ◌+◌, ◌<◌, ◌≤◌, ◌++◌, ◌⊎◌, Bool, true, false, cond, leb, List, [], ◌∷◌, map, length, get_or, inl, inr, refl, ap, sym, ◌∙◌, subst, arith, All, is_some}
 use Rattle.std.proofs.lemmas.Bool.{cond-true, cond-false, leb-true}
-use Rattle.std.proofs.lemmas.List.{get_or-map, length-map, ext_get_or, get_or_default}
+use Rattle.std.proofs.lemmas.List.{append-nil, get_or-map, length-map, ext_get_or, get_or_default}
 use Rattle.gate_values.specs.declared.logic.Logic.{Logic}
 use Rattle.gate_values.specs.declared.logic.Logic.TheVariants.{X}
 use Rattle.gate_values.specs.declared.logic.Change.{Change}
@@ -19,7 +19,7 @@ use Rattle.warp_block.specs.Advance.{IsQuiet}
 use Rattle.warp_block.specs.Step.{log_at, source_at, net_at, emitted, emitted_value, told, IsEmitted, IsPartlyEmitted, AreCut}
 use Rattle.warp_block.proofs.Slots.{slot_at}
 use Rattle.warp_block.proofs.LogOrder.{IsLog-run}
-use Rattle.warp_block.proofs.Running.{IsDriven, run_log, run_log-step, run_log-cut, added, append-none, delayed, driven_or_not}
+use Rattle.warp_block.proofs.Running.{IsDriven, run_log, run_log-step, run_log-cut, added, delayed, driven_or_not}
 use Rattle.warp_block.proofs.Views.{IsUsed, timed, over_used}
 use Rattle.warp_block.proofs.Quiet.{quiet_log_to}
 use Rattle.warp_block.proofs.Stepping.{output_next, emitted_change, run_log-changes}
@@ -90,7 +90,7 @@ module _ (v : View) (is : IsLawful v) (state : Saved) (saved : IsSaved v state) 
         ∙ sym (run_log-step source (timed v.part is.part) (effective_at v) s v.horizon (at_net i) driven)))
     | inr o ↦ (let out : is_driven (source (at_net i)) ≡ false = ap is_driven (source_here v is i h ∙ o) in
         ap (λ (e : List Change). log_at v.logs i ++ e) (cond-false (is_driven (source_at v.part i)) (emitted_value (output (source_at v.part i) m (net_at v.part i)) (log_at v.logs i) (s + delay_of (source_at v.part i)) v.horizon) [] (ap is_driven o))
-        ∙ (append-none (log_at v.logs i)
+        ∙ (append-nil (log_at v.logs i)
         ∙ (kept_log i h ∙ (rw out refl))))
   ]
 

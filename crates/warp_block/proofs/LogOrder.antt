@@ -2,7 +2,7 @@
 use Rattle.std.proofs.Common.{◌≡◌, ℕ, zero, suc, ◌+◌, ◌-◌, ◌<◌, Bool, true, false, cond, min, List, [], ◌∷◌, ◌++◌, length, get_or, Option, inl, inr, refl, sym, subst, arith, length-append}
 use Rattle.std.specs.List.{AllPairs}
 use Rattle.std.proofs.lemmas.Bool.{cases_lt}
-use Rattle.std.proofs.lemmas.List.{get_or_append_left, get_or-append_right}
+use Rattle.std.proofs.lemmas.List.{append-nil, get_or_append_left, get_or-append_right}
 use Rattle.std.proofs.lemmas.List.Quantifiers.{all_pairs_push}
 use Rattle.gate_values.specs.declared.logic.Logic.{Logic}
 use Rattle.gate_values.specs.declared.logic.Change.{Change}
@@ -11,7 +11,7 @@ use Rattle.gate_values.specs.Changes.{changes, before_time, just_before, same}
 use Rattle.gate_values.proofs.ChangeLists.{before_time-changes}
 use Rattle.warp_block.specs.Portion.{is_driven}
 use Rattle.warp_block.specs.Logs.{IsLog}
-use Rattle.warp_block.proofs.Running.{run_log, given, append-none}
+use Rattle.warp_block.proofs.Running.{run_log, given}
 
 -- all changes are before a time
 abbrev AreBefore : ℕ → List Change → Type 0
@@ -35,7 +35,7 @@ rises f (suc b) = go (same (f b) (just_before f b)) (rises f b)
   where
     go : (t : Bool) → AllPairs (λ (x y : Change). x.time < y.time) (changes f b) × AreBefore b (changes f b) →
         AllPairs (λ (x y : Change). x.time < y.time) (changes f b ++ cond t [] (record { time = b; value = f b } ∷ [])) × AreBefore (suc b) (changes f b ++ cond t [] (record { time = b; value = f b } ∷ []))
-    go true h = rw (append-none (changes f b)) (h.0, λ k d l. (let q = h.1 k d l in omega (arith, q)))
+    go true h = rw (append-nil (changes f b)) (h.0, λ k d l. (let q = h.1 k d l in omega (arith, q)))
     go false h = (
       all_pairs_push (λ (x y : Change). x.time < y.time) (changes f b) (record { time = b; value = f b }) h.0 (λ k d l. h.1 k d l),
       before_push (suc b) (changes f b) (record { time = b; value = f b }) (λ k d l. (let q = h.1 k d l in omega (arith, q))) (omega arith),

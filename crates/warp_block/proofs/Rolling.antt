@@ -1,9 +1,8 @@
 -- Taking in an entry keeps what every block keeps.
-use Rattle.std.proofs.Common.{◌≡◌, ◌≢◌, ℕ, suc, ◌+◌, ◌<◌, ◌≤◌, ◌++◌, ◌⊎◌, ◌&&◌, ◌==◌, Bool, true, false, cond, not, min, Option, Some, None, List, [], ◌∷◌, map, length, get_or, set, inl, inr, refl, ap, sym, ◌∙◌, subst, arith, All, is_some}
-use Rattle.std.specs.List.{AllByRecursion}
-use Rattle.std.proofs.lemmas.Bool.{cond-false, le-leb, lt-leb, le-ltb, lt-ltb, cases_lt, ne_eqb, eq-eqb, cases_eq, and_left, and_right, and_from, true≢false, and_parts}
+use Rattle.std.proofs.Common.{◌≡◌, ◌≢◌, ℕ, suc, ◌+◌, ◌<◌, ◌≤◌, ◌++◌, ◌⊎◌, ◌&&◌, ◌==◌, Bool, true, false, cond, not, min, nat_le, Option, Some, None, List, [], ◌∷◌, map, length, get_or, set, inl, inr, refl, ap, sym, ◌∙◌, subst, arith, All, is_some}
+use Rattle.std.proofs.lemmas.Bool.{cond-false, leb-true, le-leb, lt-leb, le-ltb, lt-ltb, cases_lt, ne_eqb, eq-eqb, cases_eq, and_left, and_right, and_from, true≢false, and_parts}
 use Rattle.std.proofs.lemmas.List.{get_or-map, length-map, length-set, ext_get_or, get_or-set_same, get_or-set_other}
-use Rattle.std.proofs.lemmas.List.Elements.{All-from_recursion, recursion_from_All}
+use Rattle.std.proofs.lemmas.List.Elements.{All-filter, filter_passes}
 use Rattle.gate_values.specs.declared.logic.Logic.{Logic}
 use Rattle.gate_values.specs.declared.logic.Change.{Change}
 use Rattle.gate_values.specs.Behaviour.{Source, value, delay_of}
@@ -45,25 +44,6 @@ split_log end (c ∷ cs) is = elim (cases_lt c.time end) [
   | inr since ↦ (let none = not_since end cs (λ k d l. (let later = is.in_order 0 (suc k) d (omega arith) (omega arith) in omega (arith, later))) in
       rw (le-ltb c.time end since, le-leb end c.time since, none) (ap (λ (xs : List Change). c ∷ xs) (split_log end cs (tail_log c cs is) ∙ ap (λ (xs : List Change). xs ++ since_time end cs) none)))
 ]
-
--- what is taken back is not before the time
-since_late : (end : ℕ) (cs : List Change) → AllByRecursion (λ (c : Change). end ≤ c.time) (since_time end cs)
-since_late end [] = tt
-since_late end (c ∷ cs) = elim (cases_lt c.time end) [
-  | inl before ↦ rw (lt-leb end c.time before) (since_late end cs)
-  | inr since ↦ rw (le-leb end c.time since) (since, since_late end cs)
-]
-
-since_kept : (P : Change → Type 0) (end : ℕ) (cs : List Change) → AllByRecursion P cs → AllByRecursion P (since_time end cs)
-since_kept P end [] h = tt
-since_kept P end (c ∷ cs) h = elim (cases_lt c.time end) [
-  | inl before ↦ rw (lt-leb end c.time before) (since_kept P end cs h.1)
-  | inr since ↦ rw (le-leb end c.time since) (h.0, since_kept P end cs h.1)
-]
-
-both : (P Q R : Change → Type 0) → ((c : Change) → P c → Q c → R c) → (cs : List Change) → AllByRecursion P cs → AllByRecursion Q cs → AllByRecursion R cs
-both P Q R f [] p q = tt
-both P Q R f (c ∷ cs) p q = (f c p.0 q.0, both P Q R f cs p.1 q.1)
 
 -- a log has no change past the horizon
 run_log-within : (source : ℕ → Source) (at : ℕ → ℕ → Option Logic) (mark horizon n : ℕ) → All (λ (c : Change). c.time ≤ horizon) (run_log source at mark horizon n)
@@ -209,10 +189,9 @@ module _ (v : View) (is : IsLawful v) (slot : ℕ) (in_nets : slot < length v.pa
             let pos = delayed (source_of v.part (get_or v.part.nets i 0)) (timed v.part is.part (get_or v.part.nets i 0)) driven in
             let same_delay : delay_of (source_at v.part i) ≡ delay_of (source_of v.part (get_or v.part.nets i 0)) = ap delay_of (sym here) in
             let log_within : All (λ (c : Change). c.time ≤ v.horizon) (log_at v.logs i) = subst (λ (cs : List Change). All (λ (c : Change). c.time ≤ v.horizon) cs) (sym (log_is v is i h)) (run_log-within (source_of v.part) (effective_at v) v.mark v.horizon (get_or v.part.nets i 0)) in
-            All-from_recursion (λ (c : Change). (mark < c.time) × (c.time ≤ v.horizon)) (since_time (mark + delay_of (source_at v.part i)) (log_at v.logs i))
-            (both (λ c. mark + delay_of (source_at v.part i) ≤ c.time) (λ c. c.time ≤ v.horizon) (λ c. (mark < c.time) × (c.time ≤ v.horizon)) (λ c a b. (omega (arith, a, pos, same_delay), b)) (since_time (mark + delay_of (source_at v.part i)) (log_at v.logs i))
-            (since_late (mark + delay_of (source_at v.part i)) (log_at v.logs i))
-            (since_kept (λ c. c.time ≤ v.horizon) (mark + delay_of (source_at v.part i)) (log_at v.logs i) (recursion_from_All (λ (c : Change). c.time ≤ v.horizon) (log_at v.logs i) log_within))))
+            let late = filter_passes (λ (c : Change). nat_le (mark + delay_of (source_at v.part i)) c.time) (log_at v.logs i) in
+            let within = All-filter (λ (c : Change). nat_le (mark + delay_of (source_at v.part i)) c.time) (λ (c : Change). c.time ≤ v.horizon) (log_at v.logs i) log_within in
+            λ k d l. (let from = leb-true (mark + delay_of (source_at v.part i)) _ (late k d l) in (omega (arith, from, pos, same_delay), within k d l)))
         | inr o ↦ (let out : is_driven (source_of v.part (get_or v.part.nets i 0)) ≡ false = ap is_driven (source_here v is i h ∙ o) in
             let empty : log_at v.logs i ≡ [] = log_is v is i h ∙ cond-false (is_driven (source_of v.part (get_or v.part.nets i 0))) _ [] out in
             subst (λ (cs : List Change). All (λ (c : Change). (mark < c.time) × (c.time ≤ v.horizon)) (since_time (mark + delay_of (source_at v.part i)) cs)) (sym empty) (λ k d l. absurd (omega arith)))

@@ -3,6 +3,7 @@ use Rattle.std.proofs.Common.{◌≡◌, ℕ, zero, suc, Bool, true, false, cond
 use Rattle.std.specs.List.{AllByRecursion}
 use Rattle.std.proofs.lemmas.Bool.{cond-true}
 use Rattle.std.proofs.lemmas.Grind.{common_steps}
+use Rattle.std.proofs.lemmas.List.{append-nil}
 use Rattle.gate_values.specs.declared.logic.Logic.{Logic}
 use Rattle.gate_values.specs.declared.logic.Logic.TheVariants.{X}
 use Rattle.gate_values.specs.declared.logic.Change.{Change}
@@ -53,9 +54,6 @@ delayed (Flop delay dn c) t d = t
 pub le_cases : (a b : ℕ) → (a ≤ b) ⊎ (b < a)
 le_cases a b = grind arith
 
-pub append-none : (xs : List Change) → xs ++ [] ≡ xs
-append-none xs = grind (arith, common_steps)
-
 change_none : (f : ℕ → Logic) (t : ℕ) → change_option f t ≡ None → f t ≡ just_before f t
 change_none f t e = go (same (f t) (just_before f t)) refl e
   where
@@ -70,7 +68,7 @@ longer f s d horizon = elim (le_cases (s + d) horizon) [
   | inl l ↦ (let e : min (suc s + d) (suc horizon) ≡ suc (s + d) = omega arith in let e2 : min (s + d) (suc horizon) ≡ s + d = omega arith in
       let b : leb (s + d) horizon ≡ true = grind (arith, common_steps) in rw (e, e2, b) refl)
   | inr g ↦ (let e : min (suc s + d) (suc horizon) ≡ suc horizon = omega arith in let e2 : min (s + d) (suc horizon) ≡ suc horizon = omega arith in
-      let b : leb (s + d) horizon ≡ false = grind (arith, common_steps) in rw (e, e2, b) (sym (append-none (changes f (suc horizon)))))
+      let b : leb (s + d) horizon ≡ false = grind (arith, common_steps) in rw (e, e2, b) (sym (append-nil (changes f (suc horizon)))))
 ]
 
 -- the change of a function one delay after a time, if it isn't past the horizon
@@ -206,6 +204,6 @@ module _ (source : ℕ → Source) (timed : (n : ℕ) → IsTimed (source n)) wh
         ∙ (ap (λ (xs : List Change). run_log source at s horizon n ++ xs)
         (quiet_change (value source (given at) n) s (delay_of (source n)) horizon (delayed (source n) (timed n) d)
         (λ t e. quiet_value source (given at) N s keeps n t (over n d) e))
-        ∙ append-none (run_log source at s horizon n))
+        ∙ append-nil (run_log source at s horizon n))
     | inr e ↦ rw e refl
   ]
