@@ -1,7 +1,7 @@
 -- What lies before a time, and from it on, in a log.
-use Rattle.std.proofs.Common.{◌≡◌, ℕ, zero, suc, ◌-◌, ◌<◌, ◌≤◌, Bool, true, false, cond, List, [], ◌∷◌, length, get_or, take, drop, Some, None, IsSome, refl, sym, subst, arith, nat_lt, nat_le, nat_eq, inl, inr}
+use Rattle.std.proofs.Common.{◌≡◌, ℕ, zero, suc, ◌-◌, ◌<◌, ◌≤◌, Bool, true, false, cond, List, [], ◌∷◌, length, get_or, take, drop, Some, None, IsSome, refl, sym, subst, arith, nat_lt, nat_le, nat_eq}
 use Rattle.std.specs.List.Sorted.{IsPartitionPoint}
-use Rattle.std.proofs.lemmas.Bool.{false≢true, cases_lt, lt-ltb, le-ltb, le-leb, lt-leb, eq-eqb, eqb-true}
+use Rattle.std.proofs.lemmas.Bool.{false≢true, lt-ltb, le-ltb, le-leb, lt-leb, eq-eqb, eqb-true}
 use Rattle.gate_values.specs.declared.logic.Logic.{Logic}
 use Rattle.gate_values.specs.declared.logic.Logic.TheVariants.{X}
 use Rattle.gate_values.specs.declared.logic.Change.{Change}
@@ -9,7 +9,7 @@ use Rattle.gate_values.specs.Changes.{before_time, latest, last_value, pair_at}
 use Rattle.warp_block.specs.View.{IsLeast}
 use Rattle.warp_block.specs.Logs.{IsLog}
 use Rattle.warp_block.specs.Step.{since_time}
-use Rattle.warp_block.proofs.Rising.{rising-not_falling, filter-front, filter-rest}
+use Rattle.warp_block.proofs.Rising.{not_below, least_rising, filter-front, filter-rest}
 
 abbrev pub time_of : Change → ℕ
 time_of c = c.time
@@ -60,28 +60,16 @@ pub pair_at-found : (cs : List Change) (t : ℕ) → IsSome (pair_at cs t) → (
 pair_at-found [] t h = absurd (false≢true h)
 pair_at-found (c ∷ cs) t h = found_step c cs t (pair_at-found cs t) h
 
--- a place whose time isn't before a time, isn't below the first such
-not_below : (cs : List Change) (t i j : ℕ) (d : Change) → IsPartitionPoint (λ e. e.time < t) (λ e. t ≤ e.time) cs i → t ≤ (get_or cs j d).time → i ≤ j
-not_below cs t i j d (low, high) h = elim (cases_lt j i) [
-  | inl lt ↦ (let b : (get_or cs j d).time < t = low j d (omega arith) lt in absurd (omega arith))
-  | inr ge ↦ ge
-]
-
 -- the first change from a time on is the one after those before it
 pub next_change-some : (cs : List Change) (t i : ℕ) (c : Change) → IsLog cs → IsPartitionPoint (λ e. e.time < t) (λ e. t ≤ e.time) cs i → i < length cs → c ≡ get_or cs i c
     → IsLeast (λ u. (t ≤ u) × IsSome (pair_at cs u)) (Some c.time)
-next_change-some cs t i c log split l e = (
-  (subst (λ (x : Change). t ≤ x.time) (sym e) (split.1 i c (omega arith) l), subst (λ (x : Change). IsSome (pair_at cs x.time)) (sym e) (pair_at-place cs i c l)),
-  λ u h. (let r = pair_at-found cs u h.1 in
-      let at : (get_or cs r.0 c).time ≡ u = r.2 c in
-      let le : i ≤ r.0 = not_below cs t i r.0 c split (subst (λ (k : ℕ). t ≤ k) (sym at) h.0) in
-      let order : (get_or cs i c).time ≤ (get_or cs r.0 c).time = rising-not_falling time_of cs log.in_order i r.0 c le r.1 in
-      subst (λ (x : Change). x.time ≤ u) (sym e) (omega arith)),
-)
+next_change-some cs t i c log split l e =
+    least_rising time_of (λ u. IsSome (pair_at cs u)) cs t i i c log.in_order split (pair_at-found cs) (omega arith) l e
+    (subst (λ (x : Change). IsSome (pair_at cs x.time)) (sym e) (pair_at-place cs i c l)) (λ k d a b. absurd (omega arith))
 
 pub next_change-none : (cs : List Change) (t i : ℕ) → IsPartitionPoint (λ e. e.time < t) (λ e. t ≤ e.time) cs i → length cs ≤ i → IsLeast (λ u. (t ≤ u) × IsSome (pair_at cs u)) None
 next_change-none cs t i split l u h =
     let r = pair_at-found cs u h.1 in
     let d : Change = record { time = 0; value = X } in
-    let le : i ≤ r.0 = not_below cs t i r.0 d split (subst (λ (k : ℕ). t ≤ k) (sym (r.2 d)) h.0) in
+    let le : i ≤ r.0 = not_below time_of cs t i r.0 d split (subst (λ (k : ℕ). t ≤ k) (sym (r.2 d)) h.0) in
     absurd (omega (arith, r.1))

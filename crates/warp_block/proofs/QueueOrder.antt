@@ -10,7 +10,7 @@ use Rattle.gate_values.specs.Changes.{held}
 use Rattle.warp_block.specs.declared.entry.Entry.{Entry}
 use Rattle.warp_block.specs.Entries.{Received, entry_in, effective_in, effective_of, no_messages, IsQueue}
 use Rattle.warp_block.specs.View.{IsLeast}
-use Rattle.warp_block.proofs.Rising.{Rises, rising-not_falling}
+use Rattle.warp_block.proofs.Rising.{Rises, rising-not_falling, not_below, least_rising}
 
 abbrev pub time_of : Received → ℕ
 time_of e = e.time
@@ -59,12 +59,6 @@ lacks-split es t i r split other k d l = elim (cases_lt k i) [
       omega arith)
 ]
 
-pub not_below : (es : List Received) (t i j : ℕ) (d : Received) → IsPartitionPoint (λ e. e.time < t) (λ e. t ≤ e.time) es i → t ≤ (get_or es j d).time → i ≤ j
-not_below es t i j d split h = elim (cases_lt j i) [
-  | inl lt ↦ (let b : (get_or es j d).time < t = split.0 j d (omega arith) lt in absurd (omega arith))
-  | inr ge ↦ ge
-]
-
 abbrev pub nothing : Received
 nothing = record { time = 0; entry = no_messages }
 
@@ -73,30 +67,23 @@ pub none_from : (P : Entry → Type 0) (es : List Received) (t i : ℕ) → IsPa
     → ((k : ℕ) (d : Received) → i ≤ k → k < length es → P (get_or es k d).entry → ⊥) → (u : ℕ) → t ≤ u → P (entry_in es u) → ⊥
 none_from P es t i split empty none u le h = elim (entry_in-place es u) [
   | inl e ↦ empty (subst P e h)
-  | inr (k, l, at, entry) ↦ none k nothing (not_below es t i k nothing split (subst (λ (s : ℕ). t ≤ s) (sym (at nothing)) le)) l (subst P (sym (entry nothing)) h)
+  | inr (k, l, at, entry) ↦ none k nothing (not_below time_of es t i k nothing split (subst (λ (s : ℕ). t ≤ s) (sym (at nothing)) le)) l (subst P (sym (entry nothing)) h)
 ]
 
 -- the least time from a time on at which something of a kind stands
 pub least_from : (P : Entry → Type 0) (es : List Received) (t i j : ℕ) (e : Received) → Rises time_of es → IsPartitionPoint (λ e. e.time < t) (λ e. t ≤ e.time) es i → (P no_messages → ⊥)
     → i ≤ j → j < length es → e ≡ get_or es j e → P e.entry → ((k : ℕ) (d : Received) → i ≤ k → k < j → P (get_or es k d).entry → ⊥)
     → IsLeast (λ u. (t ≤ u) × P (entry_in es u)) (Some e.time)
-least_from P es t i j e r split empty from l is here none = (
-  (
-    subst (λ (x : Received). t ≤ x.time) (sym is) (split.1 j e from l),
-    subst P (ap (λ (x : Received). x.entry) is ∙ entry_in-at es j e.time e r l (ap (λ (x : Received). x.time) (sym is))) here,
-  ),
-  λ u h. elim (entry_in-place es u) [
-    | inl none_there ↦ absurd (empty (subst P none_there h.1))
-    | inr (k, lk, at, entry) ↦
-        (let first : i ≤ k = not_below es t i k e split (subst (λ (s : ℕ). t ≤ s) (sym (at e)) h.0) in
-        let time_k : (get_or es k e).time ≡ u = at e in
-        let time_j : (get_or es j e).time ≡ e.time = ap (λ (x : Received). x.time) (sym is) in
-        elim (cases_lt k j) [
-          | inl lt ↦ absurd (none k e first lt (subst P (sym (entry e)) h.1))
-          | inr ge ↦ (let order : (get_or es j e).time ≤ (get_or es k e).time = rising-not_falling time_of es r j k e ge lk in omega arith)
-        ])
-  ],
-)
+least_from P es t i j e r split empty from l is here none =
+    least_rising time_of (λ u. P (entry_in es u)) es t i j e r split placed from l is
+    (subst P (ap (λ (x : Received). x.entry) is ∙ entry_in-at es j e.time e r l (ap (λ (x : Received). x.time) (sym is))) here)
+    (λ k d a b h. none k d a b (subst P (sym (entry_in-at es k (get_or es k d).time d r (omega arith) refl)) h))
+  where
+    placed : (u : ℕ) → P (entry_in es u) → (k : ℕ) × (k < length es) × ((d : Received) → (get_or es k d).time ≡ u)
+    placed u h = elim (entry_in-place es u) [
+      | inl none_there ↦ absurd (empty (subst P none_there h))
+      | inr place ↦ (place.0, place.1, place.2)
+    ]
 
 -- ---- what is held
 held-here : (at : ℕ → Option Logic) (v : Logic) (s t : ℕ) → s ≤ t → at s ≡ Some v → ((u : ℕ) → s < u → u ≤ t → at u ≡ None) → held at t ≡ v

@@ -1,10 +1,11 @@
 -- Lists whose items have rising times.
-use Rattle.std.proofs.Common.{◌≡◌, ℕ, zero, suc, ◌<◌, ◌≤◌, Bool, true, false, List, [], ◌∷◌, filter, length, get_or, take, drop, refl, ap, ltb, leb, arith, inl, inr}
+use Rattle.std.proofs.Common.{◌≡◌, ℕ, zero, suc, ◌<◌, ◌≤◌, Bool, true, false, List, [], ◌∷◌, filter, length, get_or, take, drop, Some, refl, ap, sym, subst, ltb, leb, arith, inl, inr}
 use Rattle.std.specs.List.{All, AllPairs, insert}
 use Rattle.std.specs.List.Sorted.{IsNonDecreasingBy, IsPartitionPoint}
-use Rattle.std.proofs.lemmas.Bool.{cases_eq, ltb-true, ltb-false, leb-true, leb-false}
+use Rattle.std.proofs.lemmas.Bool.{cases_eq, cases_lt, ltb-true, ltb-false, leb-true, leb-false}
 use Rattle.std.proofs.lemmas.List.Elements.{All-cons, All-append, All-take, All-drop}
 use Rattle.std.proofs.lemmas.List.Kept.{AllPairs-cons}
+use Rattle.warp_block.specs.View.{IsLeast}
 
 module _ {X : Type 0} (time : X → ℕ) where
   -- the times rise
@@ -38,6 +39,30 @@ module _ {X : Type 0} (time : X → ℕ) where
       AllPairs-cons (λ a b. time a < time b) x (insert xs i y)
       (All-append (λ z. time x < time z) (take i xs) (y ∷ drop i xs) (All-take (λ z. time x < time z) i xs later) (All-cons (λ z. time x < time z) y (drop i xs) (before 0 x (omega arith)) (All-drop (λ z. time x < time z) i xs later)))
       (rising-insert xs i y (rising-tail x xs r) (omega arith) (λ k d h. before (suc k) d (omega arith)) (λ k d h l. after (suc k) d (omega arith) (omega arith)))
+
+  -- a place whose time isn't before a time isn't below the first such
+  pub not_below : (xs : List X) (t i j : ℕ) (d : X) → IsPartitionPoint (λ x. time x < t) (λ x. t ≤ time x) xs i → t ≤ time (get_or xs j d) → i ≤ j
+  not_below xs t i j d split h = elim (cases_lt j i) [
+    | inl lt ↦ (let b : time (get_or xs j d) < t = split.0 j d (omega arith) lt in absurd (omega arith))
+    | inr ge ↦ ge
+  ]
+
+  -- where something stands at times of places alone, the least such time from a time on is that of the first place where it does
+  pub least_rising : (P : ℕ → Type 0) (xs : List X) (t i j : ℕ) (x : X) → Rises xs → IsPartitionPoint (λ x. time x < t) (λ x. t ≤ time x) xs i
+      → ((u : ℕ) → P u → (k : ℕ) × (k < length xs) × ((d : X) → time (get_or xs k d) ≡ u))
+      → i ≤ j → j < length xs → x ≡ get_or xs j x → P (time x) → ((k : ℕ) (d : X) → i ≤ k → k < j → P (time (get_or xs k d)) → ⊥)
+      → IsLeast (λ u. (t ≤ u) × P u) (Some (time x))
+  least_rising P xs t i j x r split placed from l is here none = (
+    (subst (λ (y : X). t ≤ time y) (sym is) (split.1 j x from l), here),
+    λ u h. (let place = placed u h.1 in
+        let at : time (get_or xs place.0 x) ≡ u = place.2 x in
+        let first : i ≤ place.0 = not_below xs t i place.0 x split (subst (λ (k : ℕ). t ≤ k) (sym at) h.0) in
+        let same : time (get_or xs j x) ≡ time x = ap time (sym is) in
+        elim (cases_lt place.0 j) [
+          | inl lt ↦ absurd (none place.0 x first lt (subst P (sym at) h.1))
+          | inr ge ↦ (let order : time (get_or xs j x) ≤ time (get_or xs place.0 x) = rising-not_falling xs r j place.0 x ge place.1 in omega arith)
+        ]),
+  )
 
 -- what passes a test, where that is the front of a list
 pub filter-front : {X : Type 0} (p : X → Bool) (xs : List X) (i : ℕ) → IsPartitionPoint (λ x. p x ≡ true) (λ x. p x ≡ false) xs i → filter p xs ≡ take i xs

@@ -6,8 +6,8 @@ use Rattle.std.proofs.lemmas.List.{get_or-drop, length-drop, get_or_default}
 use Rattle.warp_block.specs.declared.entry.Entry.{Entry}
 use Rattle.warp_block.specs.Entries.{Received, is_settled, entry_in, IsQueue}
 use Rattle.warp_block.specs.View.{IsLeast}
-use Rattle.warp_block.proofs.Rising.{rising-not_falling}
-use Rattle.warp_block.proofs.QueueOrder.{time_of, entry_in-place, not_below, least_from, none_from}
+use Rattle.warp_block.proofs.Rising.{rising-not_falling, not_below}
+use Rattle.warp_block.proofs.QueueOrder.{time_of, entry_in-place, least_from, none_from}
 use Rattle.warp_block.proofs.Settled.{settled-none}
 
 abbrev pub IsUnsettled : Entry → Type 0
@@ -58,7 +58,7 @@ module _ (es rest : List Received) (from end i : ℕ) (queue : IsQueue es) (spli
   unsettled-late k e l at past before u h = elim (entry_in-place es u) [
     | inl none ↦ h.2 (subst (λ (x : Entry). is_settled x ≡ true) (sym none) settled-none)
     | inr (j, lj, at_j, entry) ↦
-        (let first : i ≤ j = not_below es from i j e split (subst (λ (s : ℕ). from ≤ s) (sym (at_j e)) h.0) in
+        (let first : i ≤ j = not_below time_of es from i j e split (subst (λ (s : ℕ). from ≤ s) (sym (at_j e)) h.0) in
         elim (cases_lt j (i + k)) [
           | inl lt ↦ settled_there k before j e first lt (subst IsUnsettled (sym (entry e)) h.2)
           | inr ge ↦ (let order : (get_or es (i + k) e).time ≤ (get_or es j e).time = rising-not_falling time_of es queue.in_order (i + k) j e ge lj in
