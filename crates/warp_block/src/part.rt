@@ -229,12 +229,15 @@ impl Part {
     {
         match self.cells[slot] {
             Cell::Input | Cell::Foreign | Cell::Gate { .. } => Logic::X,
-            Cell::Flop { d, clock, .. } => flip(
-                last.contents[slot],
-                last.values[clock as usize],
-                values[clock as usize],
-                last.values[d as usize],
-            ),
+            Cell::Flop { d, clock, .. } => {
+                let before = last.values.as_slice();
+                flip(
+                    last.contents[slot],
+                    before[clock as usize],
+                    values[clock as usize],
+                    before[d as usize],
+                )
+            }
         }
     }
 
