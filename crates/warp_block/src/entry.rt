@@ -62,7 +62,7 @@ impl Entry {
     }
 
     /// Whether nothing stands and nothing waits, or one message of one value stands.
-    pub(crate) fn is_settled(&self) -> bool
+    pub fn is_settled(&self) -> bool
         ensures { IsTrue result ↔ IsTrue (is_settled self.now) }
     {
         match self.effective() {
