@@ -10,6 +10,7 @@ use Rattle.gate_vcd.specs.Given.{AreItsChanges}
 use Rattle.gate_vcd.specs.Changes.{last_stamp}
 use Rattle.gate_vcd.specs.Waves.{IsWave, IsUntil}
 use Rattle.gate_vcd.proofs.WaveValues.{changes-IsWave}
+use Rattle.warp_block.specs.Limits.{most_horizon}
 use Rattle.warp_block.specs.Portion.{source_of, owns}
 use Rattle.warp_block.specs.View.{View, IsDone, log_of, effective_at, block_value}
 use Rattle.warp_block.specs.Lawful.{IsLawful}
@@ -52,13 +53,13 @@ module _ (v : View) (is : IsLawful v) where
   ])
 
 -- what a stimulus gives up to a horizon
-pub given_changes : (cs : List Change) (horizon : ℕ) → horizon ≤ 1000000000000 → AreItsChanges cs → before_time (horizon + 1) cs ≡ changes (latest X cs) (horizon + 1)
+pub given_changes : (cs : List Change) (horizon : ℕ) → horizon ≤ most_horizon → AreItsChanges cs → before_time (horizon + 1) cs ≡ changes (latest X cs) (horizon + 1)
 given_changes cs horizon short is =
     ap (before_time (horizon + 1)) is
     ∙ (before_time-changes (latest X cs) (horizon + 1) (last_stamp + 1)
     ∙ ap (changes (latest X cs)) (let e : min (horizon + 1) (last_stamp + 1) ≡ horizon + 1 = omega arith in e))
 
-pub given_wave : (cs : List Change) (horizon : ℕ) → horizon ≤ 1000000000000 → AreItsChanges cs → IsWaveUntil horizon (before_time (horizon + 1) cs)
+pub given_wave : (cs : List Change) (horizon : ℕ) → horizon ≤ most_horizon → AreItsChanges cs → IsWaveUntil horizon (before_time (horizon + 1) cs)
 given_wave cs horizon short is =
     let w = changes-IsWave (latest X cs) (horizon + 1) in
     subst (IsWaveUntil horizon) (sym (given_changes cs horizon short is)) w

@@ -11,6 +11,7 @@ use Rattle.gate_values.proofs.ChangeLists.{held-changes, pair_at-changes, change
 use Rattle.gate_netlist.specs.Circuit.{Design, CutFits, nets_of, source_of as circuit_source}
 use Rattle.gate_netlist.specs.Cut.{Ownership, IsOwnership, owner_of}
 use Rattle.gate_vcd.specs.Given.{Given, AreItsChanges, value_at, changes_of}
+use Rattle.warp_block.specs.Limits.{most_horizon}
 use Rattle.warp_block.specs.Portion.{Portion, owns, reads, slot_of, source_of}
 use Rattle.warp_block.specs.View.{View, Process, effective_at, given_by as received, block_value, log_of}
 use Rattle.warp_block.specs.Lawful.{IsLawful}
@@ -35,7 +36,7 @@ delayed N (Gate kind delay inputs) o = o.0
 delayed N (Flop delay d c) o = o.0
 
 module _ (d : Design) (cut : Ownership) (g : Given) (horizon : ℕ) (blocks : List Process)
-    (fits : CutFits d cut) (owners : IsOwnership cut) (given : (n : ℕ) → AreItsChanges (changes_of g n)) (short : horizon ≤ 1000000000000)
+    (fits : CutFits d cut) (owners : IsOwnership cut) (given : (n : ℕ) → AreItsChanges (changes_of g n)) (short : horizon ≤ most_horizon)
     (lawful : EachBlock cut blocks (λ _ v. IsLawful v)) (m : AreMatched d cut g horizon blocks) where
   abbrev view : ℕ → View
   view b = seen_at blocks b
@@ -80,7 +81,7 @@ module _ (d : Design) (cut : Ownership) (g : Given) (horizon : ℕ) (blocks : Li
   told_value b i f (l, r) e t h =
       outside_is (source_of (view b).part) (received (view b)) i t (read_outside (view b).part i r).1
       ∙ held-changes (effective_at (view b) i) f (horizon + 1)
-      (λ k j. m.told b l i r k (omega (arith, j, (m.parts b l).horizon_is)) ∙ (ap (λ (cs : List Change). pair_at cs k) e ∙ pair_at-changes f (horizon + 1) k j)) t (omega arith)
+      (λ k j. m.told b l i r k ∙ (ap (λ (cs : List Change). pair_at cs k) e ∙ pair_at-changes f (horizon + 1) k j)) t (omega arith)
 
   owner_log : (o i : ℕ) → Owns o i → log_of (view o) i ≡ changes (block_value (view o) i) (horizon + 1)
   owner_log o i (l, own) =

@@ -1,13 +1,11 @@
 -- Blocks that have finished and agree on what was sent.
-use Rattle.std.specs.Prelude.{◌≡◌, ℕ, ◌+◌, ◌<◌, ◌≤◌, ◌⊎◌, IsTrue, Option, Some, None, List, [], length, get_or}
-use Rattle.gate_values.specs.declared.logic.Logic.{Logic}
+use Rattle.std.specs.Prelude.{◌≡◌, ℕ, ◌+◌, ◌<◌, IsTrue, Option, Some, None, List, [], length, get_or}
 use Rattle.gate_values.specs.declared.logic.Change.{Change}
 use Rattle.gate_values.specs.Changes.{pair_at, before_time}
 use Rattle.gate_netlist.specs.Circuit.{Design}
 use Rattle.gate_netlist.specs.Cut.{Ownership, owner_of}
 use Rattle.gate_vcd.specs.Given.{Given, changes_of}
-use Rattle.warp_block.specs.declared.entry.Entry.{Entry}
-use Rattle.warp_block.specs.Entries.{no_messages, one_message}
+use Rattle.warp_block.specs.Entries.{is_settled}
 use Rattle.warp_block.specs.Portion.{reads}
 use Rattle.warp_block.specs.PartOf.{part_of}
 use Rattle.warp_block.specs.View.{View, Process, entry_of, effective_at, log_of, IsDone}
@@ -35,13 +33,9 @@ pub record IsBlockOf (d : Design) (cut : Ownership) (horizon b : ℕ) (v : View)
   pub part : v.part ≡ part_of d cut b
   pub horizon_is : v.horizon ≡ horizon
 
--- nothing stands and nothing waits, or one message stands and nothing else
-abbrev pub IsSettled : Entry → Type 0
-IsSettled e = (e ≡ no_messages) ⊎ ((x : Logic) × (e ≡ one_message x))
-
--- up to the horizon, which no entry is past, the entry of a net at a time is settled
+-- at a time nothing stands for a net and nothing waits, or one message of one value stands
 abbrev pub IsSettledBy : View → ℕ → ℕ → Type 0
-IsSettledBy v n t = t ≤ v.horizon → IsSettled (entry_of v n t)
+IsSettledBy v n t = IsTrue (is_settled (entry_of v n t))
 
 -- all entries of a net are settled
 abbrev pub IsSettledAt : View → ℕ → Type 0
@@ -61,7 +55,7 @@ told_of cut g horizon blocks n = told_by g horizon blocks n (owner_of cut n)
 
 -- the messages that stand for a net are exactly some changes
 abbrev pub IsTold : View → ℕ → List Change → Type 0
-IsTold v n cs = (t : ℕ) → t ≤ v.horizon → effective_at v n t ≡ pair_at cs t
+IsTold v n cs = (t : ℕ) → effective_at v n t ≡ pair_at cs t
 
 -- if a block reads a net of another one, or an input, it was told exactly what is told of the net
 abbrev pub IsToldAt : Ownership → Given → ℕ → List Process → View → ℕ → Type 0

@@ -8,9 +8,9 @@ use Rattle.warp_block.specs.Entries.{no_messages}
 use Rattle.warp_block.specs.View.{View, entry_of, effective_at, IsLeast}
 use Rattle.warp_core.specs.Matched.{IsTold}
 
--- from a time on, and up to the horizon, something stands or waits at this time
+-- from a time on something stands or waits at this time
 abbrev pub IsEntryFrom : View → ℕ → ℕ → ℕ → Type 0
-IsEntryFrom v n from t = (from ≤ t) × (t ≤ v.horizon) × (entry_of v n t ≢ no_messages)
+IsEntryFrom v n from t = (from ≤ t) × (entry_of v n t ≢ no_messages)
 
 -- the first entry from a time on is the message of a change
 abbrev pub IsNext : View → ℕ → ℕ → Change → Type 0
@@ -18,7 +18,7 @@ IsNext v n from c = IsLeast (IsEntryFrom v n from) (Some c.time) × (effective_a
 
 -- the messages that stand from a time on are exactly some changes
 abbrev pub IsToldFrom : View → ℕ → ℕ → List Change → Type 0
-IsToldFrom v n from cs = (t : ℕ) → from ≤ t → t ≤ v.horizon → effective_at v n t ≡ pair_at cs t
+IsToldFrom v n from cs = (t : ℕ) → from ≤ t → effective_at v n t ≡ pair_at cs t
 
 -- So many changes are looked at; from a time after them the rest has to be told.
 pub record IsWalked (v : View) (n : ℕ) (cs : List Change) (count from : ℕ) : Type 0 where

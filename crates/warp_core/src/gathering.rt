@@ -1,6 +1,7 @@
 ghost use Rattle.std.specs.Prelude.{◌≡◌, ◌<◌, ◌≤◌, ◌↔◌, ℕ, IsTrue, IfOk, MatchOption, length};
 ghost use Rattle.gate_netlist.specs.Circuit.{CutFits};
 ghost use Rattle.gate_vcd.specs.Given.{Fits};
+ghost use Rattle.warp_block.specs.Limits.{most_horizon};
 ghost use Rattle.warp_block.specs.View.{IsDone};
 ghost use Rattle.warp_block.specs.Lawful.{IsLawful};
 ghost use Rattle.warp_core.specs.Matched.{seen_at, IsBlockOf, EachBlock};
@@ -16,8 +17,8 @@ use gate_vcd::{Stimulus, Waves};
 use std::alloc::{AllocError, Global};
 use warp_block::{Block, Part};
 
-/// The waves of a circuit under a stimulus, up to a horizon of at most 10^12, from the blocks of a cut, in order. The
-/// cut and the stimulus fit the circuit. Times are in the stimulus's timescale.
+/// The waves of a circuit under a stimulus, from the blocks of a cut, in order. The cut and the stimulus fit the
+/// circuit; the horizon is at most [`MOST_HORIZON`](warp_block::MOST_HORIZON). Times are in the stimulus's timescale.
 ///
 /// Of matched blocks the answer is the waves, or that a growth was refused; of others it is the first fault that
 /// applies. The blocks are consumed either way.
@@ -31,7 +32,7 @@ pub fn gather(
 ) -> Result<Waves, GatherFault>
     requires cut { CutFits circuit.now cut.now }
     requires stimulus { Fits stimulus.now circuit.now }
-    requires horizon { horizon ≤ 1000000000000 }
+    requires horizon { horizon ≤ most_horizon }
     ensures { IsGathered circuit.now cut.now stimulus.now horizon blocks.items result }
 {
     join(alloc, circuit, cut, stimulus, horizon, blocks.as_slice())
@@ -47,7 +48,7 @@ fn join(
     blocks: &[Block],
 ) -> Result<Waves, GatherFault>
     requires cut { CutFits circuit.now cut.now }
-    requires horizon { horizon ≤ 1000000000000 }
+    requires horizon { horizon ≤ most_horizon }
     ensures { IsGathered circuit.now cut.now stimulus.now horizon blocks.now result }
 {
     if blocks.len() != cut.blocks() as usize {

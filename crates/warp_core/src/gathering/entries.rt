@@ -1,33 +1,11 @@
 //! Entries that are neither empty nor one single message.
 
 ghost use Rattle.std.specs.Prelude.{◌≡◌, ◌↔◌, IsTrue, MatchOption};
-ghost use Rattle.warp_block.specs.View.{IsLeast};
-ghost use Rattle.warp_core.specs.Matched.{seen_at, IsSettled, IsSettledBy, IsSettledAt, AreSettled, EachBlock};
-ghost use Rattle.warp_core.specs.Walk.{IsEntryFrom};
+ghost use Rattle.warp_core.specs.Matched.{seen_at, IsSettledBy, IsSettledAt, AreSettled, EachBlock};
 ghost use Rattle.warp_core.specs.Gather.{AreCounted, IsFirst, IsFirstBlock, IsFirstUnsettled};
 
 use gate_netlist::Cut;
-use warp_block::{Block, Entry, Sign};
-
-/// Whether nothing stands and nothing waits, or one message stands and nothing else.
-fn is_settled(entry: Entry) -> bool
-    ensures { IsTrue result ↔ IsSettled entry }
-{
-    match entry.effective() {
-        None => entry == Entry::EMPTY,
-        Some(value) => Some(entry) == Entry::EMPTY.bump(value, Sign::Plus),
-    }
-}
-
-/// The least time from a time on, and up to the horizon, at which the entry of a net isn't empty.
-pub(super) fn next_entry(block: &Block, net: u32, from: u64) -> Option<u64>
-    ensures { IsLeast (IsEntryFrom block.now.seen net from) result }
-{
-    match block.next_entry(net, from) {
-        Some(time) if time <= block.horizon() => Some(time),
-        _ => None,
-    }
-}
+use warp_block::Block;
 
 /// The first time at which the entry of a net isn't settled.
 fn unsettled_time(block: &Block, net: u32) -> Option<u64>
@@ -35,8 +13,8 @@ fn unsettled_time(block: &Block, net: u32) -> Option<u64>
 {
     block.law();
     let mut from = 0;
-    while let Some(time) = next_entry(block, net, from) {
-        if !is_settled(block.entry(net, time)) {
+    while let Some(time) = block.next_entry(net, from) {
+        if !block.entry(net, time).is_settled() {
             return Some(time);
         }
         from = time + 1;

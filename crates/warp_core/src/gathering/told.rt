@@ -5,12 +5,12 @@ ghost use Rattle.gate_values.specs.Changes.{before_time};
 ghost use Rattle.gate_vcd.specs.Given.{changes_of};
 ghost use Rattle.gate_vcd.specs.Lists.{IsRising};
 ghost use Rattle.gate_vcd.specs.Waves.{IsWave, IsUntil};
+ghost use Rattle.warp_block.specs.Limits.{most_horizon};
 ghost use Rattle.warp_block.specs.View.{log_of};
 ghost use Rattle.warp_core.specs.Matched.{seen_at, IsSettledAt, AreSettled, IsTold, IsToldAt, AreTold, EachBlock, told_of};
 ghost use Rattle.warp_core.specs.Walk.{IsNext};
 ghost use Rattle.warp_core.specs.Gather.{AreCounted, IsFirst, IsFirstBlock};
 
-use super::entries::next_entry;
 use gate_netlist::Cut;
 use gate_values::Change;
 use gate_vcd::Stimulus;
@@ -37,7 +37,7 @@ fn log_until(block: &Block, net: u32) -> &[Change]
 
 /// The changes of an input up to the horizon.
 fn given_until(stimulus: &Stimulus, horizon: u64, net: u32) -> &[Change]
-    requires { horizon ≤ 1000000000000 }
+    requires { horizon ≤ most_horizon }
     ensures changes { result.now ≡ before_time (horizon + 1) (changes_of stimulus.now net) }
     ensures wave { IsWave result.now }
     ensures until { IsUntil horizon result.now }
@@ -56,7 +56,7 @@ pub(super) fn told<'a>(
 ) -> &'a [Change]
     requires count { AreCounted cut.now blocks.now }
     requires horizons { EachBlock cut.now blocks.now (λ _ v. v.horizon ≡ horizon) }
-    requires horizon { horizon ≤ 1000000000000 }
+    requires horizon { horizon ≤ most_horizon }
     ensures changes { result.now ≡ told_of cut.now stimulus.now horizon blocks.now net }
     ensures wave { IsWave result.now }
     ensures until { IsUntil horizon result.now }
@@ -72,7 +72,7 @@ pub(super) fn told<'a>(
 fn is_next(block: &Block, net: u32, from: u64, change: Change) -> bool
     ensures { IsTrue result ↔ IsNext block.now.seen net from change }
 {
-    next_entry(block, net, from) == Some(change.time)
+    block.next_entry(net, from) == Some(change.time)
         && block.entry(net, change.time).effective() == Some(change.value)
 }
 
@@ -91,7 +91,7 @@ fn is_told(block: &Block, net: u32, changes: &[Change]) -> bool
         }
         from = change.time + 1;
     }
-    next_entry(block, net, from).is_none()
+    block.next_entry(net, from).is_none()
 }
 
 /// Whether a block, if it reads a net, was told of it what the net's owner, or the stimulus, says.
@@ -105,7 +105,7 @@ fn is_told_at(
 ) -> bool
     requires count { AreCounted cut.now blocks.now }
     requires horizons { EachBlock cut.now blocks.now (λ _ v. v.horizon ≡ horizon) }
-    requires horizon { horizon ≤ 1000000000000 }
+    requires horizon { horizon ≤ most_horizon }
     requires same { block.now.seen.horizon ≡ horizon }
     requires settled { IsSettledAt block.now.seen net }
     ensures { IsTrue result ↔ IsToldAt cut.now stimulus.now horizon blocks.now block.now.seen net }
@@ -126,7 +126,7 @@ fn untold_net(
 ) -> Option<u32>
     requires count { AreCounted cut.now blocks.now }
     requires horizons { EachBlock cut.now blocks.now (λ _ v. v.horizon ≡ horizon) }
-    requires horizon { horizon ≤ 1000000000000 }
+    requires horizon { horizon ≤ most_horizon }
     requires same { block.now.seen.horizon ≡ horizon }
     requires settled { AreSettled block.now.seen }
     ensures { MatchOption result
@@ -151,7 +151,7 @@ pub(super) fn untold(
 ) -> Option<(u32, u32)>
     requires count { AreCounted cut.now blocks.now }
     requires horizons { EachBlock cut.now blocks.now (λ _ v. v.horizon ≡ horizon) }
-    requires horizon { horizon ≤ 1000000000000 }
+    requires horizon { horizon ≤ most_horizon }
     requires settled { EachBlock cut.now blocks.now (λ _ v. AreSettled v) }
     ensures { MatchOption result
         (EachBlock cut.now blocks.now (λ _ v. AreTold cut.now stimulus.now horizon blocks.now v))

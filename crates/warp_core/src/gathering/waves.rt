@@ -3,6 +3,7 @@
 ghost use Rattle.std.specs.Prelude.{◌≡◌, ◌<◌, ◌≤◌, ℕ, [], IfOk, OnOk, length, slice_set};
 ghost use Rattle.gate_netlist.specs.Circuit.{nets_of};
 ghost use Rattle.gate_vcd.specs.Waves.{wave_of, IsWave};
+ghost use Rattle.warp_block.specs.Limits.{most_horizon};
 ghost use Rattle.warp_core.specs.Matched.{EachBlock, told_of};
 ghost use Rattle.warp_core.specs.Gather.{AreCounted};
 
@@ -37,7 +38,7 @@ pub(super) fn waves_of(
 ) -> Result<Waves, AllocError>
     requires count { AreCounted cut.now blocks.now }
     requires horizons { EachBlock cut.now blocks.now (λ _ v. v.horizon ≡ horizon) }
-    requires horizon { horizon ≤ 1000000000000 }
+    requires horizon { horizon ≤ most_horizon }
     ensures nets { IfOk result (λ waves. length waves ≡ nets_of circuit.now) }
     ensures waves { IfOk result (λ waves. (n : ℕ) → n < nets_of circuit.now → wave_of waves n ≡ told_of cut.now stimulus.now horizon blocks.now n) }
 {

@@ -1,8 +1,8 @@
-use Rattle.std.proofs.Common.{◌≡◌, ◌∙◌, length, subst, arith}
+use Rattle.std.proofs.Common.{◌∙◌, subst, arith}
 use Rattle.std.specs.Option.{MatchOption}
 use Rattle.warp_block.specs.Lawful.{IsLawful}
 use Rattle.warp_core.specs.Matched.{EachBlock, IsBlockOf, AreMatched}
-use Rattle.warp_core.specs.Gather.{IsFirstBlock}
+use Rattle.warp_core.specs.Gather.{AreCounted, IsFirstBlock}
 use Rattle.warp_core.proofs.Matching.{matched_changes}
 use Rattle.warp_core.proofs.gathering.join.Goals as goal
 
@@ -12,7 +12,7 @@ returns c =
     let cut = c.args.cut.now in
     let g = c.args.stimulus.now in
     let blocks = c.args.blocks.now in
-    let count : length blocks ≡ cut.blocks = omega arith in
+    let count : AreCounted cut blocks = omega arith in
     let parts : EachBlock cut blocks (IsBlockOf d cut c.args.horizon) =
     subst (λ o. MatchOption o (EachBlock cut blocks (IsBlockOf d cut c.args.horizon)) (IsFirstBlock cut blocks (IsBlockOf d cut c.args.horizon))) c.in-None.is c.in_ok-block.ensures in
     let matched : AreMatched d cut g c.args.horizon blocks =

@@ -1,4 +1,4 @@
-use Rattle.std.proofs.Common.{◌≡◌, ℕ, ◌∙◌, ap, length, get_or, subst, arith, List}
+use Rattle.std.proofs.Common.{below_more, ◌≡◌, ℕ, ◌∙◌, ap, length, get_or, subst, arith, List}
 use Rattle.std.specs.List.Sorted.{IsStrictlyIncreasing}
 use Rattle.warp_block.specs.Portion.{Portion}
 use Rattle.warp_core.specs.Matched.{IsSettledAt, IsSettledBy}
@@ -24,3 +24,10 @@ returns c =
     let nets : c.nets-net-items.result.now ≡ v.part.nets = c.nets-net-items.ensures ∙ ap (λ (p : Portion). p.nets) c.part-2.ensures in
     let within = ap length nets in
     swept_all (IsSettledAt v) v.part.nets (other_settled v) c.loop-net.net-index (omega arith) c.loop-net.invariant
+
+pub loop-net-preserved : goal.loop-net-preserved
+loop-net-preserved c =
+    let v = c.args.block.now.seen in
+    let nets : c.nets-net-items.result.now ≡ v.part.nets = c.nets-net-items.ensures ∙ ap (λ (p : Portion). p.nets) c.part-2.ensures in
+    let net : get_or c.nets-net-items.result.now c.loop-net.net-index 0 ≡ get_or v.part.nets c.loop-net.net-index 0 = ap (λ (ns : List ℕ). get_or ns c.loop-net.net-index 0) nets in
+    below_more (λ k. IsSettledAt v (get_or v.part.nets k 0)) c.loop-net.net-index c.loop-net.invariant (subst (IsSettledAt v) net c.in-None.ensures)
