@@ -22,3 +22,4 @@ pub mod Tokens
 pub mod HeldBench
 pub mod Settings
 pub mod Refusals
+pub mod Seeds

@@ -1,7 +1,11 @@
 use crate::nets::Nets;
+use crate::seed::TextSeed;
 use gate_values::Kind;
 use indexmap::IndexSet;
 use std::marker::Model;
+
+/// The names of nets, in the order of their defining lines.
+pub(crate) type Names = IndexSet<String, TextSeed>;
 
 /// What a net's line says that sets it. The clock of a flip-flop isn't written in a bench text.
 #[derive(Debug, Drop)]
@@ -14,7 +18,7 @@ pub enum Definition {
 /// A bench text, read: its nets in the order of their defining lines, and the nets marked as outputs.
 #[derive(Drop)]
 pub struct Bench {
-    pub(crate) names: IndexSet<String>,
+    pub(crate) names: Names,
     pub(crate) definitions: Vec<Definition>,
     pub(crate) outputs: Vec<u32>,
 }

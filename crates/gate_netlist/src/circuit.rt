@@ -6,20 +6,19 @@ ghost use Rattle.gate_netlist.specs.Meaning.{IsAnswer};
 
 mod build;
 
-use crate::bench::Bench;
+use crate::bench::{Bench, Names};
 use crate::counts::Counts;
 use crate::cut::Cut;
 use crate::driver::Driver;
 use crate::fault::SettingsFault;
 use crate::settings;
-use indexmap::IndexSet;
 use std::alloc::Global;
 use std::marker::Model;
 
 /// A circuit: its nets in the order of their defining lines, and what sets each of them.
 #[derive(Drop)]
 pub struct Circuit {
-    names: IndexSet<String>,
+    names: Names,
     drivers: Vec<Driver>,
     delays: Vec<u32>,
     outputs: Vec<u32>,

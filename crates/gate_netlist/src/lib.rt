@@ -19,6 +19,7 @@ mod laws;
 mod lines;
 mod nets;
 mod reading;
+mod seed;
 mod settings;
 #[cfg(test)]
 mod settings_tests;
@@ -35,6 +36,7 @@ pub use laws::refusal_laws;
 pub use lines::next_line;
 pub use nets::Nets;
 pub use reading::read_bench;
+pub use seed::TextSeed;
 
 #[cfg(test)]
 mod bench_tests;

@@ -7,16 +7,14 @@ ghost use Rattle.gate_netlist.specs.Meant.{meant};
 ghost use Rattle.gate_netlist.specs.Keys.{names_in};
 ghost use Rattle.gate_netlist.specs.Bench.{net_of, refusal, unless, stated, names_of, is_among, uses_other, linked, number_of, definition_of, output_of, each_once, bench_of};
 
-use crate::bench::{Bench, Definition};
+use crate::bench::{Bench, Definition, Names};
 use crate::fault::{BenchCause, BenchFault};
 use crate::lines::next_line;
 use crate::nets::Nets;
+use crate::seed::TextSeed;
 use crate::statement::{Statement, meaning_of};
 use indexmap::IndexSet;
 use std::alloc::{AllocError, Global};
-
-/// The names of nets, in the order of their defining lines.
-type Names = IndexSet<String>;
 
 /// The most nets that a bench text may define.
 const MOST_NETS: usize = 999_999;
@@ -98,7 +96,7 @@ fn names_of(alloc: Global, text: &[u8]) -> Result<Names, BenchFault>
     ensures within { IfOk result (λ names. length (names_in names) ≤ 999999) }
     ensures memory { IfErr result MemoryHasNoLine }
 {
-    let mut names = IndexSet::new(alloc);
+    let mut names = IndexSet::with_hasher(alloc, TextSeed::of(text));
     let mut number = 1;
     let mut rest = Some(text);
     while let Some(text) = rest {
@@ -227,10 +225,10 @@ fn push_output(
 }
 
 /// Each number once, where it first stands.
-fn each_once(alloc: Global, numbers: &[u32]) -> Result<Vec<u32>, AllocError>
+fn each_once(alloc: Global, seed: TextSeed, numbers: &[u32]) -> Result<Vec<u32>, AllocError>
     ensures { IfOk result (λ found. found.items ≡ each_once numbers.now) }
 {
-    let mut found: IndexSet<u32> = IndexSet::new(alloc);
+    let mut found: IndexSet<u32, TextSeed> = IndexSet::with_hasher(alloc, seed);
     for number in numbers {
         found.insert(*number)?;
     }
@@ -260,7 +258,7 @@ fn bench_of(alloc: Global, names: Names, text: &[u8]) -> Result<Bench, BenchFaul
         number += 1;
         rest = after;
     }
-    let outputs = each_once(alloc, &marked)?;
+    let outputs = each_once(alloc, *names.hasher(), &marked)?;
     Ok(Bench {
         names,
         definitions,

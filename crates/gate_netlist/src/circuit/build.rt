@@ -10,14 +10,13 @@ ghost use Rattle.gate_netlist.specs.HeldParts.{parts_netlist};
 ghost use Rattle.gate_netlist.specs.Meaning.{driver_by, cut_of, clocked_circuit, circuit_of};
 
 use super::Circuit;
-use crate::bench::{Bench, Definition};
+use crate::bench::{Bench, Definition, Names};
 use crate::cut::Cut;
 use crate::driver::Driver;
 use crate::settings::{
     Parts, block_table, clock_name, delays_of, greatest_block, has_flop, owners_of, parts_of,
     text_at, with_clock,
 };
-use indexmap::IndexSet;
 use std::alloc::{AllocError, Global};
 use toml::Table;
 
@@ -59,7 +58,7 @@ fn circuit_of_parts(alloc: Global, parts: Parts, table: &Table) -> Result<Circui
 }
 
 /// The net of a name.
-fn number_of(names: &IndexSet<String>, name: &str) -> Option<u32>
+fn number_of(names: &Names, name: &str) -> Option<u32>
     requires { length names.now.keys ≤ 1000000 }
     ensures { result ≡ position (λ other. bytes_eq name.now other) (map string_bytes names.now.keys) }
 {

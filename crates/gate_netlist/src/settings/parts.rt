@@ -6,14 +6,13 @@ ghost use Rattle.gate_netlist.specs.HeldParts.{parts_netlist};
 ghost use Rattle.gate_netlist.specs.Meaning.{with_input, with_clock};
 
 use super::causes::has_flop;
-use crate::bench::{Bench, Definition};
-use indexmap::IndexSet;
+use crate::bench::{Bench, Definition, Names};
 use std::alloc::{AllocError, Global};
 
 /// The parts of a bench, to which a clock may be added.
 #[derive(Drop)]
 pub(crate) struct Parts {
-    pub(crate) names: IndexSet<String>,
+    pub(crate) names: Names,
     pub(crate) definitions: Vec<Definition>,
     pub(crate) outputs: Vec<u32>,
 }
