@@ -1,75 +1,67 @@
-ghost use Rattle.std.specs.Prelude.{◌≡◌};
-ghost use Rattle.gate_netlist.specs.Faults.{bench_cause_name, settings_fault_name, out_of_memory};
+ghost use Rattle.std.specs.Prelude.{◌≡◌, Some};
+ghost use Rattle.gate_netlist.specs.Faults.{bench_cause_number, bench_cause_name, settings_fault_number, settings_fault_name, bench_fault_text, out_of_memory};
 ghost use Rattle.gate_netlist.specs.declared.fault.BenchCause.TheVariants as bench;
 ghost use Rattle.gate_netlist.specs.declared.fault.SettingsFault.TheVariants as settings;
 
 use std::alloc::{AllocError, AllocFailed};
-use thiserror::Error;
+use std::error::Error;
+use std::fmt;
 
-/// Why a bench text is refused.
-#[derive(Clone, Copy, Debug, PartialEq, Eq, Error)]
+/// Why a bench text is refused. Each cause has a number, which stays.
+#[derive(Clone, Copy, Debug, PartialEq, Eq)]
 pub enum BenchCause {
     /// The line has none of the forms.
-    #[error("BadLine")]
     BadLine = 1,
     /// A byte that may not stand outside a comment, or the word `$end`.
-    #[error("BadName")]
     BadName = 2,
     /// The word before the inputs is no gate.
-    #[error("UnknownGate")]
     UnknownGate = 3,
     /// The gate doesn't take so many inputs.
-    #[error("InputCount")]
     InputCount = 4,
     /// An earlier line defines the net.
-    #[error("DrivenTwice")]
     DrivenTwice = 5,
     /// No line defines a net that this line uses.
-    #[error("Undriven")]
     Undriven = 6,
     /// The line would define the 1,000,000th net.
-    #[error("TooManyNets")]
     TooManyNets = 7,
     /// A growth was refused.
-    #[error("Memory")]
     Memory = 8,
 }
 
 /// Where and why a bench text is refused. Lines are counted from 1; want of memory has line 0.
-#[derive(Clone, Copy, Debug, PartialEq, Eq, Error)]
-#[error("line {line}: {cause}")]
+#[derive(Clone, Copy, Debug, PartialEq, Eq)]
 pub struct BenchFault {
     pub line: u64,
     pub cause: BenchCause,
 }
 
-/// Why a settings text is refused.
-#[derive(Clone, Copy, Debug, PartialEq, Eq, Error)]
+/// Why a settings text is refused: of the causes that apply, the one with the least number.
+#[derive(Clone, Copy, Debug, PartialEq, Eq)]
 pub enum SettingsFault {
     /// The text is no TOML document.
-    #[error("Toml")]
     Toml = 1,
-    /// A key that isn't listed, or a value of another type than its key takes.
-    #[error("UnknownKey")]
+    /// A key that isn't listed, `clock` or `scope` that is no text, or `gate`, `net` or `block` that is no table.
     UnknownKey = 2,
     /// A key that names no net, or names an input.
-    #[error("UnknownNet")]
     UnknownNet = 3,
     /// A delay that is no whole number from 1 to 1,000,000.
-    #[error("BadDelay")]
     BadDelay = 4,
     /// The clock's name is no name, or names a net that isn't an input.
-    #[error("ClockNotInput")]
     ClockNotInput = 5,
     /// A block number that is no whole number from 0 to 1023.
-    #[error("BadCut")]
     BadCut = 6,
     /// A growth was refused.
-    #[error("Memory")]
     Memory = 7,
 }
 
 impl BenchCause {
+    /// The number of the cause.
+    pub fn number(self) -> u32
+        ensures { result ≡ bench_cause_number self }
+    {
+        self as u32
+    }
+
     /// The name of the cause.
     pub fn name(self) -> &'static str
         ensures { result.now ≡ bench_cause_name self }
@@ -88,6 +80,13 @@ impl BenchCause {
 }
 
 impl SettingsFault {
+    /// The number of the cause.
+    pub fn number(self) -> u32
+        ensures { result ≡ settings_fault_number self }
+    {
+        self as u32
+    }
+
     /// The name of the cause.
     pub fn name(self) -> &'static str
         ensures { result.now ≡ settings_fault_name self }
@@ -103,6 +102,38 @@ impl SettingsFault {
         }
     }
 }
+
+impl fmt::Display for BenchCause {
+    ghost output = { λ cause. Some (bench_cause_name cause) };
+
+    fn fmt<W: fmt::Write>(&self, f: &mut fmt::Formatter<W>) -> fmt::Result {
+        f.write_str(self.name())
+    }
+}
+
+impl fmt::Display for SettingsFault {
+    ghost output = { λ fault. Some (settings_fault_name fault) };
+
+    fn fmt<W: fmt::Write>(&self, f: &mut fmt::Formatter<W>) -> fmt::Result {
+        f.write_str(self.name())
+    }
+}
+
+impl fmt::Display for BenchFault {
+    ghost output = { λ fault. Some (bench_fault_text fault) };
+
+    fn fmt<W: fmt::Write>(&self, f: &mut fmt::Formatter<W>) -> fmt::Result {
+        let line = self.line;
+        let cause = self.cause.name();
+        write!(f, "line {line}: {cause}")
+    }
+}
+
+impl Error for BenchCause {}
+
+impl Error for SettingsFault {}
+
+impl Error for BenchFault {}
 
 impl BenchFault {
     /// Want of memory.
