@@ -1,6 +1,6 @@
 -- The circuit of a netlist with its clock has the law of circuits, and its cut that of cuts.
-use Rattle.std.proofs.Common.{◌≡◌, ◌∙◌, ℕ, ◌+◌, ◌<◌, Bool, true, not, nat_lt, List, [], length, map, get_or, Option, Some, None, is_some, IsSome, IfSome, unwrap_or, option_map, option_and_then, refl, ap, arith, inl, inr, codes}
-use Rattle.std.specs.List.{zip, position, position_or_len}
+use Rattle.std.proofs.Common.{◌≡◌, ◌∙◌, ℕ, ◌+◌, ◌<◌, Bool, true, not, nat_lt, List, [], ◌∷◌, length, map, get_or, Option, Some, None, is_some, IsSome, IfSome, unwrap_or, option_map, option_and_then, refl, ap, arith, inl, inr, codes}
+use Rattle.std.specs.List.{zip, list_any, position, position_or_len}
 use Rattle.std.specs.Str.{bytes_eq}
 use Rattle.std.proofs.lemmas.Bool.{cases_Bool, cases_lt, ltb-true}
 use Rattle.std.proofs.lemmas.List.{length-map, get_or-map, get_or_past}
@@ -12,7 +12,7 @@ use Rattle.gate_netlist.specs.declared.bench.Definition.{Definition}
 use Rattle.gate_netlist.specs.declared.bench.Definition.TheVariants.{Input, Gate, Flop}
 use Rattle.gate_netlist.specs.Netlist.{Netlist, IsDefinition}
 use Rattle.gate_netlist.specs.Cut.{IsOwnership}
-use Rattle.gate_netlist.specs.Circuit.{IsCircuit, IsClockedBy, CutFits, IsDriven, IsDelay, driver_of, is_input}
+use Rattle.gate_netlist.specs.Circuit.{IsCircuit, IsClockedBy, CutFits, IsDriven, IsDelay, driver_of, is_input, is_flop}
 use Rattle.gate_netlist.specs.Settings.{delay_at, table_at, net_delay, net_block, key_of, greatest_block, clock_name, delay_of_key}
 use Rattle.gate_netlist.specs.Causes.{is_flop_line, number_of, has_flop}
 use Rattle.gate_netlist.specs.Meaning.{with_clock, driver_by, delays_of, cut_of, clocked_circuit, circuit_of}
@@ -61,6 +61,12 @@ IsClockedBy-driver : (of : Option ℕ) (clock : ℕ) (d : Definition) → (is_fl
 IsClockedBy-driver of clock Input h = tt
 IsClockedBy-driver of clock (Gate kind inputs) h = tt
 IsClockedBy-driver of clock (Flop d) h = h refl
+
+is_flop-by : (clock : ℕ) (ds : List Definition) → list_any is_flop (map (driver_by clock) ds) ≡ list_any is_flop_line ds
+is_flop-by clock [] = refl
+is_flop-by clock (Input ∷ ds) = is_flop-by clock ds
+is_flop-by clock (Gate kind inputs ∷ ds) = is_flop-by clock ds
+is_flop-by clock (Flop d ∷ ds) = refl
 
 -- ---- the cut
 
@@ -119,6 +125,12 @@ module _ (ms : Members) (b : Netlist) (h : HasClock (clock_name ms) b) where
         | inr none ↦ rw none tt
       ]
 
+  flops_have_clock : is_some (clocked_circuit ms b).clock ≡ list_any is_flop (clocked_circuit ms b).drivers
+  flops_have_clock = rw (is_flop-by (unwrap_or clock_net 0) b.definitions) (elim (cases_Bool (has_flop b)) [
+    | inl flop ↦ rw flop (h.clocked flop)
+    | inr none ↦ rw none refl
+  ])
+
   cut_fits : (blocks : Members) → CutFits (clocked_circuit ms b) (cut_of blocks b.names b.definitions)
   cut_fits blocks = record {
     nets = length-by_net (net_block blocks) b.names b.definitions h.definitions;
@@ -133,11 +145,14 @@ module _ (ms : Members) (b : Netlist) (h : HasClock (clock_name ms) b) where
   pub is_circuit : IsCircuit (clocked_circuit ms b)
   is_circuit = record {
     within = h.within;
+    named = h.named;
     drivers = length-map b.definitions (driver_by (unwrap_or clock_net 0)) ∙ h.definitions;
     delays = length-by_net (net_delay ms) b.names b.definitions h.definitions;
     driven = driven_at;
     outputs = h.outputs;
+    distinct = h.distinct;
     clock = clock_below;
+    flops = flops_have_clock;
     clocked = clocked_at;
     marks = h.marks;
     cut = cut_of_table (option_and_then as_table (get_member (codes "block") ms));

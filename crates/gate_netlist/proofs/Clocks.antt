@@ -1,5 +1,5 @@
 -- A netlist with its clock among its nets.
-use Rattle.std.proofs.Common.{◌≡◌, ℕ, zero, suc, ◌<◌, ◌≤◌, Bool, true, false, ◌&&◌, List, [], ◌∷◌, ◌++◌, length, get_or, Option, Some, None, is_none, IsSome, refl, arith, inl, inr, eq-eqb, lt-ltb}
+use Rattle.std.proofs.Common.{◌≡◌, ℕ, zero, suc, ◌<◌, ◌≤◌, Bool, true, false, ◌&&◌, List, [], ◌∷◌, ◌++◌, length, get_or, Option, Some, None, is_none, IsSome, refl, arith, inl, inr, lt-ltb}
 use Rattle.std.specs.List.{position, position_or_len}
 use Rattle.std.specs.Str.{bytes_eq}
 use Rattle.std.proofs.lemmas.Bool.{cases_Bool, cases_lt}
@@ -11,6 +11,7 @@ use Rattle.gate_netlist.specs.Causes.{number_of, has_flop}
 use Rattle.gate_netlist.specs.Meaning.{with_clock}
 use Rattle.gate_netlist.specs.Clocked.{HasClock}
 use Rattle.gate_netlist.proofs.Distinct.{length-le-bound}
+use Rattle.gate_netlist.proofs.Differing.{bytes_eq-itself, names_differ_more, absent}
 
 -- ---- places in a list
 
@@ -25,10 +26,6 @@ position_or_len-last p (x ∷ xs) y e =
 
 position-last : {X : Type 0} (p : X → Bool) (xs : List X) (y : X) → p y ≡ true → IsSome (position p (xs ++ y ∷ []))
 position-last p xs y e = rw (lt-ltb _ _ (position_or_len-last p xs y e)) refl
-
-bytes_eq-itself : (xs : List ℕ) → bytes_eq xs xs ≡ true
-bytes_eq-itself [] = refl
-bytes_eq-itself (x ∷ xs) = rw (eq-eqb x x refl) (bytes_eq-itself xs)
 
 -- ---- the clock as the last net
 
@@ -60,9 +57,16 @@ found_unless false o e t = absurd cc
 marks_within : (b : Netlist) → IsNetlist b → length b.outputs ≤ length b.names
 marks_within b h = length-le-bound b.outputs (length b.names) h.distinct h.outputs
 
+missing : {X : Type 0} (flop : Bool) (o : Option X) → (flop && is_none o) ≡ true → o ≡ None
+missing true (Some x) e = absurd cc
+missing true None e = refl
+missing false o e = absurd cc
+
 clocked_as_it_is : (name : List ℕ) (b : Netlist) → IsNetlist b → (has_flop b && is_none (number_of b name)) ≡ false → HasClock name b
 clocked_as_it_is name b h e = record {
   within = omega (arith, h.within);
+  named = h.named;
+  distinct = h.distinct;
   definitions = h.definitions;
   defined = h.defined;
   outputs = h.outputs;
@@ -70,8 +74,10 @@ clocked_as_it_is name b h e = record {
   clocked = found_unless (has_flop b) (number_of b name) e;
 }
 
-clocked_by_one_more : (name : List ℕ) (b : Netlist) → IsNetlist b → HasClock name (record { names = b.names ++ name ∷ []; definitions = b.definitions ++ Input ∷ []; outputs = b.outputs })
-clocked_by_one_more name b h = record {
+clocked_by_one_more : (name : List ℕ) (b : Netlist) → IsNetlist b → number_of b name ≡ None → HasClock name (record { names = b.names ++ name ∷ []; definitions = b.definitions ++ Input ∷ []; outputs = b.outputs })
+clocked_by_one_more name b h new = record {
+  named = names_differ_more b.names name h.named (absent (λ other. bytes_eq name other) b.names new);
+  distinct = h.distinct;
   within = omega (arith, h.within, length-append b.names (name ∷ []));
   definitions = omega (arith, h.definitions, length-append b.names (name ∷ []), length-append b.definitions (Input ∷ []));
   defined = λ n l. rw (get_or-and_input b.definitions n) (IsDefinition-wider (length b.names) _ _ (omega (arith, length-append b.names (name ∷ []))) (IsDefinition-anywhere b n h));
@@ -83,7 +89,7 @@ clocked_by_one_more name b h = record {
 pub has_clock : (name : List ℕ) (b : Netlist) → IsNetlist b → HasClock name (with_clock name b)
 has_clock name b h =
     elim (cases_Bool (has_flop b && is_none (number_of b name))) [
-      | inl added ↦ rw added (clocked_by_one_more name b h)
+      | inl added ↦ rw added (clocked_by_one_more name b h (missing (has_flop b) (number_of b name) added))
       | inr stays ↦ rw stays (clocked_as_it_is name b h stays)
     ]
 

@@ -5,6 +5,8 @@ pub mod EvenCuts
 pub mod Members
 pub mod SettingNets
 pub mod Distinct
+pub mod Sources
+pub mod Differing
 pub mod Clocks
 pub mod SettingValues
 pub mod Circuits

@@ -15,7 +15,7 @@ use Rattle.gate_netlist.specs.declared.fault.BenchFault.{BenchFault}
 use Rattle.gate_netlist.specs.declared.statement.GateWord.{GateWord}
 use Rattle.gate_netlist.specs.declared.statement.GateWord.TheVariants as word
 use Rattle.gate_netlist.specs.Faults.{fault_at, out_of_memory}
-use Rattle.gate_netlist.specs.Netlist.{IsDefinition, Netlist, IsNetlist}
+use Rattle.gate_netlist.specs.Netlist.{IsDefinition, NamesDiffer, Netlist, IsNetlist}
 use Rattle.gate_netlist.specs.Symbols.{Symbol, Open, Close, Equals, Word, code_of, symbols, is_clean}
 use Rattle.gate_netlist.specs.Statements.{Name, Statement, Nothing, Input, Output, Gate, Flop, says, gate_of, arguments, takes, driven, driven_by, statement_of, meaning_of}
 use Rattle.gate_netlist.specs.Bench.{◌>>=◌, net_of, is_among, refusal, unless, stated, at_line, accepted, nets_of, uses_other, number_of, definition_of, output_of, with_last, each_once, netlist_of, names_of, linked, unless_undriven, resolved, bench_of}
@@ -25,6 +25,7 @@ use Rattle.gate_netlist.specs.Lines.{lines_of}
 use Rattle.gate_netlist.proofs.Accepting.{front-option, behind}
 use Rattle.gate_netlist.proofs.Naming.{place_none}
 use Rattle.gate_netlist.proofs.Distinct.{each_once-distinct}
+use Rattle.gate_netlist.proofs.Differing.{no_name_differs, names_differ_with}
 
 -- ---- what a line says has inputs enough
 
@@ -124,6 +125,7 @@ room earlier (Some n) e le =
 -- what is known of accepted statements
 pub record AreAccepted (earlier : List Name) (ss : List Statement) : Type 0 where
   pub within : length (earlier ++ nets_of ss) ≤ 999999
+  pub named : NamesDiffer (earlier ++ nets_of ss)
   pub enough : AllByRecursion HasEnough ss
 
 abbrev listed : List Statement → Result (List Statement) BenchFault
@@ -132,15 +134,15 @@ listed ss = Ok ss
 same_list : (ss ts : List Statement) → listed ss ≡ Ok ts → ss ≡ ts
 same_list ss ts e = cc
 
-pub are_accepted : (earlier : List Name) (line : ℕ) (ls : List (List ℕ)) (ss : List Statement) → length earlier ≤ 999999 → accepted earlier line ls ≡ Ok ss → AreAccepted earlier ss
+pub are_accepted : (earlier : List Name) (line : ℕ) (ls : List (List ℕ)) (ss : List Statement) → length earlier ≤ 999999 → NamesDiffer earlier → accepted earlier line ls ≡ Ok ss → AreAccepted earlier ss
 unfolding accepted
-are_accepted earlier line [] ss le e = subst (AreAccepted earlier) (same_list [] ss e) (record { within = rw append-nil le; enough = tt })
-are_accepted earlier line (l ∷ ls) ss le e =
+are_accepted earlier line [] ss le differ e = subst (AreAccepted earlier) (same_list [] ss e) (record { within = rw append-nil le; named = rw append-nil differ; enough = tt })
+are_accepted earlier line (l ∷ ls) ss le differ e =
     let a = bind_ok (at_line line (stated earlier l)) (λ s. accepted (earlier ++ option_to_list (net_of s)) (line + 1) ls >>= λ ss. Ok (s ∷ ss)) ss e in
     let b = bind_ok (accepted (earlier ++ option_to_list (net_of a.0)) (line + 1) ls) (λ ss. Ok (a.0 ∷ ss)) ss a.2 in
     let f = follows earlier l a.0 (at_line-ok line (stated earlier l) a.0 a.1) in
-    let rest = are_accepted (earlier ++ option_to_list (net_of a.0)) (line + 1) ls b.0 (room earlier (net_of a.0) f.free le) b.1 in
-    subst (AreAccepted earlier) (same_list (a.0 ∷ b.0) ss b.2) (record { within = subst (λ (ns : List Name). length ns ≤ 999999) (behind net_of earlier a.0 b.0) rest.within; enough = (f.enough, rest.enough) })
+    let rest = are_accepted (earlier ++ option_to_list (net_of a.0)) (line + 1) ls b.0 (room earlier (net_of a.0) f.free le) (names_differ_with earlier (net_of a.0) f.free differ) b.1 in
+    subst (AreAccepted earlier) (same_list (a.0 ∷ b.0) ss b.2) (record { within = subst (λ (ns : List Name). length ns ≤ 999999) (behind net_of earlier a.0 b.0) rest.within; named = subst NamesDiffer (behind net_of earlier a.0 b.0) rest.named; enough = (f.enough, rest.enough) })
 
 -- ---- the netlist of statements whose nets are all driven
 
@@ -234,6 +236,7 @@ is_netlist ss a e =
     let defined = all-defined (nets_of ss) ss a.enough driven in
     record {
       within = a.within;
+      named = a.named;
       definitions = as_many (nets_of ss) ss;
       defined = λ n lt. at-place (length (nets_of ss)) (filter_map (definition_of (nets_of ss)) ss) n defined;
       outputs = All-from_recursion (λ i. i < length (nets_of ss)) (each_once (filter_map (output_of (nets_of ss)) ss)) (once-below (length (nets_of ss)) [] (filter_map (output_of (nets_of ss)) ss) tt (outputs-below (nets_of ss) ss driven));
@@ -251,13 +254,13 @@ unfolding bench_of
 is_read text b e =
     let a = bind_ok (accepted [] 1 (lines_of text)) resolved b e in
     let r = unless-ok (position (uses_other (nets_of a.0)) a.0) a.0 b a.2 in
-    subst IsNetlist r.1 (is_netlist a.0 (are_accepted [] 1 (lines_of text) a.0 (omega arith) a.1) r.0)
+    subst IsNetlist r.1 (is_netlist a.0 (are_accepted [] 1 (lines_of text) a.0 (omega arith) no_name_differs a.1) r.0)
 
 -- the nets of an accepted text are few enough to be numbered
 pub within : (text : List ℕ) (nets : List Name) → names_of text ≡ Ok nets → length nets ≤ 999999
 within text nets e =
     let a = bind_ok (accepted [] 1 (lines_of text)) (λ ss. Ok (nets_of ss)) nets e in
-    subst (λ (ns : List Name). length ns ≤ 999999) (ap (value_or nets) a.2) (are_accepted [] 1 (lines_of text) a.0 (omega arith) a.1).within
+    subst (λ (ns : List Name). length ns ≤ 999999) (ap (value_or nets) a.2) (are_accepted [] 1 (lines_of text) a.0 (omega arith) no_name_differs a.1).within
 
 -- ---- the same, line by line
 

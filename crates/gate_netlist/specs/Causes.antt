@@ -1,5 +1,5 @@
 -- Why a settings document is refused.
-use Rattle.std.specs.Prelude.{ℕ, Bool, true, false, ◌&&◌, ◌||◌, not, ◌==◌, if◌then◌else◌, List, length, get_or, codes, Option, Some, None, is_none, position}
+use Rattle.std.specs.Prelude.{ℕ, Bool, true, false, ◌&&◌, ◌||◌, not, ◌==◌, if◌then◌else◌, List, length, get_or, codes, Option, Some, None, is_none}
 use Rattle.std.specs.List.{list_any, list_all}
 use Rattle.std.specs.Option.{option_map_or}
 use Rattle.std.specs.Str.{bytes_eq}
@@ -8,7 +8,7 @@ use Rattle.gate_netlist.specs.declared.bench.Definition.{Definition}
 use Rattle.gate_netlist.specs.declared.bench.Definition.TheVariants.{Input, Flop}
 use Rattle.gate_netlist.specs.declared.fault.SettingsFault.{SettingsFault}
 use Rattle.gate_netlist.specs.declared.fault.SettingsFault.TheVariants.{UnknownKey, UnknownNet, BadDelay, ClockNotInput, BadCut}
-use Rattle.gate_netlist.specs.Netlist.{Netlist}
+use Rattle.gate_netlist.specs.Netlist.{Netlist, place_of}
 use Rattle.gate_netlist.specs.Symbols.{is_letter}
 use Rattle.gate_netlist.specs.Settings.{as_delay, as_block, table_at, clock_name}
 
@@ -24,7 +24,7 @@ is_flop_line _ = false
 
 -- the net of a name
 abbrev pub number_of : Netlist → List ℕ → Option ℕ
-number_of b name = position (λ other. bytes_eq name other) b.names
+number_of b name = place_of b.names name
 
 -- the name is that of a net which isn't an input
 abbrev pub is_driven : Netlist → List ℕ → Bool

@@ -1,11 +1,11 @@
 -- What a circuit is: its nets in order, and what sets each of them.
-use Rattle.std.specs.Prelude.{◌≡◌, ℕ, ◌<◌, ◌≤◌, Bool, true, false, not, List, [], length, get_or, Option, Some, None, is_some, IfSome, position}
-use Rattle.std.specs.List.{All}
-use Rattle.std.specs.Str.{bytes_eq}
+use Rattle.std.specs.Prelude.{◌≡◌, ℕ, ◌<◌, ◌≤◌, Bool, true, false, not, nat_eq, List, [], length, get_or, Option, Some, None, is_some, IfSome}
+use Rattle.std.specs.List.{All, IsDistinct, list_any}
 use Rattle.gate_values.specs.Tables.{HasInputs}
 use Rattle.gate_values.specs.Behaviour.{Source}
 use Rattle.gate_netlist.specs.declared.driver.Driver.{Driver}
 use Rattle.gate_netlist.specs.declared.driver.Driver.TheVariants.{Input, Gate, Flop}
+use Rattle.gate_netlist.specs.Netlist.{place_of, NamesDiffer}
 use Rattle.gate_netlist.specs.Cut.{Ownership, owner_of}
 
 -- Net n has the n-th name, driver and delay. The delay of an input is 0.
@@ -30,7 +30,7 @@ name_of d n = get_or d.names n []
 
 -- the net of a name
 abbrev pub net_of : Design → List ℕ → Option ℕ
-net_of d name = position (λ other. bytes_eq name other) d.names
+net_of d name = place_of d.names name
 
 abbrev pub is_input : Driver → Bool
 is_input Input = true
@@ -85,11 +85,15 @@ pub record CutFits (d : Design) (cut : Ownership) : Type 0 where
 -- what is true of every circuit
 pub record IsCircuit (d : Design) : Type 0 where
   pub within : nets_of d ≤ 1000000
+  pub named : NamesDiffer d.names
   pub drivers : length d.drivers ≡ nets_of d
   pub delays : length d.delays ≡ nets_of d
   pub driven : (n : ℕ) → n < nets_of d → IsDriven (nets_of d) (driver_of d n) (get_or d.delays n 0)
   pub outputs : All (λ n. n < nets_of d) d.outputs
+  pub distinct : IsDistinct nat_eq d.outputs
   pub clock : IfSome d.clock (λ c. c < nets_of d)
+  -- there is a clock just where there is a flip-flop
+  pub flops : is_some d.clock ≡ list_any is_flop d.drivers
   pub clocked : (n : ℕ) → n < nets_of d → IsClockedBy d.clock (driver_of d n)
   pub marks : length d.outputs ≤ nets_of d
   pub cut : IfSome d.cut (CutFits d)

@@ -32,7 +32,7 @@ pub use counts::Counts;
 pub use cut::Cut;
 pub use driver::Driver;
 pub use fault::{BenchCause, BenchFault, SettingsFault};
-pub use laws::refusal_laws;
+pub use laws::{circuit_laws, refusal_laws};
 pub use lines::next_line;
 pub use nets::Nets;
 pub use reading::read_bench;
