@@ -1,6 +1,7 @@
 -- The codes of variables, and the scalars of nets, a variable at a time.
-use Rattle.std.proofs.Common.{◌≡◌, ℕ, zero, suc, ◌+◌, ◌-◌, ◌<◌, Bool, true, false, cond, ◌||◌, List, [], ◌∷◌, ◌++◌, length, map, take, drop, get_or, codes, Option, Some, None, option_map, option_and_then, is_some, Ok, Err, Bor, refl, ap, sym, ◌∙◌, arith, length-append, take-append-drop, add-one, add-zero, add-suc}
+use Rattle.std.proofs.Common.{◌≡◌, ℕ, zero, suc, ◌+◌, ◌-◌, ◌<◌, Bool, true, false, cond, ◌&&◌, ◌||◌, nat_eq, List, [], ◌∷◌, ◌++◌, length, map, take, drop, get_or, codes, Option, Some, None, option_map, option_and_then, is_some, Ok, Err, Bor, refl, ap, sym, ◌∙◌, arith, length-append, take-append-drop, add-one, add-zero, add-suc}
 use Rattle.std.proofs.Math.Seq.{drop-append_seam, take-append_seam}
+use Rattle.std.proofs.lemmas.Bool.Decides.{nat_tests}
 use Rattle.std.proofs.lemmas.Option.{same_Some}
 use Rattle.std.specs.List.{list_any, find}
 use Rattle.std.specs.Str.{bytes_eq}
@@ -9,11 +10,13 @@ use Rattle.std.proofs.lemmas.Slice.Eq.{bytes_eq-Decides}
 use Rattle.gate_vcd.specs.declared.variable.Variable.{Variable as Held}
 use Rattle.gate_vcd.specs.Declarations.{Variable}
 use Rattle.gate_vcd.specs.Commands.{variable, variables}
-use Rattle.gate_vcd.specs.Inputs.{is_scalar_of, scalar_code, is_named_for, code_of_net, codes_below}
+use Rattle.gate_vcd.specs.Inputs.{is_single, is_scalar_of, or_else, scalar_code, is_named_for, source_of_net, sources_below}
 use Rattle.gate_netlist.specs.Circuit.{Design}
 use Rattle.gate_vcd.specs.declared.fault.StimFault.{StimFault}
-use Rattle.gate_vcd.specs.Items.{Codes, number_of}
-use Rattle.gate_vcd.specs.Scalars.{or_else, bytes_of, code_if, codes_in, is_code_of, is_used, numbers_of, without_index}
+use Rattle.gate_vcd.specs.declared.source.Source.{Source as HeldSource}
+use Rattle.gate_vcd.specs.Changes.{Source}
+use Rattle.gate_vcd.specs.Known.{Sources, flat, number_of, same_source, source_by, sources_by}
+use Rattle.gate_vcd.specs.Scalars.{code_if, numbers_of, without_index}
 use Rattle.gate_vcd.proofs.Keeping.{same_bytes}
 
 pub same_tests : (a b : Bool) → (a ≡ true → b ≡ true) → (b ≡ true → a ≡ true) → a ≡ b
@@ -21,7 +24,7 @@ same_tests true b f g = sym (f refl)
 same_tests false true f g = g refl
 same_tests false false f g = refl
 
-turned : (a b : List ℕ) → bytes_eq a b ≡ bytes_eq b a
+pub turned : (a b : List ℕ) → bytes_eq a b ≡ bytes_eq b a
 turned a b = same_tests (bytes_eq a b) (bytes_eq b a) (λ h. (bytes_eq-Decides b a).1 (sym (same_bytes a b h))) (λ h. (bytes_eq-Decides a b).1 (sym (same_bytes b a h)))
 
 pub any-more : {X : Type 0} (p : X → Bool) (xs : List X) (x : X) → list_any p (xs ++ x ∷ []) ≡ (list_any p xs || p x)
@@ -32,15 +35,25 @@ any-more p (y ∷ xs) x = elim (p y) as (λ b. (b || list_any p (xs ++ x ∷ [])
 more_variables : (all : List Held) (i : ℕ) (item : Held) → i < length all → item ≡ get_or all i item → variables (take (i + 1) all) ≡ variables (take i all) ++ variable item ∷ []
 more_variables all i item h e = rw (take_more all i item h, ← e) (map-append variable (take i all) (item ∷ []))
 
--- a set of codes with one more
-pub one_code : (taken code : List ℕ) (old new : Bool) → new ≡ cond (bytes_eq taken code) true old → new ≡ (old || bytes_eq code taken)
-one_code taken code old new e = rw (e, turned taken code) (elim (bytes_eq code taken) as (λ b. cond b true old ≡ (old || b)) [ true ↦ (elim old as (λ o. true ≡ (o || true)) [ true ↦ refl | false ↦ refl ]) | false ↦ (elim old as (λ o. o ≡ (o || false)) [ true ↦ refl | false ↦ refl ]) ])
+-- a map of codes with one more
+pub one_code : {V : Type 0} (taken code : List ℕ) (v : V) (old : Option V) → is_some (cond (bytes_eq taken code) (Some v) old) ≡ (is_some old || bytes_eq taken code)
+one_code taken code v old = go (bytes_eq taken code) old
+  where
+    go : (b : Bool) (o : Option _) → is_some (cond b (Some v) o) ≡ (is_some o || b)
+    go true None = refl
+    go true (Some x) = refl
+    go false None = refl
+    go false (Some x) = refl
 
-pub more_codes : (code : List ℕ) (all : List Held) (i : ℕ) (item : Held) (old new : Bool) → i < length all → item ≡ get_or all i item
-    → old ≡ list_any (λ (v : Variable). bytes_eq code v.code) (variables (take i all)) → new ≡ cond (bytes_eq item.code.now code) true old
-    → new ≡ list_any (λ (v : Variable). bytes_eq code v.code) (variables (take (i + 1) all))
+pub more_codes : (code : List ℕ) (all : List Held) (i : ℕ) (item : Held) (old new : Option (Option ℕ)) → i < length all → item ≡ get_or all i item
+    → is_some old ≡ list_any (λ (v : Variable). bytes_eq code v.code) (variables (take i all)) → new ≡ cond (bytes_eq item.code.now code) (Some None) old
+    → is_some new ≡ list_any (λ (v : Variable). bytes_eq code v.code) (variables (take (i + 1) all))
 more_codes code all i item old new h e eo en =
-    rw (more_variables all i item h e, any-more (λ (v : Variable). bytes_eq code v.code) (variables (take i all)) (variable item), ← eo) (one_code item.code.now code old new en)
+    rw (more_variables all i item h e, any-more (λ (v : Variable). bytes_eq code v.code) (variables (take i all)) (variable item), ← eo, en, turned code item.code.now) (one_code item.code.now code None old)
+
+pub no_sources : (b : Bool) (old : Option (Option ℕ)) → flat old ≡ None → flat (cond b (Some None) old) ≡ None
+no_sources true old e = refl
+no_sources false old e = e
 
 -- a code is kept for a name that had none
 pub noted : (name other : List ℕ) (code : Bor (List ℕ)) (old : List ℕ → Option (Bor (List ℕ))) (new : Option (Bor (List ℕ))) → is_some (old name) ≡ false → new ≡ cond (bytes_eq name other) (Some code) (old other)
@@ -125,53 +138,65 @@ or_false true = refl
 or_false false = refl
 
 -- a variable without an index is noted by its whole text
-pub noted-plain : (v : Held) (name : List ℕ) (old new : Option (List ℕ)) → v.counted ≡ true → v.single ≡ true → without_index v.reference.items ≡ None
+pub noted-plain : (v : Held) (name : List ℕ) (old new : Option (List ℕ)) → v.counted ≡ true → is_single (variable v) ≡ true → without_index v.reference.items ≡ None
     → new ≡ or_else old (cond (bytes_eq name v.reference.items) (Some v.code.now) None) → new ≡ or_else old (code_if (is_scalar_of name (variable v)) v.code.now)
 noted-plain v name old new c s e h = rw (c, s, no_index name v.reference.items e) (h ∙ ap (λ b. or_else old (code_if b v.code.now)) (or_false (bytes_eq name v.reference.items)))
 
 -- one with an index also by the text before it
-pub noted-short : (v : Held) (name short : List ℕ) (old mid new : Option (List ℕ)) → v.counted ≡ true → v.single ≡ true → without_index v.reference.items ≡ Some short
+pub noted-short : (v : Held) (name short : List ℕ) (old mid new : Option (List ℕ)) → v.counted ≡ true → is_single (variable v) ≡ true → without_index v.reference.items ≡ Some short
     → mid ≡ or_else old (cond (bytes_eq name v.reference.items) (Some v.code.now) None) → new ≡ or_else mid (cond (bytes_eq name short) (Some v.code.now) None) → new ≡ or_else old (code_if (is_scalar_of name (variable v)) v.code.now)
 noted-short v name short old mid new c s e em h = rw (c, s, with_index name v.reference.items short e) (h ∙ rw em (both_noted old (bytes_eq name v.reference.items) (bytes_eq name short) v.code.now))
 
 -- the nets from the first on
 module _ (d : Design) (vs : List Variable) where
-  pub below-start : (codes : List (Option (Bor (List ℕ)))) → codes ≡ [] → codes_below d vs 0 ≡ Ok (codes_in codes)
-  unfolding codes_below
-  below-start codes e = rw e refl
+  pub below-start : (sources : List (Option HeldSource)) → sources ≡ [] → sources_below d vs 0 ≡ Ok (sources_by sources)
+  unfolding sources_below
+  below-start sources e = rw e refl
 
-  pub below-more : (i : ℕ) (codes new : List (Option (Bor (List ℕ)))) (code : Option (Bor (List ℕ))) → codes_below d vs i ≡ Ok (codes_in codes) → code_of_net d vs i ≡ Ok (bytes_of code) → new ≡ codes ++ code ∷ []
-      → codes_below d vs (i + 1) ≡ Ok (codes_in new)
-  unfolding codes_below
-  below-more i codes new code read coded e = rw (add-one i, read, coded, e, map-append bytes_of codes (code ∷ [])) refl
+  pub below-more : (i : ℕ) (sources new : List (Option HeldSource)) (source : Option HeldSource) → sources_below d vs i ≡ Ok (sources_by sources) → source_of_net d vs i ≡ Ok (source_by source) → new ≡ sources ++ source ∷ []
+      → sources_below d vs (i + 1) ≡ Ok (sources_by new)
+  unfolding sources_below
+  below-more i sources new source read sourced e = rw (add-one i, read, sourced, e, map-append source_by sources (source ∷ [])) refl
 
-  one_refused : (k : ℕ) (e : StimFault) → codes_below d vs k ≡ Err e → codes_below d vs (suc k) ≡ Err e
-  unfolding codes_below
+  one_refused : (k : ℕ) (e : StimFault) → sources_below d vs k ≡ Err e → sources_below d vs (suc k) ≡ Err e
+  unfolding sources_below
   one_refused k e h = rw h refl
 
-  here_refused : (k : ℕ) (e : StimFault) (found : List (Option (List ℕ))) → codes_below d vs k ≡ Ok found → code_of_net d vs k ≡ Err e → codes_below d vs (suc k) ≡ Err e
-  unfolding codes_below
+  here_refused : (k : ℕ) (e : StimFault) (found : List (Option Source)) → sources_below d vs k ≡ Ok found → source_of_net d vs k ≡ Err e → sources_below d vs (suc k) ≡ Err e
+  unfolding sources_below
   here_refused k e found h r = rw (h, r) refl
 
-  refused_from : (k j : ℕ) (e : StimFault) → codes_below d vs k ≡ Err e → codes_below d vs (k + j) ≡ Err e
+  refused_from : (k j : ℕ) (e : StimFault) → sources_below d vs k ≡ Err e → sources_below d vs (k + j) ≡ Err e
   refused_from k zero e h = rw (add-zero k) h
   refused_from k (suc j) e h = rw (add-suc k j) (one_refused (k + j) e (refused_from k j e h))
 
-  pub below-refused : (i m : ℕ) (e : StimFault) (found : List (Option (List ℕ))) → i < m → codes_below d vs i ≡ Ok found → code_of_net d vs i ≡ Err e → codes_below d vs m ≡ Err e
+  pub below-refused : (i m : ℕ) (e : StimFault) (found : List (Option Source)) → i < m → sources_below d vs i ≡ Ok found → source_of_net d vs i ≡ Err e → sources_below d vs m ≡ Err e
   below-refused i m e found l read r =
       let k : m ≡ suc i + (m - suc i) = omega arith in
       rw k (refused_from (suc i) (m - suc i) e (here_refused i e found read r))
 
--- the codes that are used, and their numbers, a net at a time
+-- the sources that are taken, and their numbers, a net at a time
 more_nets : {X Y : Type 0} (f : X → Y) (nets : List X) (i : ℕ) (d : X) → i < length nets → map f (take (i + 1) nets) ≡ map f (take i nets) ++ f (get_or nets i d) ∷ []
 more_nets f nets i d h = rw (take_more nets i d h) (map-append f (take i nets) (get_or nets i d ∷ []))
 
-pub more_used : (code : List ℕ) (nets : List (Option (Bor (List ℕ)))) (i : ℕ) (old new : Bool) → i < length nets
-    → old ≡ is_used (codes_in (take i nets)) code → new ≡ (old || is_code_of (bytes_of (get_or nets i None)) code) → new ≡ is_used (codes_in (take (i + 1) nets)) code
-more_used code nets i old new h eo en =
-    rw (more_nets bytes_of nets i None h, any-more (λ taken. is_code_of taken code) (codes_in (take i nets)) (bytes_of (get_or nets i None)), ← eo) en
+pub more_taken : (p : Option Source → Bool) (nets : List (Option HeldSource)) (i : ℕ) → i < length nets
+    → list_any p (sources_by (take (i + 1) nets)) ≡ (list_any p (sources_by (take i nets)) || p (source_by (get_or nets i None)))
+more_taken p nets i h = rw (more_nets source_by nets i None h) (any-more p (sources_by (take i nets)) (source_by (get_or nets i None)))
 
-pub more_numbers : (used : Codes) (nets : List (Option (Bor (List ℕ)))) (i : ℕ) (old new : List (Option ℕ)) → i < length nets
-    → old ≡ numbers_of used (codes_in (take i nets)) → new ≡ old ++ option_and_then (number_of used) (bytes_of (get_or nets i None)) ∷ [] → new ≡ numbers_of used (codes_in (take (i + 1) nets))
+pub more_numbers : (used : Sources) (nets : List (Option HeldSource)) (i : ℕ) (old new : List (Option ℕ)) → i < length nets
+    → old ≡ numbers_of used (sources_by (take i nets)) → new ≡ old ++ option_and_then (number_of used) (source_by (get_or nets i None)) ∷ [] → new ≡ numbers_of used (sources_by (take (i + 1) nets))
 more_numbers used nets i old new h eo en =
-    rw (more_nets bytes_of nets i None h, map-append (option_and_then (number_of used)) (codes_in (take i nets)) (bytes_of (get_or nets i None) ∷ []), ← eo) en
+    rw (more_nets source_by nets i None h, map-append (option_and_then (number_of used)) (sources_by (take i nets)) (source_by (get_or nets i None) ∷ []), ← eo) en
+
+both_true : (a b : Bool) → (a && b) ≡ true → (a ≡ true) × (b ≡ true)
+both_true true true e = (refl, refl)
+both_true true false e = cc
+both_true false b e = cc
+
+-- sources that agree are the same
+pub same_sources : (a b : Source) → same_source a b ≡ true → a ≡ b
+same_sources a b e =
+    let (c, p) = both_true (bytes_eq a.code b.code) (nat_eq a.place b.place) e in
+    let codes : a.code ≡ b.code = same_bytes a.code b.code c in
+    let places : a.place ≡ b.place = grind (arith, nat_tests, p) in
+    λ i. record { code = codes i; place = places i }

@@ -2,9 +2,8 @@
 use Rattle.std.proofs.Common.{◌≡◌, inl, inr, ℕ, ◌≤◌, Bool, true, false, cond, nat_lt, List, [], ◌∷◌, ◌++◌, length, drop, replicate, Option, Some, Result, Ok, Err, refl, ap, sym, ◌∙◌, arith}
 use Rattle.std.proofs.lemmas.Bool.Decides.{nat_tests}
 use Rattle.std.proofs.lemmas.Grind.{common_steps}
-use Rattle.std.proofs.lemmas.List.{append_assoc}
+use Rattle.std.proofs.lemmas.List.{append_assoc, length-map}
 use Rattle.std.proofs.lemmas.Option.{same_Some}
-use Rattle.gate_values.specs.declared.logic.Logic.{Logic}
 use Rattle.gate_values.specs.declared.logic.Change.{Change}
 use Rattle.gate_vcd.specs.declared.fault.StimFault.{StimFault}
 use Rattle.gate_vcd.specs.declared.fault.StimCause.TheVariants as causes
@@ -13,7 +12,8 @@ use Rattle.gate_vcd.specs.Tokens.{Token, fault_at}
 use Rattle.gate_vcd.specs.Numbers.{number}
 use Rattle.gate_vcd.specs.Reading.{◌>>=◌, Fails, Gives}
 use Rattle.gate_vcd.specs.Changes.{Item, stamp, change, wrong, Event, events_from, event_at, stamped, last_stamp}
-use Rattle.gate_vcd.specs.Items.{AreKept, IsTaken, TakesItem, fault_of, knows}
+use Rattle.gate_vcd.specs.Items.{AreKept, IsTaken, TakesItem, fault_of}
+use Rattle.gate_vcd.specs.Known.{knows, source, sources_in}
 use Rattle.gate_vcd.proofs.DeclarationLaws.{fails_then}
 use Rattle.gate_vcd.proofs.Keeping.{past-later, kept-none}
 
@@ -44,7 +44,7 @@ bind-more es more (Ok x) = ap (λ ys. Ok ys) (sym (append_assoc es more x))
 bind-more es more (Err e) = refl
 
 -- a stamp
-pub takes-stamp : (known : KnownCodes) (now : ℕ) (t : Token) (others : List Item) (es : List Event) (lists : List (List Change)) (r : Result ℕ StimFault) → Gives (λ n. n) r (stamped t now) → AreKept known.used now es lists → TakesItem known now (stamp t) others es lists r
+pub takes-stamp : (known : KnownCodes) (now : ℕ) (t : Token) (others : List Item) (es : List Event) (lists : List (List Change)) (r : Result ℕ StimFault) → Gives (λ n. n) r (stamped t now) → AreKept (sources_in known) now es lists → TakesItem known now (stamp t) others es lists r
 unfolding events_from
 takes-stamp known now t others es lists (Ok next) g kept =
     let after = stamp_after (number (drop 1 t.text)) now next (fault_at t causes.StampTooLarge) (fault_at t causes.StampFalls) g in
@@ -52,26 +52,26 @@ takes-stamp known now t others es lists (Ok next) g kept =
 takes-stamp known now t others es lists (Err e) g kept = fails_then e (stamped t now) (λ next. events_from (knows known) next others) g
 
 -- a change
-pub takes-change : (known : KnownCodes) (now : ℕ) (t : Token) (code : List ℕ) (value : Option Logic) (others : List Item) (es : List Event) (lists : List (List Change)) → IsTaken known now t code value es lists (Ok tt)
-    → TakesItem known now (change t code value) others es lists (Ok now)
+pub takes-change : (known : KnownCodes) (now : ℕ) (t : Token) (code : List ℕ) (digits : Option (List ℕ)) (others : List Item) (es : List Event) (lists : List (List Change)) → IsTaken known now t code digits es lists (Ok tt)
+    → TakesItem known now (change t code digits) others es lists (Ok now)
 unfolding events_from
-takes-change known now t code value others es lists (has, kept) = (event_at now code value, kept, rw has refl)
+takes-change known now t code digits others es lists (has, kept) = (event_at now code digits, kept, rw has refl)
 
-pub refuses-change : (known : KnownCodes) (now : ℕ) (t : Token) (code : List ℕ) (value : Option Logic) (others : List Item) (es : List Event) (lists : List (List Change)) (e : StimFault) → IsTaken known now t code value es lists (Err e)
-    → TakesItem known now (change t code value) others es lists (Err e)
+pub refuses-change : (known : KnownCodes) (now : ℕ) (t : Token) (code : List ℕ) (digits : Option (List ℕ)) (others : List Item) (es : List Event) (lists : List (List Change)) (e : StimFault) → IsTaken known now t code digits es lists (Err e)
+    → TakesItem known now (change t code digits) others es lists (Err e)
 unfolding events_from
-refuses-change known now t code value others es lists e (inl m) = inl m
-refuses-change known now t code value others es lists e (inr (unknown, is)) = inr (rw (unknown, is) refl)
+refuses-change known now t code digits others es lists e (inl m) = inl m
+refuses-change known now t code digits others es lists e (inr (unknown, is)) = inr (rw (unknown, is) refl)
 
 -- The changes so far are kept, and the others are those of these items.
 abbrev pub GoesOn : KnownCodes → ℕ → List (List Change) → List Item → Result (List Event) StimFault → Type 0
-GoesOn known now lists is reading = (es : List Event) × AreKept known.used now es lists × (reading ≡ (events_from (knows known) now is >>= λ later. Ok (es ++ later)))
+GoesOn known now lists is reading = (es : List Event) × AreKept (sources_in known) now es lists × (reading ≡ (events_from (knows known) now is >>= λ later. Ok (es ++ later)))
 
 pub goes-start : (known : KnownCodes) (n : ℕ) (lists : List (List Change)) (is : List Item) → n ≡ length known.used.keys → lists ≡ replicate {A = List Change} n [] → GoesOn known 0 lists is (events_from (knows known) 0 is)
-goes-start known n lists is e el = ([], rw el (kept-none known.used n e), bind-unit (events_from (knows known) 0 is))
+goes-start known n lists is e el = ([], rw el (kept-none (sources_in known) n (e ∙ sym (length-map known.used.keys source))), bind-unit (events_from (knows known) 0 is))
 
 pub goes-on : (known : KnownCodes) (now next : ℕ) (lists new : List (List Change)) (item : Item) (is others : List Item) (reading : Result (List Event) StimFault) → is ≡ item ∷ others
-    → GoesOn known now lists is reading → ((es : List Event) → AreKept known.used now es lists → TakesItem known now item others es new (Ok next)) → GoesOn known next new others reading
+    → GoesOn known now lists is reading → ((es : List Event) → AreKept (sources_in known) now es lists → TakesItem known now item others es new (Ok next)) → GoesOn known next new others reading
 goes-on known now next lists new item is others reading e (es, kept, read) take =
     let (more, now_kept, makes) = take es kept in
     (es ++ more, now_kept, read ∙ rw (e, makes) (bind-more es more (events_from (knows known) next others)))
@@ -80,9 +80,9 @@ pub goes-wrong : (known : KnownCodes) (now : ℕ) (lists : List (List Change)) (
 unfolding events_from
 goes-wrong known now lists [] e reading h g = cc
 goes-wrong known now lists (stamp t ∷ is) e reading h g = cc
-goes-wrong known now lists (change t code value ∷ is) e reading h g = cc
+goes-wrong known now lists (change t code digits ∷ is) e reading h g = cc
 goes-wrong known now lists (wrong t cause ∷ is) e reading h (es, kept, read) = let is_e : fault_at t cause ≡ e = same_Some _ _ h in inr (read ∙ ap Err is_e)
 
-pub goes-out : (known : KnownCodes) (now : ℕ) (lists : List (List Change)) (is : List Item) (reading : Result (List Event) StimFault) → is ≡ [] → GoesOn known now lists is reading → (es : List Event) × (last : ℕ) × (reading ≡ Ok es) × AreKept known.used last es lists
+pub goes-out : (known : KnownCodes) (now : ℕ) (lists : List (List Change)) (is : List Item) (reading : Result (List Event) StimFault) → is ≡ [] → GoesOn known now lists is reading → (es : List Event) × (last : ℕ) × (reading ≡ Ok es) × AreKept (sources_in known) last es lists
 unfolding events_from
 goes-out known now lists is reading e (es, kept, read) = (es, now, read ∙ rw (e, events-nil es) refl, kept)

@@ -18,8 +18,12 @@ pub mod NumberLaws
 pub mod ScopeLaws
 pub mod DeclarationLaws
 pub mod Settling
+pub mod Links
 pub mod Keeping
+pub mod SettleLaws
 pub mod ItemLaws
 pub mod InputLaws
+pub mod VectorLaws
+pub mod KnownLaws
 pub mod Meaning
 pub mod Refusals

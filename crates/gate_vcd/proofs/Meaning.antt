@@ -1,11 +1,12 @@
 -- What is kept of a stimulus text means what the text does.
-use Rattle.std.proofs.Common.{◌≡◌, ◌⊎◌, inl, inr, ℕ, zero, suc, ◌+◌, ◌<◌, ◌≤◌, Bool, true, false, not, cond, ◌||◌, nat_le, nat_lt, List, [], ◌∷◌, ◌++◌, length, get_or, Option, Some, None, IfSome, option_map, option_and_then, unwrap_or, is_some, Result, Ok, Err, MatchResult, Vec, Global, Bor, refl, ap, sym, ◌∙◌, subst, arith, length-append, add-one}
+use Rattle.std.proofs.Common.{◌≡◌, ◌⊎◌, inl, inr, ℕ, zero, suc, ◌+◌, ◌<◌, ◌≤◌, Bool, true, false, not, cond, ◌&&◌, ◌||◌, nat_eq, nat_le, nat_lt, List, [], ◌∷◌, ◌++◌, length, map, get_or, slice_get, Option, Some, None, IfSome, option_map, option_and_then, unwrap_or, is_some, Result, Ok, Err, MatchResult, Vec, Global, Bor, refl, ap, sym, ◌∙◌, subst, arith, length-append, add-one}
 use Rattle.std.specs.List.{list_any, find, prefix_len}
+use Rattle.std.specs.Option.{option_map_or}
 use Rattle.std.specs.Str.{bytes_eq}
 use Rattle.std.proofs.lemmas.Bool.{cases_eq}
 use Rattle.std.proofs.lemmas.Bool.Decides.{nat_tests}
 use Rattle.std.proofs.lemmas.Grind.{common_steps}
-use Rattle.std.proofs.lemmas.List.{length-map, get_or_default}
+use Rattle.std.proofs.lemmas.List.{length-map, get_or-map, get_or_default}
 use Rattle.std.proofs.lemmas.Option.{same_Some}
 use Rattle.gate_values.specs.declared.logic.Logic.{Logic}
 use Rattle.gate_values.specs.declared.logic.Logic.TheVariants.{X}
@@ -19,19 +20,23 @@ use Rattle.std.proofs.lemmas.Slice.Eq.{bytes_eq-Decides}
 use Rattle.gate_vcd.specs.Tokens.{Token, tokens_of}
 use Rattle.gate_vcd.specs.Reading.{◌>>=◌, Fails}
 use Rattle.gate_vcd.specs.Declarations.{Header, Variable, no_header, declaring}
-use Rattle.gate_vcd.specs.Changes.{Item, stamp, change, wrong, Event, items, nothing, events_from, stamped, changes_with, value_with, last_stamp}
-use Rattle.gate_vcd.specs.Items.{Codes, AreKept, is_known, knows, number_of}
+use Rattle.gate_vcd.specs.Changes.{Item, stamp, change, wrong, Event, Source, items, nothing, events_from, stamped, changes_with, value_with, last_stamp}
+use Rattle.gate_vcd.specs.declared.source.Source.{Source as HeldSource}
+use Rattle.gate_vcd.specs.Items.{AreKept}
+use Rattle.gate_vcd.specs.Known.{Sources, is_of, is_taken, is_used, knows, number_of, same_source, source, sources_by, takes}
+use Rattle.gate_vcd.specs.Vectors.{Bit, bit_of, place_in, vector_of}
 use Rattle.gate_vcd.specs.declared.known.KnownCodes.{KnownCodes}
-use Rattle.gate_vcd.specs.Inputs.{codes_below, code_of_net, code_or_fault, scalar_code, is_scalar_of}
+use Rattle.gate_vcd.specs.Inputs.{bit_source, first_given, is_scalar_of, or_else, scalar_code, source_in, source_of, source_of_net, source_or_fault, sources_below}
 use Rattle.gate_vcd.specs.Lists.{lists_in, IsRising}
 use Rattle.gate_vcd.specs.Given.{Given, AreItsChanges, Fits, changes_of, value_at}
 use Rattle.gate_vcd.specs.Held.{given_by, AreLaidOut}
-use Rattle.gate_vcd.specs.Scalars.{AreInputs, codes_in, is_code_of, is_used, numbers_of}
-use Rattle.gate_vcd.specs.Stimulus.{reading_of, has_code, value_of_code, Means}
+use Rattle.gate_vcd.specs.Scalars.{AreInputs, numbers_of}
+use Rattle.gate_vcd.specs.Stimulus.{reading_of, has_code, value_of_source, Means}
 use Rattle.gate_vcd.proofs.DeclarationLaws.{fails_then}
 use Rattle.gate_vcd.proofs.Settling.{AreBelow, latest-flat, changes-below}
-use Rattle.gate_vcd.proofs.InputLaws.{any-more}
-use Rattle.gate_vcd.proofs.Keeping.{same_bytes, up_to_with, past-later, number_within, changes-none, latest-none}
+use Rattle.gate_vcd.proofs.InputLaws.{any-more, same_sources}
+use Rattle.gate_vcd.proofs.Keeping.{position-some, same_bytes, up_to_with, past-later, changes-none, latest-none}
+use Rattle.gate_vcd.proofs.Links.{slice_get-is}
 use Rattle.gate_vcd.proofs.Latest.{latest-split, fits-all, some-mapped}
 use Rattle.std.proofs.Math.Seq.{get_or-append_seam}
 use Rattle.std.proofs.Math.ListN.{get_or-append, get_or-map as map-at}
@@ -45,7 +50,7 @@ pub events-same : (p q : List ℕ → Bool) → ((code : List ℕ) → p code �
 unfolding events_from
 events-same p q h now [] = refl
 events-same p q h now (stamp t ∷ is) = bind-same (stamped t now) (λ next. events_from p next is) (λ next. events_from q next is) (λ next. events-same p q h next is)
-events-same p q h now (change t code value ∷ is) = rw (h code, events-same p q h now is) refl
+events-same p q h now (change t code digits ∷ is) = rw (h code, events-same p q h now is) refl
 events-same p q h now (wrong t cause ∷ is) = refl
 
 -- the steps of a reading
@@ -60,12 +65,12 @@ module _ (text : List ℕ) (d : Design) where
   changes-fail e h rest r f = rw r (fails_then e (events_from (has_code h.variables) 0 (items nothing rest)) _ f)
 
   pub inputs-fail : (e : StimFault) (h : Header) (rest : List Token) (es : List Event) → declaring d.scope no_header None (tokens_of text) ≡ Ok (h, rest)
-      → events_from (has_code h.variables) 0 (items nothing rest) ≡ Ok es → Fails e (codes_below d h.variables (nets_of d)) → Fails e (reading_of text d)
+      → events_from (has_code h.variables) 0 (items nothing rest) ≡ Ok es → Fails e (sources_below d h.variables (nets_of d)) → Fails e (reading_of text d)
   unfolding reading_of
-  inputs-fail e h rest es r s f = rw (r, s) (fails_then e (codes_below d h.variables (nets_of d)) _ f)
+  inputs-fail e h rest es r s f = rw (r, s) (fails_then e (sources_below d h.variables (nets_of d)) _ f)
 
-  pub reads : (h : Header) (rest : List Token) (es : List Event) (found : List (Option (List ℕ))) → declaring d.scope no_header None (tokens_of text) ≡ Ok (h, rest)
-      → events_from (has_code h.variables) 0 (items nothing rest) ≡ Ok es → codes_below d h.variables (nets_of d) ≡ Ok found → reading_of text d ≡ Ok (record { timescale = h.timescale; events = es; codes = found })
+  pub reads : (h : Header) (rest : List Token) (es : List Event) (found : List (Option Source)) → declaring d.scope no_header None (tokens_of text) ≡ Ok (h, rest)
+      → events_from (has_code h.variables) 0 (items nothing rest) ≡ Ok es → sources_below d h.variables (nets_of d) ≡ Ok found → reading_of text d ≡ Ok (record { timescale = h.timescale; events = es; sources = found })
   unfolding reading_of
   reads h rest es found r s f = rw (r, s, f) refl
 
@@ -138,36 +143,36 @@ changes-rising f (suc b) =
 its-changes : (f : ℕ → Logic) (b : ℕ) → changes f b ≡ changes (latest X (changes f b)) b
 its-changes f b = sym (changes-agree (latest X (changes f b)) f b (latest-changes f b))
 
--- the codes of the nets
-opened_up : (r : Result (List (Option (List ℕ))) StimFault) (c : Result (Option (List ℕ)) StimFault) (found : List (Option (List ℕ))) → (r >>= λ before. (c >>= λ code. Ok (before ++ code ∷ []))) ≡ Ok found
-    → (before : List (Option (List ℕ))) × (code : Option (List ℕ)) × (r ≡ Ok before) × (c ≡ Ok code) × (before ++ code ∷ [] ≡ found)
-opened_up (Ok before) (Ok code) found e = (before, code, refl, refl, cc)
+-- the sources of the nets
+opened_up : (r : Result (List (Option Source)) StimFault) (c : Result (Option Source) StimFault) (found : List (Option Source)) → (r >>= λ before. (c >>= λ source. Ok (before ++ source ∷ []))) ≡ Ok found
+    → (before : List (Option Source)) × (source : Option Source) × (r ≡ Ok before) × (c ≡ Ok source) × (before ++ source ∷ [] ≡ found)
+opened_up (Ok before) (Ok source) found e = (before, source, refl, refl, cc)
 opened_up (Ok before) (Err f) found e = cc
 opened_up (Err f) c found e = cc
 
-last-code : (before : List (Option (List ℕ))) (code : Option (List ℕ)) (found : List (Option (List ℕ))) (n : ℕ) → before ++ code ∷ [] ≡ found → n ≡ length before → get_or found n None ≡ code
-last-code before code found n is e = rw (← is, e) (get_or-append_seam before code [] None)
+last-source : (before : List (Option Source)) (source : Option Source) (found : List (Option Source)) (n : ℕ) → before ++ source ∷ [] ≡ found → n ≡ length before → get_or found n None ≡ source
+last-source before source found n is e = rw (← is, e) (get_or-append_seam before source [] None)
 
-front-code : (before : List (Option (List ℕ))) (code : Option (List ℕ)) (found : List (Option (List ℕ))) (n : ℕ) → before ++ code ∷ [] ≡ found → n < length before → get_or found n None ≡ get_or before n None
-front-code before code found n is h = rw (← is) (get_or-append before (code ∷ []) None n h)
+front-source : (before : List (Option Source)) (source : Option Source) (found : List (Option Source)) (n : ℕ) → before ++ source ∷ [] ≡ found → n < length before → get_or found n None ≡ get_or before n None
+front-source before source found n is h = rw (← is) (get_or-append before (source ∷ []) None n h)
 
 module _ (d : Design) (vs : List Variable) where
-  found-length : (m : ℕ) (found : List (Option (List ℕ))) → codes_below d vs m ≡ Ok found → length found ≡ m
-  unfolding codes_below
+  found-length : (m : ℕ) (found : List (Option Source)) → sources_below d vs m ≡ Ok found → length found ≡ m
+  unfolding sources_below
   found-length zero found e = let is : [] ≡ found = cc in ap length (sym is)
   found-length (suc m) found e =
-      let (before, code, r, c, is) = opened_up (codes_below d vs m) (code_of_net d vs m) found e in
-      ap length (sym is) ∙ omega (arith, length-append before (code ∷ []), found-length m before r)
+      let (before, source, r, c, is) = opened_up (sources_below d vs m) (source_of_net d vs m) found e in
+      ap length (sym is) ∙ omega (arith, length-append before (source ∷ []), found-length m before r)
 
-  found-at : (m n : ℕ) (found : List (Option (List ℕ))) → codes_below d vs m ≡ Ok found → n < m → code_of_net d vs n ≡ Ok (get_or found n None)
-  unfolding codes_below
+  found-at : (m n : ℕ) (found : List (Option Source)) → sources_below d vs m ≡ Ok found → n < m → source_of_net d vs n ≡ Ok (get_or found n None)
+  unfolding sources_below
   found-at zero n found e h = absurd (omega arith)
   found-at (suc m) n found e h =
-      let (before, code, r, c, is) = opened_up (codes_below d vs m) (code_of_net d vs m) found e in
+      let (before, source, r, c, is) = opened_up (sources_below d vs m) (source_of_net d vs m) found e in
       elim (cases_eq n m) [
-        | inl same_net ↦ ap (code_of_net d vs) same_net ∙ c ∙ ap (λ o. Ok o) (sym (last-code before code found n is (same_net ∙ sym (found-length m before r))))
+        | inl same_net ↦ ap (source_of_net d vs) same_net ∙ c ∙ ap (λ o. Ok o) (sym (last-source before source found n is (same_net ∙ sym (found-length m before r))))
         | inr other ↦ (let l : n < m = omega arith in
-            found-at m n before r l ∙ ap (λ o. Ok o) (sym (front-code before code found n is (omega (arith, found-length m before r)))))
+            found-at m n before r l ∙ ap (λ o. Ok o) (sym (front-source before source found n is (omega (arith, found-length m before r)))))
       ]
 
 found-known : (vs : List Variable) (name code : List ℕ) → scalar_code vs name ≡ Some code → has_code vs code ≡ true
@@ -178,15 +183,37 @@ found-known (v ∷ vs) name code e = go (is_scalar_of name v) e (found-known vs 
     go true h ih = rw (← same_Some v.code code h, (bytes_eq-Decides v.code v.code).1 refl) refl
     go false h ih = rw (ih h) (elim (bytes_eq code v.code) as (λ b. (b || true) ≡ true) [ true ↦ refl | false ↦ refl ])
 
--- a net has a code where it is an input, and then a variable has that code
-coded-by : (input : Bool) (vs : List Variable) (name : List ℕ) (net : ℕ) (cause : StimCause) (o : Option (List ℕ))
-    → cond input (code_or_fault (scalar_code vs name) net cause >>= λ code. Ok (Some code)) (Ok None) ≡ Ok o → (is_some o ≡ input) × ((code : List ℕ) → o ≡ Some code → has_code vs code ≡ true)
-coded-by false vs name net cause o e = let is : None ≡ o = cc in (rw (← is) refl, λ code h. cc)
-coded-by true vs name net cause o e = go (scalar_code vs name) refl e
+-- the same of what the first vector gives of which a net is a bit
+given-known : (bit : Bit) (vs : List Variable) (s : Source) → first_given (source_in bit) vs ≡ Some s → has_code vs s.code ≡ true
+given-known bit [] s e = cc
+given-known bit (v ∷ vs) s e = go (option_and_then (place_in bit) (vector_of v)) e (given-known bit vs s)
   where
-    go : (s : Option (List ℕ)) → scalar_code vs name ≡ s → (code_or_fault s net cause >>= λ code. Ok (Some code)) ≡ Ok o → (is_some o ≡ true) × ((code : List ℕ) → o ≡ Some code → has_code vs code ≡ true)
+    go : (o : Option ℕ) → or_else (option_map (λ p. record { code = v.code; place = p }) o) (first_given (source_in bit) vs) ≡ Some s → (first_given (source_in bit) vs ≡ Some s → has_code vs s.code ≡ true)
+        → (bytes_eq s.code v.code || has_code vs s.code) ≡ true
+    go (Some p) h ih = let own : v.code ≡ s.code = ap (λ (x : Source). x.code) (same_Some _ s h) in rw (← own, (bytes_eq-Decides v.code v.code).1 refl) refl
+    go None h ih = rw (ih h) (elim (bytes_eq s.code v.code) as (λ b. (b || true) ≡ true) [ true ↦ refl | false ↦ refl ])
+
+-- so the code of a source is that of a variable
+sourced-known : (vs : List Variable) (name : List ℕ) (s : Source) → source_of vs name ≡ Some s → has_code vs s.code ≡ true
+sourced-known vs name s e = go (scalar_code vs name) refl e
+  where
+    by : (bit : Option Bit) → option_and_then (λ b. first_given (source_in b) vs) bit ≡ Some s → has_code vs s.code ≡ true
+    by None h = cc
+    by (Some bit) h = given-known bit vs s h
+
+    go : (o : Option (List ℕ)) → scalar_code vs name ≡ o → or_else (option_map (λ code. record { code = code; place = 0 }) o) (bit_source vs name) ≡ Some s → has_code vs s.code ≡ true
+    go (Some code) x h = let own : code ≡ s.code = ap (λ (y : Source). y.code) (same_Some _ s h) in rw (← own) (found-known vs name code x)
+    go None x h = by (bit_of name) h
+
+-- a net has a source where it is an input, and then a variable has its code
+sourced-by : (input : Bool) (vs : List Variable) (name : List ℕ) (net : ℕ) (cause : StimCause) (o : Option Source)
+    → cond input (source_or_fault (source_of vs name) net cause >>= λ source. Ok (Some source)) (Ok None) ≡ Ok o → (is_some o ≡ input) × ((s : Source) → o ≡ Some s → has_code vs s.code ≡ true)
+sourced-by false vs name net cause o e = let is : None ≡ o = cc in (rw (← is) refl, λ s h. cc)
+sourced-by true vs name net cause o e = go (source_of vs name) refl e
+  where
+    go : (x : Option Source) → source_of vs name ≡ x → (source_or_fault x net cause >>= λ source. Ok (Some source)) ≡ Ok o → (is_some o ≡ true) × ((s : Source) → o ≡ Some s → has_code vs s.code ≡ true)
     go None h x = cc
-    go (Some c) h x = let is : Some c ≡ o = cc in (rw (← is) refl, λ code k. found-known vs name code (h ∙ is ∙ k))
+    go (Some c) h x = let is : Some c ≡ o = cc in (rw (← is) refl, λ s k. sourced-known vs name s (h ∙ is ∙ k))
 
 any-below : {A : Type 0} (p : A → Bool) (xs : List A) → list_any p xs ≡ true → prefix_len (λ x. not (p x)) xs < length xs
 any-below p [] e = cc
@@ -196,11 +223,24 @@ any-below p (x ∷ xs) e = go (p x) e (any-below p xs)
     go true h ih = omega arith
     go false h ih = let l : prefix_len (λ y. not (p y)) xs < length xs = ih h in omega arith
 
-pub number-some : (codes : Codes) (code : List ℕ) → is_known codes code ≡ true → (k : ℕ) × (number_of codes code ≡ Some k)
-number-some codes code e =
-    let l = any-below (λ (k : Bor (List ℕ)). bytes_eq code k.now) codes.keys e in
-    let t : nat_lt (prefix_len (λ (k : Bor (List ℕ)). not (bytes_eq code k.now)) codes.keys) (length codes.keys) ≡ true = grind (arith, nat_tests, l) in
-    (prefix_len (λ (k : Bor (List ℕ)). not (bytes_eq code k.now)) codes.keys, rw t refl)
+pub number-some : (used : Sources) (s : Source) → is_taken used s ≡ true → (k : ℕ) × (number_of used s ≡ Some k)
+number-some used s e =
+    let l = any-below (λ k. same_source s (source k)) used.keys e in
+    let t : nat_lt (prefix_len (λ k. not (same_source s (source k))) used.keys) (length used.keys) ≡ true = grind (arith, nat_tests, l) in
+    (prefix_len (λ k. not (same_source s (source k))) used.keys, rw t refl)
+
+own_source : (s : Source) → same_source s s ≡ true
+own_source s =
+    let places : nat_eq s.place s.place ≡ true = grind (arith, nat_tests) in
+    rw ((bytes_eq-Decides s.code s.code).1 refl, places) refl
+
+-- a source stands at its number
+numbered : (used : Sources) (s : Source) (k : ℕ) → number_of used s ≡ Some k → (k < length used.keys) × (slice_get (map source used.keys) k ≡ Some s)
+numbered used s k e =
+    let no_key : HeldSource = record { code = record { now = []; ref_ptr = (0, 0) }; place = 0 } in
+    let (within, is) = position-some (λ x. same_source s (source x)) used.keys k no_key e in
+    let l : k < length (map source used.keys) = omega (arith, length-map used.keys source) in
+    (within, slice_get-is (map source used.keys) k (source no_key) l ∙ ap (λ x. Some x) (get_or-map source used.keys k no_key (source no_key) within ∙ sym (same_sources s (source (get_or used.keys k no_key)) is)))
 
 lt_or_not : (n m : ℕ) → (n < m) ⊎ (m ≤ n)
 lt_or_not n m = grind arith
@@ -208,21 +248,21 @@ lt_or_not n m = grind arith
 none_some : {A : Type 0} {x : A} → None ≡ Some x → ⊥
 none_some e = cc
 
--- the code of a net is used
-used-at : (found : List (Option (List ℕ))) (n : ℕ) (code : List ℕ) → get_or found n None ≡ Some code → is_used found code ≡ true
-used-at [] n code e = cc
-used-at (o ∷ found) zero code e = rw (e, (bytes_eq-Decides code code).1 refl) refl
-used-at (o ∷ found) (suc n) code e = rw (used-at found n code e) (elim (is_code_of o code) as (λ b. (b || true) ≡ true) [ true ↦ refl | false ↦ refl ])
+-- the source of a net is taken
+used-at : (found : List (Option Source)) (n : ℕ) (s : Source) → get_or found n None ≡ Some s → takes found s ≡ true
+used-at [] n s e = cc
+used-at (o ∷ found) zero s e = rw (e, own_source s) refl
+used-at (o ∷ found) (suc n) s e = rw (used-at found n s e) (elim (option_map_or (same_source s) o false) as (λ b. (b || true) ≡ true) [ true ↦ refl | false ↦ refl ])
 
 -- What is kept of a text whose reading is this one.
-module _ (d : Design) (h : Header) (used : Codes) (lists : List (Vec Change Global)) (list_of : List (Option ℕ)) (es : List Event) (now : ℕ) (found : List (Option (List ℕ)))
-    (takes : (code : List ℕ) → is_known used code ≡ is_used found code) (kept : AreKept used now es (lists_in lists)) (numbers : list_of ≡ numbers_of used found)
-    (read : codes_below d h.variables (nets_of d) ≡ Ok found) (drivers : length d.drivers ≡ nets_of d) where
-  coded : (n : ℕ) → n < nets_of d → (is_some (get_or found n None) ≡ is_input (driver_of d n)) × ((code : List ℕ) → get_or found n None ≡ Some code → has_code h.variables code ≡ true)
-  coded n l = coded-by (is_input (driver_of d n)) h.variables (name_of d n) n _ (get_or found n None) (found-at d h.variables (nets_of d) n found read l)
+module _ (d : Design) (h : Header) (used : Sources) (lists : List (Vec Change Global)) (list_of : List (Option ℕ)) (es : List Event) (now : ℕ) (found : List (Option Source))
+    (taken : (s : Source) → is_taken used s ≡ takes found s) (kept : AreKept (map source used.keys) now es (lists_in lists)) (numbers : list_of ≡ numbers_of used found)
+    (read : sources_below d h.variables (nets_of d) ≡ Ok found) (drivers : length d.drivers ≡ nets_of d) where
+  sourced : (n : ℕ) → n < nets_of d → (is_some (get_or found n None) ≡ is_input (driver_of d n)) × ((s : Source) → get_or found n None ≡ Some s → has_code h.variables s.code ≡ true)
+  sourced n l = sourced-by (is_input (driver_of d n)) h.variables (name_of d n) n _ (get_or found n None) (found-at d h.variables (nets_of d) n found read l)
 
-  known-at : (n : ℕ) (code : List ℕ) → get_or found n None ≡ Some code → (k : ℕ) × (number_of used code ≡ Some k)
-  known-at n code e = number-some used code (takes code ∙ used-at found n code e)
+  known-at : (n : ℕ) (s : Source) → get_or found n None ≡ Some s → (k : ℕ) × (number_of used s ≡ Some k)
+  known-at n s e = number-some used s (taken s ∙ used-at found n s e)
 
   number-at : (n : ℕ) → get_or list_of n None ≡ option_and_then (number_of used) (get_or found n None)
   number-at n = rw numbers (map-at (option_and_then (number_of used)) found n None)
@@ -230,40 +270,43 @@ module _ (d : Design) (h : Header) (used : Codes) (lists : List (Vec Change Glob
   abbrev given : Given
   given = given_by h.timescale lists list_of
 
-  wave_of : (o : Option (List ℕ)) → ((code : List ℕ) → o ≡ Some code → (k : ℕ) × (number_of used code ≡ Some k)) → unwrap_or (option_map (λ k. get_or (lists_in lists) k []) (option_and_then (number_of used) o)) [] ≡ changes (value_of_code es o) (last_stamp + 1)
-  wave_of None has = sym (changes-none (value_of_code es None) (last_stamp + 1) (λ t. refl))
-  wave_of (Some code) has = let (k, e) = has code refl in rw e (kept.changes code k e)
+  list-at : (s : Source) (k : ℕ) → number_of used s ≡ Some k → get_or (lists_in lists) k [] ≡ changes (value_with s es) (last_stamp + 1)
+  list-at s k e = kept.changes k s (numbered used s k e).1
 
-  wave-at : (n : ℕ) → changes_of given n ≡ changes (value_of_code es (get_or found n None)) (last_stamp + 1)
+  wave_of : (o : Option Source) → ((s : Source) → o ≡ Some s → (k : ℕ) × (number_of used s ≡ Some k)) → unwrap_or (option_map (λ k. get_or (lists_in lists) k []) (option_and_then (number_of used) o)) [] ≡ changes (value_of_source es o) (last_stamp + 1)
+  wave_of None has = sym (changes-none (value_of_source es None) (last_stamp + 1) (λ t. refl))
+  wave_of (Some s) has = let (k, e) = has s refl in rw e (list-at s k e)
+
+  wave-at : (n : ℕ) → changes_of given n ≡ changes (value_of_source es (get_or found n None)) (last_stamp + 1)
   wave-at n = ap (λ o. unwrap_or o []) (map-at (option_map (λ k. get_or (lists_in lists) k [])) list_of n None) ∙ rw (number-at n) (wave_of (get_or found n None) (known-at n))
 
-  flat-code : (o : Option (List ℕ)) (u : ℕ) → last_stamp ≤ u → value_of_code es o u ≡ value_of_code es o last_stamp
-  flat-code None u l = refl
-  flat-code (Some code) u l = latest-flat X (changes_with code es) last_stamp u (up_to_with last_stamp code es (past-later now last_stamp es kept.within kept.past)) l
+  flat-source : (o : Option Source) (u : ℕ) → last_stamp ≤ u → value_of_source es o u ≡ value_of_source es o last_stamp
+  flat-source None u l = refl
+  flat-source (Some s) u l = latest-flat X (changes_with s es) last_stamp u (up_to_with last_stamp s es (past-later now last_stamp es kept.within kept.past)) l
 
-  value-is : (n t : ℕ) → value_at given n t ≡ value_of_code es (get_or found n None) t
-  value-is n t = ap (λ cs. latest X cs t) (wave-at n) ∙ latest-all (value_of_code es (get_or found n None)) last_stamp t (flat-code (get_or found n None))
+  value-is : (n t : ℕ) → value_at given n t ≡ value_of_source es (get_or found n None) t
+  value-is n t = ap (λ cs. latest X cs t) (wave-at n) ∙ latest-all (value_of_source es (get_or found n None)) last_stamp t (flat-source (get_or found n None))
 
-  some-number : (o : Option (List ℕ)) → ((code : List ℕ) → o ≡ Some code → (k : ℕ) × (number_of used code ≡ Some k)) → is_some (option_and_then (number_of used) o) ≡ is_some o
+  some-number : (o : Option Source) → ((s : Source) → o ≡ Some s → (k : ℕ) × (number_of used s ≡ Some k)) → is_some (option_and_then (number_of used) o) ≡ is_some o
   some-number None has = refl
-  some-number (Some code) has = let (k, e) = has code refl in rw e refl
+  some-number (Some s) has = let (k, e) = has s refl in rw e refl
 
   lengths : length list_of ≡ nets_of d
   lengths = ap length numbers ∙ length-map found (option_and_then (number_of used)) ∙ found-length d h.variables (nets_of d) found read
 
   fits-circuit : Fits given d
   fits-circuit = some-mapped (λ k. get_or (lists_in lists) k []) list_of ∙ fits-all list_of d.drivers (lengths ∙ sym drivers)
-      (λ n l. (let below : n < nets_of d = omega (arith, lengths) in ap is_some (number-at n) ∙ some-number (get_or found n None) (known-at n) ∙ (coded n below).0))
+      (λ n l. (let below : n < nets_of d = omega (arith, lengths) in ap is_some (number-at n) ∙ some-number (get_or found n None) (known-at n) ∙ (sourced n below).0))
 
-  pub means : Means d (record { timescale = h.timescale; events = es; codes = found }) given
+  pub means : Means d (record { timescale = h.timescale; events = es; sources = found }) given
   means = record { timescale = refl; fits = fits-circuit; values = value-is; changes = wave-at }
 
-  laid-by : (o : Option ℕ) (code : Option (List ℕ)) → o ≡ option_and_then (number_of used) code → IfSome o (λ k. (k < length lists) × AreItsChanges (get_or (lists_in lists) k []))
-  laid-by None code e = tt
+  laid-by : (o : Option ℕ) (s : Option Source) → o ≡ option_and_then (number_of used) s → IfSome o (λ k. (k < length lists) × AreItsChanges (get_or (lists_in lists) k []))
+  laid-by None s e = tt
   laid-by (Some k) None e = absurd (none_some (sym e))
-  laid-by (Some k) (Some code) e =
-      let at : number_of used code ≡ Some k = sym e in
-      (omega (arith, number_within used code k at, kept.count, length-map lists (λ (v : Vec Change Global). v.items)), rw (kept.changes code k at) (its-changes (value_with code es) (last_stamp + 1)))
+  laid-by (Some k) (Some s) e =
+      let at : number_of used s ≡ Some k = sym e in
+      (omega (arith, (numbered used s k at).0, kept.count, length-map used.keys source, length-map lists (λ (v : Vec Change Global). v.items)), rw (list-at s k at) (its-changes (value_with s es) (last_stamp + 1)))
 
   pub laid : AreLaidOut lists list_of
   laid n o l = laid-by (get_or list_of n o) (get_or found n None) (get_or_default list_of n o None l ∙ number-at n)
@@ -274,40 +317,40 @@ pub declared-read : (d : Design) (text : List ℕ) (asked : Option (List ℕ)) (
 declared-read d text asked ts P ea et p = subst (λ (s : Option (List ℕ)). P (declaring s no_header None (tokens_of text))) ea (subst (λ (xs : List Token). P (declaring asked no_header None xs)) et p)
 
 -- the codes that nets take are those of variables
-some-coded : (d : Design) (vs : List Variable) (m : ℕ) (found : List (Option (List ℕ))) → codes_below d vs m ≡ Ok found → (code : List ℕ) → is_used found code ≡ true → has_code vs code ≡ true
-unfolding codes_below
-some-coded d vs zero found e code u =
+some-sourced : (d : Design) (vs : List Variable) (m : ℕ) (found : List (Option Source)) → sources_below d vs m ≡ Ok found → (code : List ℕ) → is_used found code ≡ true → has_code vs code ≡ true
+unfolding sources_below
+some-sourced d vs zero found e code u =
     let is : [] ≡ found = cc in
     let bad : false ≡ true = ap (λ f. is_used f code) is ∙ u in
     cc
-some-coded d vs (suc m) found e code u =
-    let (before, last, r, c, is) = opened_up (codes_below d vs m) (code_of_net d vs m) found e in
-    let by : (is_used before code || is_code_of last code) ≡ true = sym (any-more (λ taken. is_code_of taken code) before last) ∙ ap (λ f. is_used f code) is ∙ u in
-    go (is_used before code) last (some-coded d vs m before r code) c by
+some-sourced d vs (suc m) found e code u =
+    let (before, last, r, c, is) = opened_up (sources_below d vs m) (source_of_net d vs m) found e in
+    let by : (is_used before code || option_map_or (is_of code) last false) ≡ true = sym (any-more (λ taken. option_map_or (is_of code) taken false) before last) ∙ ap (λ f. is_used f code) is ∙ u in
+    go (is_used before code) last (some-sourced d vs m before r code) c by
   where
-    go : (b : Bool) (last : Option (List ℕ)) → (b ≡ true → has_code vs code ≡ true) → code_of_net d vs m ≡ Ok last → (b || is_code_of last code) ≡ true → has_code vs code ≡ true
+    go : (b : Bool) (last : Option Source) → (b ≡ true → has_code vs code ≡ true) → source_of_net d vs m ≡ Ok last → (b || option_map_or (is_of code) last false) ≡ true → has_code vs code ≡ true
     go true last earlier c by = earlier refl
     go false None earlier c by = cc
-    go false (Some taken) earlier c by = rw (same_bytes code taken by) ((coded-by (is_input (driver_of d m)) vs (name_of d m) m _ (Some taken) c).1 taken refl)
+    go false (Some s) earlier c by = rw (sym (same_bytes s.code code by)) ((sourced-by (is_input (driver_of d m)) vs (name_of d m) m _ (Some s) c).1 s refl)
 
--- also where the nets have no codes, since some input has none
-pub used-coded : (d : Design) (vs : List Variable) (inputs : Result (Vec (Option (Bor (List ℕ))) Global) StimFault) (shown : List (Option (Bor (List ℕ)))) → AreInputs inputs (codes_below d vs (nets_of d))
-    → MatchResult inputs (λ v. shown ≡ v.items) (λ e. shown ≡ []) → (code : List ℕ) → is_used (codes_in shown) code ≡ true → has_code vs code ≡ true
-used-coded d vs (Ok v) shown read is code u = some-coded d vs (nets_of d) (codes_in v.items) read code (ap (λ cs. is_used (codes_in cs) code) (sym is) ∙ u)
-used-coded d vs (Err e) shown read is code u =
-    let bad : false ≡ true = ap (λ cs. is_used (codes_in cs) code) (sym is) ∙ u in
+-- also where the nets have no sources, since some input has none
+pub used-sourced : (d : Design) (vs : List Variable) (inputs : Result (Vec (Option HeldSource) Global) StimFault) (shown : List (Option HeldSource)) → AreInputs inputs (sources_below d vs (nets_of d))
+    → MatchResult inputs (λ v. shown ≡ v.items) (λ e. shown ≡ []) → (code : List ℕ) → is_used (sources_by shown) code ≡ true → has_code vs code ≡ true
+used-sourced d vs (Ok v) shown read is code u = some-sourced d vs (nets_of d) (sources_by v.items) read code (ap (λ cs. is_used (sources_by cs) code) (sym is) ∙ u)
+used-sourced d vs (Err e) shown read is code u =
+    let bad : false ≡ true = ap (λ cs. is_used (sources_by cs) code) (sym is) ∙ u in
     cc
 
-either-known : (a b : Bool) → (a ≡ true → b ≡ true) → (a || b) ≡ b
-either-known true b f = sym (f refl)
-either-known false b f = refl
+either-known : (a b : Bool) → (b ≡ true → a ≡ true) → (a || b) ≡ a
+either-known true b f = refl
+either-known false true f = sym (f refl)
+either-known false false f = refl
 
 -- the known codes are those of the variables
-pub known-codes : (d : Design) (vs : List Variable) (known : KnownCodes) (inputs : Result (Vec (Option (Bor (List ℕ))) Global) StimFault) (shown : List (Option (Bor (List ℕ))))
-    → ((code : List ℕ) → is_known known.all code ≡ has_code vs code) → ((code : List ℕ) → is_known known.used code ≡ is_used (codes_in shown) code)
-    → AreInputs inputs (codes_below d vs (nets_of d)) → MatchResult inputs (λ v. shown ≡ v.items) (λ e. shown ≡ []) → (code : List ℕ) → knows known code ≡ has_code vs code
-known-codes d vs known inputs shown all used read is code =
-    rw (all code) (either-known (is_known known.used code) (has_code vs code) (λ u. used-coded d vs inputs shown read is code (sym (used code) ∙ u)))
+pub known-codes : (d : Design) (vs : List Variable) (known : KnownCodes) (inputs : Result (Vec (Option HeldSource) Global) StimFault) (shown : List (Option HeldSource))
+    → ((code : List ℕ) → knows known code ≡ (has_code vs code || is_used (sources_by shown) code))
+    → AreInputs inputs (sources_below d vs (nets_of d)) → MatchResult inputs (λ v. shown ≡ v.items) (λ e. shown ≡ []) → (code : List ℕ) → knows known code ≡ has_code vs code
+known-codes d vs known inputs shown all read is code = all code ∙ either-known (has_code vs code) (is_used (sources_by shown) code) (used-sourced d vs inputs shown read is code)
 
 pub events-fail : (p q : List ℕ → Bool) (is : List Item) (e : StimFault) → ((code : List ℕ) → p code ≡ q code) → Fails e (events_from p 0 is) → Fails e (events_from q 0 is)
 events-fail p q is e h f = rw (← events-same p q h 0 is) f

@@ -13,8 +13,8 @@ use Rattle.gate_vcd.specs.Tokens.{Token, tokens_of, is_end}
 use Rattle.gate_vcd.specs.Reading.{◌>>=◌, or_fault}
 use Rattle.gate_vcd.specs.Numbers.{number}
 use Rattle.gate_vcd.specs.Declarations.{Header, Command, Variable, no_header, keyword_of, timescale_of, variable_of, is_counted, declared, ends_declarations, opens_command, declaring}
-use Rattle.gate_vcd.specs.Changes.{Item, stamp, change, wrong, Awaited, nothing, code_of, end_of, form_of, item_by, items, last_stamp, stamped, events_from}
-use Rattle.gate_vcd.specs.Inputs.{is_named_for, scalar_code, code_or_fault, code_of_net, codes_below}
+use Rattle.gate_vcd.specs.Changes.{Source, Item, stamp, change, wrong, Awaited, nothing, code_of, end_of, form_of, item_by, items, last_stamp, stamped, events_from}
+use Rattle.gate_vcd.specs.Inputs.{is_named_for, source_of, source_or_fault, source_of_net, sources_below}
 use Rattle.gate_vcd.specs.Stimulus.{has_code, reading_of}
 use Rattle.gate_vcd.specs.Refusals.{IsOfStimulus}
 
@@ -68,8 +68,8 @@ AreItems (i ∷ is) = AreItems is
 item_by-items : (t : Token) (form : Form) (next : Awaited → List Item) → ((awaited : Awaited) → AreItems (next awaited)) → AreItems (item_by t form next)
 unfolding AreItems
 item_by-items t forms.Stamp next h = h nothing
-item_by-items t (forms.Scalar v) next h = h nothing
-item_by-items t (forms.Vector v) next h = h (code_of t (Some v))
+item_by-items t forms.Scalar next h = h nothing
+item_by-items t forms.Vector next h = h (code_of t (Some (drop 1 t.text)))
 item_by-items t forms.Unvalued next h = h (code_of t None)
 item_by-items t forms.Mark next h = h nothing
 item_by-items t forms.Command next h = h (end_of t)
@@ -101,19 +101,19 @@ cause-refused : (named : Bool) → IsOfText (cond named NotScalar MissingInput)
 cause-refused true = λ e. cc
 cause-refused false = λ e. cc
 
-code_or_fault-refused : (o : Option (List ℕ)) (net : ℕ) (cause : StimCause) → IsOfText cause → IfErr (code_or_fault o net cause) IsOfStimulus
-code_or_fault-refused (Some code) net cause h = tt
-code_or_fault-refused None net cause h = h
+source_or_fault-refused : (o : Option Source) (net : ℕ) (cause : StimCause) → IsOfText cause → IfErr (source_or_fault o net cause) IsOfStimulus
+source_or_fault-refused (Some source) net cause h = tt
+source_or_fault-refused None net cause h = h
 
-code_of_net-refused : (d : Design) (vs : List Variable) (net : ℕ) → IfErr (code_of_net d vs net) IsOfStimulus
-code_of_net-refused d vs net =
+source_of_net-refused : (d : Design) (vs : List Variable) (net : ℕ) → IfErr (source_of_net d vs net) IsOfStimulus
+source_of_net-refused d vs net =
     if-refused (is_input (driver_of d net)) _ _
-    (then-refused _ _ (code_or_fault-refused (scalar_code vs (name_of d net)) net _ (cause-refused (list_any (is_named_for (name_of d net)) vs))) (λ code. tt)) tt
+    (then-refused _ _ (source_or_fault-refused (source_of vs (name_of d net)) net _ (cause-refused (list_any (is_named_for (name_of d net)) vs))) (λ code. tt)) tt
 
-codes_below-refused : (d : Design) (vs : List Variable) (n : ℕ) → IfErr (codes_below d vs n) IsOfStimulus
-unfolding codes_below
-codes_below-refused d vs zero = tt
-codes_below-refused d vs (suc n) = then-refused (codes_below d vs n) _ (codes_below-refused d vs n) (λ found. then-refused (code_of_net d vs n) _ (code_of_net-refused d vs n) (λ code. tt))
+sources_below-refused : (d : Design) (vs : List Variable) (n : ℕ) → IfErr (sources_below d vs n) IsOfStimulus
+unfolding sources_below
+sources_below-refused d vs zero = tt
+sources_below-refused d vs (suc n) = then-refused (sources_below d vs n) _ (sources_below-refused d vs n) (λ found. then-refused (source_of_net d vs n) _ (source_of_net-refused d vs n) (λ code. tt))
 
 -- ---- a text
 
@@ -123,4 +123,4 @@ reading_of-of_stimulus text d =
     then-refused (declaring d.scope no_header None (tokens_of text)) _ (declaring-refused d.scope no_header None (tokens_of text)) (λ declared.
     then-refused (events_from (has_code declared.0.variables) 0 (items nothing declared.1)) _
     (events-refused (has_code declared.0.variables) 0 (items nothing declared.1) (items-items nothing declared.1)) (λ events.
-    then-refused (codes_below d declared.0.variables (nets_of d)) _ (codes_below-refused d declared.0.variables (nets_of d)) (λ codes. tt)))
+    then-refused (sources_below d declared.0.variables (nets_of d)) _ (sources_below-refused d declared.0.variables (nets_of d)) (λ codes. tt)))

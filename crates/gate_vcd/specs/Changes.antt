@@ -1,5 +1,5 @@
 -- The changes of a stimulus, after its declarations.
-use Rattle.std.specs.Prelude.{ℕ, ◌-◌, Bool, ◌||◌, nat_lt, nat_eq, if◌then◌else◌, List, [], ◌∷◌, ◌++◌, length, drop, get_or, slice_get, filter, map, codes, Option, Some, None, is_some, option_and_then, Result, Ok, Err}
+use Rattle.std.specs.Prelude.{ℕ, ◌-◌, Bool, not, ◌&&◌, ◌||◌, nat_lt, nat_eq, if◌then◌else◌, List, [], ◌∷◌, ◌++◌, length, take, drop, get_or, filter, map, codes, Option, Some, None, is_some, unwrap_or, Result, Ok, Err}
 use Rattle.std.specs.List.{list_all}
 use Rattle.std.specs.Str.{bytes_eq}
 use Rattle.gate_values.specs.declared.logic.Logic.{Logic}
@@ -25,9 +25,9 @@ value_of b =
     else if nat_eq b 122 || nat_eq b 90 then Some logic.Z
     else None
 
--- the last of one or more digits that write values, and nothing but such digits
-abbrev pub last_value_in : List ℕ → Option Logic
-last_value_in digits = if list_all (λ b. is_some (value_of b)) digits then option_and_then value_of (slice_get digits (length digits - 1)) else None
+-- one or more digits that write values
+abbrev pub are_values : List ℕ → Bool
+are_values digits = not (nat_eq (length digits) 0) && list_all (λ b. is_some (value_of b)) digits
 
 -- the words that part the changes and are read over
 abbrev pub is_mark : List ℕ → Bool
@@ -35,43 +35,39 @@ is_mark text =
     bytes_eq text (codes "$dumpvars") || bytes_eq text (codes "$dumpall") || bytes_eq text (codes "$dumpon")
     || bytes_eq text (codes "$dumpoff") || is_end text
 
-abbrev pub or_bad : Option Logic → (Logic → Form) → Form
-or_bad (Some v) f = f v
-or_bad None f = forms.Bad
-
 -- what a token is, by its first byte and the bytes after it
 abbrev pub form_by : ℕ → List ℕ → Form
 form_by first rest =
     if nat_eq first 35 then (if is_numeral rest then forms.Stamp else forms.Bad)
-    else if nat_eq first 98 || nat_eq first 66 then or_bad (last_value_in rest) forms.Vector
+    else if nat_eq first 98 || nat_eq first 66 then (if are_values rest then forms.Vector else forms.Bad)
     else if nat_eq first 114 || nat_eq first 82 then (if nat_eq (length rest) 0 then forms.Bad else forms.Unvalued)
     else if nat_eq first 115 || nat_eq first 83 then forms.Unvalued
-    else if nat_eq (length rest) 0 then forms.Bad
-    else or_bad (value_of first) forms.Scalar
+    else if not (nat_eq (length rest) 0) && is_some (value_of first) then forms.Scalar
+    else forms.Bad
 
 abbrev pub form_of : List ℕ → Form
 form_of text =
     if begins (codes "$") text then (if is_mark text then forms.Mark else forms.Command)
     else form_by (get_or text 0 0) (drop 1 text)
 
--- What stands among the changes: a stamp; a change of a code to a value, or one that is read over, by its
+-- What stands among the changes: a stamp; a change of a code to digits, or one that is read over, by its
 -- first token; something that may not stand there.
 pub data Item : Type 0 where
   stamp : Token → Item
-  change : Token → List ℕ → Option Logic → Item
+  change : Token → List ℕ → Option (List ℕ) → Item
   wrong : Token → StimCause → Item
 
 -- What is awaited: nothing; the code of a change; the end of a command.
 pub data Awaited : Type 0 where
   nothing : Awaited
-  code_of : Token → Option Logic → Awaited
+  code_of : Token → Option (List ℕ) → Awaited
   end_of : Token → Awaited
 
 -- a token by its form, and the items after it by what is awaited then
 abbrev pub item_by : Token → Form → (Awaited → List Item) → List Item
 item_by t forms.Stamp next = stamp t ∷ next nothing
-item_by t (forms.Scalar v) next = change t (drop 1 t.text) (Some v) ∷ next nothing
-item_by t (forms.Vector v) next = next (code_of t (Some v))
+item_by t forms.Scalar next = change t (drop 1 t.text) (Some (take 1 t.text)) ∷ next nothing
+item_by t forms.Vector next = next (code_of t (Some (drop 1 t.text)))
 item_by t forms.Unvalued next = next (code_of t None)
 item_by t forms.Mark next = next nothing
 item_by t forms.Command next = next (end_of t)
@@ -80,17 +76,17 @@ item_by t forms.Bad next = wrong t causes.BadToken ∷ []
 -- the items of these tokens
 unfoldable pub items : Awaited → List Token → List Item
 items nothing [] = []
-items (code_of first value) [] = wrong first causes.BadToken ∷ []
+items (code_of first digits) [] = wrong first causes.BadToken ∷ []
 items (end_of first) [] = wrong first causes.UnclosedCommand ∷ []
 items nothing (t ∷ ts) = item_by t (form_of t.text) (λ awaited. items awaited ts)
-items (code_of first value) (t ∷ ts) = change first t.text value ∷ items nothing ts
+items (code_of first digits) (t ∷ ts) = change first t.text digits ∷ items nothing ts
 items (end_of first) (t ∷ ts) = items (if is_end t.text then nothing else end_of first) ts
 
--- a value that a code changes to, and when
+-- the digits that a code changes to, and when
 pub record Event : Type 0 where
   pub time : ℕ
   pub code : List ℕ
-  pub value : Logic
+  pub digits : List ℕ
 
 abbrev pub last_stamp : ℕ
 last_stamp = 1000000000000000000
@@ -103,26 +99,50 @@ stamped t now =
     else Ok (number (drop 1 t.text))
 
 -- what a change is at a time
-abbrev pub event_at : ℕ → List ℕ → Option Logic → List Event
+abbrev pub event_at : ℕ → List ℕ → Option (List ℕ) → List Event
 event_at now code None = []
-event_at now code (Some value) = record { time = now; code = code; value = value } ∷ []
+event_at now code (Some digits) = record { time = now; code = code; digits = digits } ∷ []
 
--- the changes of values that these items make from a time on, or their first fault
+-- the changes that these items make from a time on, or their first fault
 unfoldable pub events_from : (List ℕ → Bool) → ℕ → List Item → Result (List Event) StimFault
 events_from is_known now [] = Ok []
 events_from is_known now (stamp t ∷ is) = stamped t now >>= λ next. events_from is_known next is
-events_from is_known now (change t code value ∷ is) =
-    if is_known code then (events_from is_known now is >>= λ es. Ok (event_at now code value ++ es))
+events_from is_known now (change t code digits ∷ is) =
+    if is_known code then (events_from is_known now is >>= λ es. Ok (event_at now code digits ++ es))
     else Err (fault_at t causes.UnknownCode)
 events_from is_known now (wrong t cause ∷ is) = Err (fault_at t cause)
 
-abbrev pub change_of : Event → Change
-change_of e = record { time = e.time; value = e.value }
+-- the value that a digit writes
+abbrev pub digit : ℕ → Logic
+digit b = unwrap_or (value_of b) logic.X
 
--- the changes of a code, in the order of the text
-abbrev pub changes_with : List ℕ → List Event → List Change
-changes_with code es = map change_of (filter (λ e. bytes_eq code e.code) es)
+-- what short digits are extended by on the left, whose leftmost one has this value
+abbrev pub extension : Logic → Logic
+extension logic.Zero = logic.Zero
+extension logic.One = logic.Zero
+extension logic.X = logic.X
+extension logic.Z = logic.Z
 
--- the value of a code at a time: that of its last change that isn't later, x before its first
-abbrev pub value_with : List ℕ → List Event → ℕ → Logic
-value_with code es t = latest logic.X (changes_with code es) t
+-- The value at a place of digits, counted from the right and from 0: that of the digit there, or, where the
+-- digits end before it, what they are extended by.
+abbrev pub value_at_place : ℕ → List ℕ → Logic
+value_at_place place digits =
+    if nat_lt place (length digits) then digit (get_or digits (length digits - 1 - place) 0)
+    else extension (digit (get_or digits 0 0))
+
+-- Where a net takes its values from: the changes of a code, and in their digits a place, counted from the
+-- right and from 0.
+pub record Source : Type 0 where
+  pub code : List ℕ
+  pub place : ℕ
+
+abbrev pub change_of : ℕ → Event → Change
+change_of place e = record { time = e.time; value = value_at_place place e.digits }
+
+-- the changes that a source gives, in the order of the text
+abbrev pub changes_with : Source → List Event → List Change
+changes_with source es = map (change_of source.place) (filter (λ e. bytes_eq source.code e.code) es)
+
+-- the value that a source gives at a time: that of the last change of its code that isn't later, x before the first
+abbrev pub value_with : Source → List Event → ℕ → Logic
+value_with source es t = latest logic.X (changes_with source es) t

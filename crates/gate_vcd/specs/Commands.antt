@@ -5,6 +5,7 @@ use Rattle.gate_vcd.specs.declared.fault.StimCause.TheVariants as causes
 use Rattle.gate_vcd.specs.declared.variable.Variable.{Variable as Held}
 use Rattle.gate_vcd.specs.Tokens.{Token, is_end}
 use Rattle.gate_vcd.specs.Reading.{or_fault}
+use Rattle.gate_vcd.specs.Numbers.{number}
 use Rattle.gate_vcd.specs.Declarations.{Variable}
 
 -- the texts before the next `$end`, and the tokens after it
@@ -18,7 +19,7 @@ rest_of_command first ts = or_fault (until_end ts) first causes.UnclosedCommand
 
 -- a variable, without where it lies in memory
 abbrev pub variable : Held → Variable
-variable v = record { reference = v.reference.items; code = v.code.now; single = v.single; counted = v.counted }
+variable v = record { reference = v.reference.items; code = v.code.now; size = number v.size.now; valued = v.valued; counted = v.counted }
 
 abbrev pub variables : List Held → List Variable
 variables vs = map variable vs

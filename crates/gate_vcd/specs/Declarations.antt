@@ -14,11 +14,12 @@ use Rattle.gate_vcd.specs.Tokens.{Token, is_end, fault_at}
 use Rattle.gate_vcd.specs.Reading.{◌>>=◌, or_fault}
 use Rattle.gate_vcd.specs.Numbers.{is_numeral, number}
 
--- A variable: its reference text and its code; whether it is one bit wide, and whether it counts.
+-- A variable: its reference text, its code and its size; whether its changes have bits, and whether it counts.
 pub record Variable : Type 0 where
   pub reference : List ℕ
   pub code : List ℕ
-  pub single : Bool
+  pub size : ℕ
+  pub valued : Bool
   pub counted : Bool
 
 -- What the declarations said so far. Of each open scope, from the outermost on, the names of the scopes
@@ -83,13 +84,9 @@ abbrev pub is_counted : Option (List ℕ) → List (List ℕ) → Bool
 is_counted None scopes = true
 is_counted (Some asked) scopes = bytes_eq (path_of scopes) asked
 
--- a type whose changes have no value of one bit
+-- a type whose changes have no bits
 abbrev pub is_unvalued : List ℕ → Bool
 is_unvalued kind = bytes_eq kind (codes "real") || bytes_eq kind (codes "realtime") || bytes_eq kind (codes "string")
-
--- one bit wide
-abbrev pub is_single : List ℕ → List ℕ → Bool
-is_single kind size = nat_eq (number size) 1 && not (is_unvalued kind)
 
 -- a code is made of visible bytes
 abbrev pub is_code : List ℕ → Bool
@@ -103,7 +100,7 @@ unescaped text = if begins (codes "\\") text then drop 1 text else text
 abbrev pub variable_of : Bool → List (List ℕ) → Option Variable
 variable_of counted (kind ∷ size ∷ code ∷ part ∷ parts) =
     if is_numeral size && is_code code
-    then Some (record { reference = unescaped (concat (part ∷ parts)); code = code; single = is_single kind size; counted = counted })
+    then Some (record { reference = unescaped (concat (part ∷ parts)); code = code; size = number size; valued = not (is_unvalued kind); counted = counted })
     else None
 variable_of counted body = None
 

@@ -1,12 +1,8 @@
 -- What a reader of changes answers, and what it keeps.
-use Rattle.std.specs.Prelude.{◌≡◌, ◌⊎◌, ℕ, ◌+◌, ◌-◌, ◌≤◌, Bool, true, false, ◌||◌, nat_eq, if◌then◌else◌, List, [], ◌∷◌, ◌++◌, length, take, get_or, slice_get, position, Option, Some, None, Result, Ok, Err}
+use Rattle.std.specs.Prelude.{◌≡◌, ◌⊎◌, ℕ, ◌+◌, ◌-◌, ◌≤◌, Bool, true, false, nat_eq, if◌then◌else◌, List, [], ◌∷◌, ◌++◌, length, take, get_or, slice_get, Option, Some, None, Result, Ok, Err}
 use Rattle.std.specs.Option.{option_map_or}
-use Rattle.std.specs.Borrow.{Bor}
-use Rattle.std.specs.List.{list_any, AllByRecursion}
+use Rattle.std.specs.List.{AllByRecursion}
 use Rattle.std.specs.Str.{bytes_eq}
-use Rattle.std.specs.declared.hash.FoldHasher.{FoldHasher}
-use Rattle.std.specs.declared.hash.BuildHasherDefault.{BuildHasherDefault}
-use Rattle.indexmap.specs.IndexSet.{IndexSet}
 use Rattle.gate_values.specs.declared.logic.Logic.{Logic}
 use Rattle.gate_values.specs.declared.logic.Logic.TheVariants as logic
 use Rattle.gate_values.specs.declared.logic.Change.{Change}
@@ -19,13 +15,14 @@ use Rattle.gate_vcd.specs.declared.known.KnownCodes.{KnownCodes}
 use Rattle.gate_vcd.specs.declared.items.Item.{Item as Read}
 use Rattle.gate_vcd.specs.declared.items.Item.TheVariants as read
 use Rattle.gate_vcd.specs.Tokens.{Token, fault_at}
-use Rattle.gate_vcd.specs.Words.{token_of}
-use Rattle.gate_vcd.specs.Changes.{Item, stamp, change, wrong, nothing, items, Event, event_at, events_from, value_with, last_stamp}
+use Rattle.gate_vcd.specs.Words.{token_of, bytes_of}
+use Rattle.gate_vcd.specs.Changes.{Item, stamp, change, wrong, nothing, items, Event, Source, event_at, events_from, value_with, value_at_place, last_stamp}
+use Rattle.gate_vcd.specs.Known.{is_of, knows, sources_in}
 
 -- an item, without where it lies in memory
 abbrev pub item_of : Read → Item
 item_of (read.Stamp word) = stamp (token_of word)
-item_of (read.Change first code value) = change (token_of first) code.now value
+item_of (read.Change first code digits) = change (token_of first) code.now (bytes_of digits)
 
 -- the fault of items that begin with one that may not stand there
 abbrev pub fault_of : List Item → Option StimFault
@@ -43,16 +40,6 @@ abbrev pub IsPassed : List Token → Result (Unit {0}) StimFault → List Item �
 IsPassed rest (Ok _) is = is ≡ items nothing rest
 IsPassed rest (Err e) is = fault_of is ≡ Some e
 
--- codes with numbers
-abbrev pub Codes : Type 0
-Codes = IndexSet (Bor (List ℕ)) (BuildHasherDefault FoldHasher)
-
-abbrev pub is_known : Codes → List ℕ → Bool
-is_known codes code = list_any (λ (k : Bor (List ℕ)). bytes_eq code k.now) codes.keys
-
-abbrev pub number_of : Codes → List ℕ → Option ℕ
-number_of codes code = position (λ (k : Bor (List ℕ)). bytes_eq code k.now) codes.keys
-
 -- the value before a further change
 abbrev pub value_after : List Change → Logic
 value_after cs = option_map_or (λ (c : Change). c.value) (slice_get cs (length cs - 1)) logic.X
@@ -69,30 +56,31 @@ undone time cs = if ends_at time (slice_get cs (length cs - 1)) then take (lengt
 abbrev pub settled : List Change → Change → List Change
 settled cs c = undone c.time cs ++ (if same c.value (value_after (undone c.time cs)) then [] else c ∷ [])
 
--- For each number of a code that is used there is a list of the changes that its values make, as far as these
--- are read.
-pub record AreKept (used : Codes) (now : ℕ) (es : List Event) (lists : List (List Change)) : Type 0 where
-  pub count : length lists ≡ length used.keys
+-- For each source there is a list of the changes that its values make, as far as the events are read.
+pub record AreKept (sources : List Source) (now : ℕ) (es : List Event) (lists : List (List Change)) : Type 0 where
+  pub count : length lists ≡ length sources
   pub past : AllByRecursion (λ (e : Event). e.time ≤ now) es
   pub within : now ≤ last_stamp
-  pub changes : (code : List ℕ) (k : ℕ) → number_of used code ≡ Some k → get_or lists k [] ≡ changes (value_with code es) (last_stamp + 1)
+  pub changes : (k : ℕ) (source : Source) → slice_get sources k ≡ Some source → get_or lists k [] ≡ changes (value_with source es) (last_stamp + 1)
 
--- some variable or some net has the code
-abbrev pub knows : KnownCodes → List ℕ → Bool
-knows known code = is_known known.used code || is_known known.all code
+-- the same lists, each with a change of the digits where its source is of the code
+pub record AreSettled (sources : List Source) (now : ℕ) (code digits : List ℕ) (old new : List (List Change)) : Type 0 where
+  pub count : length new ≡ length old
+  pub changes : (k : ℕ) (source : Source) → slice_get sources k ≡ Some source
+      → get_or new k [] ≡ (if is_of code source then settled (get_or old k []) (record { time = now; value = value_at_place source.place digits }) else get_or old k [])
 
 -- a change of a code is taken in, or its code isn't known
-abbrev pub IsTaken : KnownCodes → ℕ → Token → List ℕ → Option Logic → List Event → List (List Change) → Result (Unit {0}) StimFault → Type 0
-IsTaken known now first code value es new (Ok _) = (knows known code ≡ true) × AreKept known.used now (es ++ event_at now code value) new
-IsTaken known now first code value es new (Err e) = (e ≡ out_of_memory) ⊎ ((knows known code ≡ false) × (e ≡ fault_at first causes.UnknownCode))
+abbrev pub IsTaken : KnownCodes → ℕ → Token → List ℕ → Option (List ℕ) → List Event → List (List Change) → Result (Unit {0}) StimFault → Type 0
+IsTaken known now first code digits es new (Ok _) = (knows known code ≡ true) × AreKept (sources_in known) now (es ++ event_at now code digits) new
+IsTaken known now first code digits es new (Err e) = (e ≡ out_of_memory) ⊎ ((knows known code ≡ false) × (e ≡ fault_at first causes.UnknownCode))
 
 -- the changes that were read are kept
-abbrev pub AreTaken : Codes → List (List Change) → Result (List Event) StimFault → Type 0
-AreTaken used lists reading = (es : List Event) × (now : ℕ) × (reading ≡ Ok es) × AreKept used now es lists
+abbrev pub AreTaken : List Source → List (List Change) → Result (List Event) StimFault → Type 0
+AreTaken sources lists reading = (es : List Event) × (now : ℕ) × (reading ≡ Ok es) × AreKept sources now es lists
 
 -- An item is taken in: the changes that it makes, and the time after it, from which the other items go on.
 abbrev pub TakesItem : KnownCodes → ℕ → Item → List Item → List Event → List (List Change) → Result ℕ StimFault → Type 0
 TakesItem known now item others es new (Ok next) =
-    (more : List Event) × AreKept known.used next (es ++ more) new
+    (more : List Event) × AreKept (sources_in known) next (es ++ more) new
     × (events_from (knows known) now (item ∷ others) ≡ (events_from (knows known) next others >>= λ later. Ok (more ++ later)))
 TakesItem known now item others es new (Err e) = Fails e (events_from (knows known) now (item ∷ others))

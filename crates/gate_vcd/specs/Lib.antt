@@ -19,8 +19,11 @@ pub mod Scopes
 pub mod Commands
 pub mod Headers
 pub mod Changes
+pub mod Vectors
+pub mod Known
 pub mod Items
 pub mod Inputs
 pub mod Scalars
+pub mod Sought
 pub mod Stimulus
 pub mod Refusals

@@ -11,16 +11,16 @@ use Rattle.gate_vcd.specs.declared.timescale.Timescale.{Timescale}
 use Rattle.gate_vcd.specs.Tokens.{tokens_of}
 use Rattle.gate_vcd.specs.Reading.{◌>>=◌, Fails}
 use Rattle.gate_vcd.specs.Declarations.{Variable, no_header, declaring}
-use Rattle.gate_vcd.specs.Changes.{Event, items, nothing, events_from, value_with, last_stamp}
-use Rattle.gate_vcd.specs.Inputs.{codes_below}
+use Rattle.gate_vcd.specs.Changes.{Event, Source, items, nothing, events_from, value_with, last_stamp}
+use Rattle.gate_vcd.specs.Inputs.{sources_below}
 use Rattle.gate_vcd.specs.Given.{Given, Fits, value_at, changes_of}
 
--- A text, read: its timescale, the changes of its codes in their order, and the code of each net, which only
--- an input has.
+-- A text, read: its timescale, the changes of its codes in their order, and where each net takes its values
+-- from, which only an input does.
 pub record Reading : Type 0 where
   pub timescale : Timescale
   pub events : List Event
-  pub codes : List (Option (List ℕ))
+  pub sources : List (Option Source)
 
 -- some variable has the code
 abbrev pub has_code : List Variable → List ℕ → Bool
@@ -32,18 +32,18 @@ unfoldable pub reading_of : List ℕ → Design → Result Reading StimFault
 reading_of text d =
     declaring d.scope no_header None (tokens_of text) >>= λ declared.
     (events_from (has_code declared.0.variables) 0 (items nothing declared.1) >>= λ events.
-    (codes_below d declared.0.variables (nets_of d) >>= λ codes.
-    Ok (record { timescale = declared.0.timescale; events = events; codes = codes })))
+    (sources_below d declared.0.variables (nets_of d) >>= λ sources.
+    Ok (record { timescale = declared.0.timescale; events = events; sources = sources })))
 
--- the value of a code, or x where there is none
-abbrev pub value_of_code : List Event → Option (List ℕ) → ℕ → Logic
-value_of_code events None t = X
-value_of_code events (Some code) t = value_with code events t
+-- the value of a source, or x where there is none
+abbrev pub value_of_source : List Event → Option Source → ℕ → Logic
+value_of_source events None t = X
+value_of_source events (Some source) t = value_with source events t
 
--- The value that a text gives a net at a time: that of the last change of its code, in the order of the
--- text, that isn't later; x where there is none, and for a net that isn't an input.
+-- The value that a text gives a net at a time: what the last change of its code, in the order of the text,
+-- that isn't later gives to it; x where there is none, and for a net that isn't an input.
 abbrev pub signal : Reading → ℕ → ℕ → Logic
-signal r n t = value_of_code r.events (get_or r.codes n None) t
+signal r n t = value_of_source r.events (get_or r.sources n None) t
 
 -- a stimulus gives each net of the circuit what the text does
 pub record Means (d : Design) (r : Reading) (g : Given) : Type 0 where

@@ -1,5 +1,5 @@
 -- What contracts see of a text that is read word by word.
-use Rattle.std.specs.Prelude.{ℕ, ◌+◌, ◌<◌, ◌^◌, List, length, map}
+use Rattle.std.specs.Prelude.{ℕ, ◌+◌, ◌<◌, ◌^◌, List, length, map, Option, option_map}
 use Rattle.std.specs.Borrow.{Bor}
 use Rattle.gate_vcd.specs.declared.words.Words.TheInside.{Inside}
 use Rattle.gate_vcd.specs.declared.words.Word.{Word}
@@ -15,6 +15,10 @@ tokens_left w = tokens_from w.at w.rest.now
 -- no offset passes the machine's numbers
 abbrev pub IsWithin : Inside → Type 0
 IsWithin w = w.at + length w.rest.now < 2 ^ 64
+
+-- bytes, without where they lie in memory
+abbrev pub bytes_of : Option (Bor (List ℕ)) → Option (List ℕ)
+bytes_of text = option_map (λ (bytes : Bor (List ℕ)). bytes.now) text
 
 -- what the bytes are that these slices lend
 abbrev pub texts : List (Bor (List ℕ)) → List (List ℕ)

@@ -1,16 +1,19 @@
-ghost use Rattle.std.specs.Prelude.{◌≡◌, ◌<◌, ◌≤◌, ◌-◌, ℕ, List, [], length, slice_get, replicate, IfErr, IfOk, MatchResult, OnOk};
-ghost use Rattle.gate_vcd.specs.Changes.{Event, Item as TextItem, events_from, items, nothing, stamped, last_stamp};
+ghost use Rattle.std.specs.Prelude.{◌≡◌, ◌<◌, ◌≤◌, ◌-◌, ℕ, List, [], Some, length, map, slice_get, replicate, IfErr, IfOk, MatchResult, OnOk};
+ghost use Rattle.gate_vcd.specs.Changes.{Event, Source as TextSource, value_at_place, Item as TextItem, events_from, items, nothing, stamped, last_stamp};
 ghost use Rattle.gate_vcd.specs.Faults.{out_of_memory};
-ghost use Rattle.gate_vcd.specs.Items.{AreKept, AreTaken, IsTaken, TakesItem, ends_at, item_of, knows, settled, undone, value_after};
+ghost use Rattle.gate_vcd.specs.Items.{AreKept, AreSettled, AreTaken, IsTaken, TakesItem, ends_at, item_of, settled, undone, value_after};
+ghost use Rattle.gate_vcd.specs.Known.{IsLinked, is_of, knows, last_below, source, sources_in};
 ghost use Rattle.gate_vcd.specs.Lists.{lists_in};
 ghost use Rattle.gate_vcd.specs.Reading.{Fails, Gives};
-ghost use Rattle.gate_vcd.specs.Words.{token_of};
+ghost use Rattle.gate_vcd.specs.Words.{bytes_of, token_of};
 
+use crate::digits::value_at_place;
 use crate::fault::{StimCause, StimFault};
 use crate::form::after_first;
 use crate::items::{Item, next_item};
 use crate::known::KnownCodes;
 use crate::numbers::number_up_to;
+use crate::source::Source;
 use crate::words::{Word, Words};
 use gate_values::{Change, Logic};
 use std::alloc::Global;
@@ -82,7 +85,41 @@ fn empty_lists(alloc: Global, count: usize) -> Result<Vec<Vec<Change>>, StimFaul
     Ok(lists)
 }
 
-/// Takes in a change of a code at a time. The code must be known; a change that is read over has no value, and
+/// The value that digits give the source of a number.
+fn value_for(sources: &[Source], number: usize, digits: &[u8]) -> Logic
+    requires { number < length sources.now }
+    ensures { (s : TextSource) → slice_get (map source sources.now) number ≡ Some s → result ≡ value_at_place s.place digits.now }
+{
+    value_at_place(sources[number].place, digits)
+}
+
+/// Takes in the digits of a change at a time, for the source of this number and those before it of the same
+/// code.
+fn settle_code(
+    codes: &KnownCodes,
+    lists: &mut Vec<Vec<Change>>,
+    now: u64,
+    code: &[u8],
+    last: Option<usize>,
+    digits: &[u8],
+) -> Result<(), StimFault>
+    requires linked { IsLinked codes.now }
+    requires count { length lists.old.items ≡ length codes.now.used.keys }
+    requires last { last ≡ last_below (is_of code.now) (sources_in codes.now) (length codes.now.used.keys) }
+    ensures ok { OnOk result (AreSettled (sources_in codes.now) now code.now digits.now (lists_in lists.old.items) (lists_in lists.new.items)) }
+    ensures err { IfErr result (λ e. e ≡ out_of_memory) }
+{
+    let sources = codes.used.as_slice();
+    let mut next = last;
+    while let Some(number) = next {
+        let value = value_for(sources, number, digits);
+        settle(&mut lists[number], Change { time: now, value })?;
+        next = codes.before[number];
+    }
+    Ok(())
+}
+
+/// Takes in a change of a code at a time. The code must be known; a change that is read over has no digits, and
 /// one of a code that no input takes leaves the lists as they are.
 fn take_change(
     codes: &KnownCodes,
@@ -90,21 +127,16 @@ fn take_change(
     now: u64,
     first: Word,
     code: &[u8],
-    value: Option<Logic>,
+    digits: Option<&[u8]>,
 ) -> Result<(), StimFault>
-    requires { length lists.old.items ≡ length codes.now.used.keys }
-    ensures { (es : List Event) → AreKept codes.now.used now es (lists_in lists.old.items) → IsTaken codes.now now (token_of first.entry) code.now value es (lists_in lists.new.items) result }
+    requires linked { IsLinked codes.now }
+    requires count { length lists.old.items ≡ length codes.now.used.keys }
+    ensures { (es : List Event) → AreKept (sources_in codes.now) now es (lists_in lists.old.items) → IsTaken codes.now now (token_of first.entry) code.now (bytes_of digits.entry) es (lists_in lists.new.items) result }
 {
-    match codes.used.get_index_of(code) {
-        Some(number) => match value {
-            Some(value) => {
-                settle(&mut lists[number], Change { time: now, value })?;
-                Ok(())
-            }
-            None => Ok(()),
-        },
-        None if codes.all.contains(code) => Ok(()),
-        None => Err(first.fault(StimCause::UnknownCode)),
+    match (codes.last.get(code), digits) {
+        (None, _) => Err(first.fault(StimCause::UnknownCode)),
+        (Some(_), None) => Ok(()),
+        (Some(last), Some(digits)) => settle_code(codes, lists, now, code, *last, digits),
     }
 }
 
@@ -115,25 +147,31 @@ fn take_item(
     now: u64,
     item: Item,
 ) -> Result<u64, StimFault>
-    requires { length lists.old.items ≡ length codes.now.used.keys }
-    ensures { (es : List Event) (others : List TextItem) → AreKept codes.now.used now es (lists_in lists.old.items) → TakesItem codes.now now (item_of item.entry) others es (lists_in lists.new.items) result }
+    requires linked { IsLinked codes.now }
+    requires count { length lists.old.items ≡ length codes.now.used.keys }
+    ensures { (es : List Event) (others : List TextItem) → AreKept (sources_in codes.now) now es (lists_in lists.old.items) → TakesItem codes.now now (item_of item.entry) others es (lists_in lists.new.items) result }
 {
     match item {
         Item::Stamp(word) => next_stamp(now, word),
-        Item::Change { first, code, value } => {
-            take_change(codes, lists, now, first, code, value)?;
+        Item::Change {
+            first,
+            code,
+            digits,
+        } => {
+            take_change(codes, lists, now, first, code, digits)?;
             Ok(now)
         }
     }
 }
 
-/// Reads the changes of a stimulus: for each number of a code that inputs take the list of its changes.
+/// Reads the changes of a stimulus: for each number of a source that inputs take the list of its changes.
 pub fn read_changes<'a>(
     alloc: Global,
     words: &mut Words<'a>,
     codes: &KnownCodes<'a>,
 ) -> Result<Vec<Vec<Change>>, StimFault>
-    ensures { MatchResult result (λ lists. AreTaken codes.now.used (lists_in lists.items) (events_from (knows codes.now) 0 (items nothing words.old))) (λ e. Fails e (events_from (knows codes.now) 0 (items nothing words.old))) }
+    requires { IsLinked codes.now }
+    ensures { MatchResult result (λ lists. AreTaken (sources_in codes.now) (lists_in lists.items) (events_from (knows codes.now) 0 (items nothing words.old))) (λ e. Fails e (events_from (knows codes.now) 0 (items nothing words.old))) }
 {
     let mut lists = empty_lists(alloc, codes.used.len())?;
     let mut now = 0;

@@ -5,13 +5,17 @@ ghost use Rattle.gate_netlist.specs.Circuit.{nets_of, driver_of, is_input};
 ghost use Rattle.gate_vcd.specs.Commands.{variable as variable_of, variables};
 ghost use Rattle.gate_vcd.specs.Declarations.{begins};
 ghost use Rattle.gate_vcd.specs.Faults.{out_of_memory};
-ghost use Rattle.gate_vcd.specs.Inputs.{is_named_for, is_scalar_of, scalar_code, cause_without, code_or_fault, code_of_net, codes_below};
-ghost use Rattle.gate_vcd.specs.Items.{number_of};
-ghost use Rattle.gate_vcd.specs.Scalars.{AreInputs, AreScalars, bytes_of, code_if, code_in, codes_in, numbers_of, or_else, without_index};
+ghost use Rattle.gate_vcd.specs.Inputs.{is_named_for, is_single, is_scalar_of, or_else, bit_source, source_of, cause_without, source_or_fault, source_of_net, sources_below};
+ghost use Rattle.gate_vcd.specs.Known.{number_of, source, source_by, sources_by};
+ghost use Rattle.gate_vcd.specs.Scalars.{AreInputs, AreScalars, code_if, code_in, numbers_of, without_index};
+ghost use Rattle.gate_vcd.specs.Sought.{IsGiven};
 
 use crate::fault::{StimCause, StimFault};
 use crate::keyword::{begins, is_word};
+use crate::numbers::number_up_to;
+use crate::source::Source;
 use crate::variable::Variable;
+use crate::vectors::{Vectors, bit_of};
 use gate_netlist::{Circuit, Driver};
 use indexmap::{IndexMap, IndexSet};
 use std::alloc::Global;
@@ -38,6 +42,12 @@ fn without_index(text: &[u8]) -> Option<&[u8]>
     text.strip_suffix(b"[0:0]")
 }
 
+fn is_single(variable: &Variable) -> bool
+    ensures { result ≡ is_single (variable_of variable.now) }
+{
+    variable.valued && number_up_to(1, variable.size) == Some(1)
+}
+
 /// Keeps the code of a variable for the names of nets that it is a scalar of.
 fn note_variable<'v, 'a>(
     scalars: &mut IndexMap<&'v [u8], &'a [u8]>,
@@ -46,7 +56,7 @@ fn note_variable<'v, 'a>(
     ensures ok { (name : List ℕ) → OnOk result (code_in scalars.new name ≡ or_else (code_in scalars.old name) (code_if (is_scalar_of name (variable_of variable.now)) variable.now.code.now)) }
     ensures err { IfErr result (λ e. e ≡ out_of_memory) }
 {
-    if !variable.counted || !variable.single {
+    if !variable.counted || !is_single(variable) {
         return Ok(());
     }
     note(scalars, variable.reference.as_slice(), variable.code)?;
@@ -106,22 +116,64 @@ fn cause_without(all: &[Variable], name: &[u8]) -> StimCause
     }
 }
 
-/// The code of an input.
-fn code_of_input<'a>(
-    scalars: &IndexMap<&[u8], &'a [u8]>,
-    all: &[Variable<'a>],
-    net: u32,
-    name: &[u8],
-) -> Result<&'a [u8], StimFault>
-    requires { AreScalars scalars.now (variables all.now) }
-    ensures { MatchResult result (λ code. code_or_fault (scalar_code (variables all.now) name.now) net (cause_without (variables all.now) name.now) ≡ Ok code.now) (λ e. code_or_fault (scalar_code (variables all.now) name.now) net (cause_without (variables all.now) name.now) ≡ Err e) }
-{
-    match scalars.get(name) {
-        Some(code) => Ok(*code),
-        None => Err(StimFault {
-            at: net as u64,
-            cause: cause_without(all, name),
-        }),
+/// What inputs ask the variables for.
+#[derive(Drop)]
+struct Given<'v, 'a> {
+    all: &'v [Variable<'a>],
+    scalars: IndexMap<&'v [u8], &'a [u8]>,
+    vectors: Vectors<'v, 'a>,
+}
+
+impl<'v, 'a> Given<'v, 'a> {
+    fn of(alloc: Global, all: &'v [Variable<'a>]) -> Result<Given<'v, 'a>, StimFault>
+        ensures ok { IfOk result IsGiven }
+        ensures all { IfOk result (λ given. given.all.now ≡ all.now) }
+        ensures err { IfErr result (λ e. e ≡ out_of_memory) }
+    {
+        let scalars = scalars_of(alloc, all)?;
+        let vectors = Vectors::of(alloc, all)?;
+        Ok(Given {
+            all,
+            scalars,
+            vectors,
+        })
+    }
+
+    /// The source that the first vector gives of which a net is a bit.
+    fn bit_source(&self, name: &[u8]) -> Option<Source<'a>>
+        requires { IsGiven self.now }
+        ensures { source_by result ≡ bit_source (variables self.now.all.now) name.now }
+    {
+        self.vectors.source_of(bit_of(name)?)
+    }
+
+    /// The source of an input: the first scalar of its name, and where there is none the first vector of which it
+    /// is a bit.
+    fn source_of(&self, name: &[u8]) -> Option<Source<'a>>
+        requires { IsGiven self.now }
+        ensures { source_by result ≡ source_of (variables self.now.all.now) name.now }
+    {
+        match self.scalars.get(name) {
+            Some(code) => Some(Source {
+                code: *code,
+                place: 0,
+            }),
+            None => self.bit_source(name),
+        }
+    }
+
+    /// The source of an input, or why it has none.
+    fn source_of_input(&self, net: u32, name: &[u8]) -> Result<Source<'a>, StimFault>
+        requires { IsGiven self.now }
+        ensures { MatchResult result (λ s. source_or_fault (source_of (variables self.now.all.now) name.now) net (cause_without (variables self.now.all.now) name.now) ≡ Ok (source s)) (λ e. source_or_fault (source_of (variables self.now.all.now) name.now) net (cause_without (variables self.now.all.now) name.now) ≡ Err e) }
+    {
+        match self.source_of(name) {
+            Some(source) => Ok(source),
+            None => Err(StimFault {
+                at: net as u64,
+                cause: cause_without(self.all, name),
+            }),
+        }
     }
 }
 
@@ -133,69 +185,68 @@ pub fn is_input(circuit: &Circuit, net: u32) -> bool
     matches!(circuit.driver(net), Driver::Input)
 }
 
-/// The code of a net, which only an input has.
-fn code_of_net<'a>(
+/// The source of a net, which only an input has.
+fn source_of_net<'a>(
     circuit: &Circuit,
     net: u32,
-    scalars: &IndexMap<&[u8], &'a [u8]>,
-    all: &[Variable<'a>],
-) -> Result<Option<&'a [u8]>, StimFault>
+    given: &Given<'_, 'a>,
+) -> Result<Option<Source<'a>>, StimFault>
     requires within { net < nets_of circuit.now }
-    requires scalars { AreScalars scalars.now (variables all.now) }
-    ensures { MatchResult result (λ code. code_of_net circuit.now (variables all.now) net ≡ Ok (bytes_of code)) (λ e. code_of_net circuit.now (variables all.now) net ≡ Err e) }
+    requires given { IsGiven given.now }
+    ensures { MatchResult result (λ s. source_of_net circuit.now (variables given.now.all.now) net ≡ Ok (source_by s)) (λ e. source_of_net circuit.now (variables given.now.all.now) net ≡ Err e) }
 {
     if !is_input(circuit, net) {
         return Ok(None);
     }
-    match code_of_input(scalars, all, net, circuit.name(net).as_bytes()) {
-        Ok(code) => Ok(Some(code)),
+    match given.source_of_input(net, circuit.name(net).as_bytes()) {
+        Ok(source) => Ok(Some(source)),
         Err(fault) => Err(fault),
     }
 }
 
-/// The codes of the nets, which only inputs have, or the fault of the first input that has none. Only want of
+/// The sources of the nets, which only inputs have, or the fault of the first input that has none. Only want of
 /// memory is an error of the function itself, since the faults of the changes come before those of the inputs.
 pub fn inputs_of<'a>(
     alloc: Global,
     circuit: &Circuit,
     all: &[Variable<'a>],
-) -> Result<Result<Vec<Option<&'a [u8]>>, StimFault>, StimFault>
-    ensures ok { IfOk result (λ inputs. AreInputs inputs (codes_below circuit.now (variables all.now) (nets_of circuit.now))) }
+) -> Result<Result<Vec<Option<Source<'a>>>, StimFault>, StimFault>
+    ensures ok { IfOk result (λ inputs. AreInputs inputs (sources_below circuit.now (variables all.now) (nets_of circuit.now))) }
     ensures err { IfErr result (λ e. e ≡ out_of_memory) }
 {
-    let scalars = scalars_of(alloc, all)?;
-    let mut codes = Vec::new(alloc);
+    let given = Given::of(alloc, all)?;
+    let mut sources = Vec::new(alloc);
     for net in 0..circuit.nets() {
-        match code_of_net(circuit, net, &scalars, all) {
-            Ok(code) => codes.push(code)?,
+        match source_of_net(circuit, net, &given) {
+            Ok(source) => sources.push(source)?,
             Err(fault) => return Ok(Err(fault)),
         }
     }
-    Ok(Ok(codes))
+    Ok(Ok(sources))
 }
 
-/// The number of a code.
-fn number_of(used: &IndexSet<&[u8]>, code: Option<&[u8]>) -> Option<usize>
-    ensures { result ≡ option_and_then (number_of used.now) (bytes_of code.entry) }
+/// The number of a source.
+fn number_of(used: &IndexSet<Source>, source: Option<Source>) -> Option<usize>
+    ensures { result ≡ option_and_then (number_of used.now) (source_by source.entry) }
 {
-    match code {
-        Some(code) => used.get_index_of(code),
+    match source {
+        Some(source) => used.get_index_of(&source),
         None => None,
     }
 }
 
-/// The numbers of the codes of the nets.
+/// The numbers of the sources of the nets.
 pub fn numbers_of(
     alloc: Global,
-    nets: &[Option<&[u8]>],
-    used: &IndexSet<&[u8]>,
+    nets: &[Option<Source>],
+    used: &IndexSet<Source>,
 ) -> Result<Vec<Option<usize>>, StimFault>
-    ensures ok { IfOk result (λ numbers. numbers.items ≡ numbers_of used.now (codes_in nets.now)) }
+    ensures ok { IfOk result (λ numbers. numbers.items ≡ numbers_of used.now (sources_by nets.now)) }
     ensures err { IfErr result (λ e. e ≡ out_of_memory) }
 {
     let mut numbers = Vec::new(alloc);
-    for code in nets {
-        numbers.push(number_of(used, *code))?;
+    for source in nets {
+        numbers.push(number_of(used, *source))?;
     }
     Ok(numbers)
 }

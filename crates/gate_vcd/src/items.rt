@@ -1,24 +1,23 @@
 ghost use Rattle.std.specs.Prelude.{◌≡◌, ◌<◌, ◌≤◌, length, IfOk, IfSome};
 ghost use Rattle.gate_vcd.specs.Changes.{items, nothing, end_of, code_of};
 ghost use Rattle.gate_vcd.specs.Items.{IsNext, IsPassed};
-ghost use Rattle.gate_vcd.specs.Words.{token_of};
+ghost use Rattle.gate_vcd.specs.Words.{bytes_of, token_of};
 
 use crate::fault::{StimCause, StimFault};
-use crate::form::{Form, after_first, form_of};
+use crate::form::{Form, after_first, first_of, form_of};
 use crate::keyword::is_end;
 use crate::words::{Word, Words};
-use gate_values::Logic;
 
 /// What stands among the changes of a stimulus.
 #[derive(Clone, Copy, Debug)]
 pub enum Item<'a> {
     /// `#` and a time.
     Stamp(Word<'a>),
-    /// A change of a code to a value, or one that is read over.
+    /// A change of a code to digits, or one that is read over.
     Change {
         first: Word<'a>,
         code: &'a [u8],
-        value: Option<Logic>,
+        digits: Option<&'a [u8]>,
     },
 }
 
@@ -41,16 +40,16 @@ fn skip_command<'a>(words: &mut Words<'a>, first: Word<'a>) -> Result<(), StimFa
 fn change_of<'a>(
     words: &mut Words<'a>,
     first: Word<'a>,
-    value: Option<Logic>,
+    digits: Option<&'a [u8]>,
 ) -> Result<Option<Item<'a>>, StimFault>
-    ensures items { IsNext words.new result (items (code_of (token_of first.entry) value) words.old) }
+    ensures items { IsNext words.new result (items (code_of (token_of first.entry) (bytes_of digits.entry)) words.old) }
     ensures shorter { length words.new ≤ length words.old }
 {
     match words.next() {
         Some(word) => Ok(Some(Item::Change {
             first,
             code: word.text,
-            value,
+            digits,
         })),
         None => Err(first.fault(StimCause::BadToken)),
     }
@@ -65,14 +64,14 @@ pub fn next_item<'a>(words: &mut Words<'a>) -> Result<Option<Item<'a>>, StimFaul
     while let Some(word) = words.next() {
         match form_of(word.text) {
             Form::Stamp => return Ok(Some(Item::Stamp(word))),
-            Form::Scalar(value) => {
+            Form::Scalar => {
                 return Ok(Some(Item::Change {
                     first: word,
                     code: after_first(word.text),
-                    value: Some(value),
+                    digits: Some(first_of(word.text)),
                 }));
             }
-            Form::Vector(value) => return change_of(words, word, Some(value)),
+            Form::Vector => return change_of(words, word, Some(after_first(word.text))),
             Form::Unvalued => return change_of(words, word, None),
             Form::Mark => {}
             Form::Command => skip_command(words, word)?,

@@ -1,73 +1,105 @@
-ghost use Rattle.std.specs.Prelude.{◌≡◌, ◌||◌, ℕ, List, IfErr, IfOk, OnOk};
+ghost use Rattle.std.specs.Prelude.{◌≡◌, ◌||◌, ℕ, List, None, Some, false, is_some, IfErr, IfOk, OnOk};
 ghost use Rattle.std.specs.List.{list_any};
 ghost use Rattle.std.specs.Str.{bytes_eq};
+ghost use Rattle.gate_vcd.specs.Changes.{Source as TextSource};
 ghost use Rattle.gate_vcd.specs.Commands.{variables};
 ghost use Rattle.gate_vcd.specs.Faults.{out_of_memory};
-ghost use Rattle.gate_vcd.specs.Items.{is_known};
-ghost use Rattle.gate_vcd.specs.Scalars.{bytes_of, codes_in, is_code_of, is_used};
+ghost use Rattle.gate_vcd.specs.Known.{IsLinked, Takes, flat, found_in, is_used, is_taken, knows, source as source_of, source_by, sources_by, takes};
 
 use crate::fault::StimFault;
+use crate::source::Source;
 use crate::variable::Variable;
-use indexmap::IndexSet;
+use indexmap::{IndexMap, IndexSet};
 use std::alloc::Global;
 
-/// The codes of a text.
+/// The codes of a text, and the sources that inputs take.
 #[derive(Drop)]
 pub struct KnownCodes<'a> {
-    /// Those that variables have.
-    pub all: IndexSet<&'a [u8]>,
-    /// Those that inputs take, each with a number.
-    pub used: IndexSet<&'a [u8]>,
+    /// The sources, each with a number.
+    pub used: IndexSet<Source<'a>>,
+    /// Of each code that a variable has the number of its last source.
+    pub last: IndexMap<&'a [u8], Option<usize>>,
+    /// Of each source the one before it of the same code.
+    pub before: Vec<Option<usize>>,
 }
 
-/// The codes of variables.
-fn codes_of<'a>(alloc: Global, all: &[Variable<'a>]) -> Result<IndexSet<&'a [u8]>, StimFault>
-    ensures ok { (code : List ℕ) → IfOk result (λ codes. is_known codes code ≡ list_any (λ v. bytes_eq code v.code) (variables all.now)) }
+/// The codes of variables, without sources.
+fn codes_of<'a>(
+    alloc: Global,
+    all: &[Variable<'a>],
+) -> Result<IndexMap<&'a [u8], Option<usize>>, StimFault>
+    ensures known { (code : List ℕ) → IfOk result (λ codes. is_some (found_in codes code) ≡ list_any (λ v. bytes_eq code v.code) (variables all.now)) }
+    ensures none { (code : List ℕ) → IfOk result (λ codes. flat (found_in codes code) ≡ None) }
     ensures err { IfErr result (λ e. e ≡ out_of_memory) }
 {
-    let mut codes = IndexSet::new(alloc);
+    let mut codes = IndexMap::new(alloc);
     for variable in all {
-        codes.insert(variable.code)?;
-    }
-    Ok(codes)
-}
-
-/// Takes in the code of a net, if it has one.
-fn use_code<'a>(codes: &mut IndexSet<&'a [u8]>, taken: Option<&'a [u8]>) -> Result<(), StimFault>
-    ensures ok { (code : List ℕ) → OnOk result (is_known codes.new code ≡ (is_known codes.old code || is_code_of (bytes_of taken.entry) code)) }
-    ensures err { IfErr result (λ e. e ≡ out_of_memory) }
-{
-    if let Some(code) = taken {
-        codes.insert(code)?;
-    }
-    Ok(())
-}
-
-/// The codes that nets take.
-fn used_by<'a>(alloc: Global, nets: &[Option<&'a [u8]>]) -> Result<IndexSet<&'a [u8]>, StimFault>
-    ensures ok { (code : List ℕ) → IfOk result (λ codes. is_known codes code ≡ is_used (codes_in nets.now) code) }
-    ensures err { IfErr result (λ e. e ≡ out_of_memory) }
-{
-    let mut codes = IndexSet::new(alloc);
-    for taken in nets {
-        use_code(&mut codes, *taken)?;
+        codes.insert(variable.code, None)?;
     }
     Ok(codes)
 }
 
 impl<'a> KnownCodes<'a> {
-    /// The codes of variables, and those that nets take.
+    /// The last source of a code.
+    fn last_of(&self, code: &[u8]) -> Option<usize>
+        ensures { result ≡ flat (found_in self.now.last code.now) }
+    {
+        match self.last.get(code) {
+            Some(last) => *last,
+            None => None,
+        }
+    }
+
+    /// Keeps a source that isn't kept yet, behind the last one of its code.
+    fn add(&mut self, source: Source<'a>) -> Result<(), StimFault>
+        requires linked { IsLinked self.old }
+        requires new { is_taken self.old.used (source_of source) ≡ false }
+        ensures ok { OnOk result (Takes self.old self.new (Some (source_of source.entry))) }
+        ensures err { IfErr result (λ e. e ≡ out_of_memory) }
+    {
+        let last = self.last_of(source.code);
+        self.before.push(last)?;
+        self.last.insert(source.code, Some(self.used.len()))?;
+        self.used.insert(source)?;
+        Ok(())
+    }
+
+    /// Keeps the source of a net, if it has one and it isn't kept already.
+    fn put(&mut self, taken: Option<Source<'a>>) -> Result<(), StimFault>
+        requires { IsLinked self.old }
+        ensures ok { OnOk result (Takes self.old self.new (source_by taken.entry)) }
+        ensures err { IfErr result (λ e. e ≡ out_of_memory) }
+    {
+        match taken {
+            Some(source) => {
+                if self.used.contains(&source) {
+                    return Ok(());
+                }
+                self.add(source)
+            }
+            None => Ok(()),
+        }
+    }
+
+    /// The codes of variables, and the sources that nets take.
     pub fn of(
         alloc: Global,
         all: &[Variable<'a>],
-        nets: &[Option<&'a [u8]>],
+        nets: &[Option<Source<'a>>],
     ) -> Result<KnownCodes<'a>, StimFault>
-        ensures all { (code : List ℕ) → IfOk result (λ known. is_known known.all code ≡ list_any (λ v. bytes_eq code v.code) (variables all.now)) }
-        ensures used { (code : List ℕ) → IfOk result (λ known. is_known known.used code ≡ is_used (codes_in nets.now) code) }
+        ensures linked { IfOk result IsLinked }
+        ensures all { (code : List ℕ) → IfOk result (λ known. knows known code ≡ (list_any (λ v. bytes_eq code v.code) (variables all.now) || is_used (sources_by nets.now) code)) }
+        ensures used { (s : TextSource) → IfOk result (λ known. is_taken known.used s ≡ takes (sources_by nets.now) s) }
         ensures err { IfErr result (λ e. e ≡ out_of_memory) }
     {
-        let all = codes_of(alloc, all)?;
-        let used = used_by(alloc, nets)?;
-        Ok(KnownCodes { all, used })
+        let mut known = KnownCodes {
+            used: IndexSet::new(alloc),
+            last: codes_of(alloc, all)?,
+            before: Vec::new(alloc),
+        };
+        for taken in nets {
+            known.put(*taken)?;
+        }
+        Ok(known)
     }
 }

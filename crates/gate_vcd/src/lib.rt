@@ -2,13 +2,14 @@
 //!
 //! [`read_stimulus`] answers what a stimulus text gives the inputs of a circuit, or its first fault, with
 //! its place. [`Waves`] hold the changes of every net, and [`write_vcd`] writes them as the one text of a
-//! dump into a [`Sink`]. The definitions stand in `specs/`: `Tokens`, `Declarations`, `Changes`, `Inputs`
-//! and `Stimulus` for what is read, `Codes`, `Waves` and `Dump` for what is written.
+//! dump into a [`Sink`]. The definitions stand in `specs/`: `Tokens`, `Declarations`, `Changes`, `Vectors`,
+//! `Inputs` and `Stimulus` for what is read, `Codes`, `Waves` and `Dump` for what is written.
 #![tactic(auto)]
 
 mod changes;
 mod codes;
 mod declarations;
+mod digits;
 mod dump;
 #[cfg(test)]
 mod dump_tests;
@@ -27,11 +28,15 @@ mod reading;
 mod real_dump_tests;
 mod scopes;
 mod sink;
+mod source;
 mod stimulus;
 #[cfg(test)]
 mod stimulus_tests;
 mod timescale;
 mod variable;
+#[cfg(test)]
+mod vector_tests;
+mod vectors;
 mod waves;
 mod words;
 #[cfg(test)]

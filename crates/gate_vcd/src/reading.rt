@@ -6,6 +6,7 @@ use crate::declarations::read_declarations;
 use crate::fault::StimFault;
 use crate::inputs::{inputs_of, numbers_of};
 use crate::known::KnownCodes;
+use crate::source::Source;
 use crate::stimulus::Stimulus;
 use crate::words::Words;
 use gate_netlist::Circuit;
@@ -29,12 +30,12 @@ pub fn read_stimulus(alloc: Global, text: &[u8], circuit: &Circuit) -> Result<St
     Ok(Stimulus::new(declared.timescale, lists, list_of))
 }
 
-/// The codes of nets, none where some input has none.
-fn found<'v, 'a>(inputs: &'v Result<Vec<Option<&'a [u8]>>, StimFault>) -> &'v [Option<&'a [u8]>]
-    ensures { MatchResult inputs.now (λ codes. result.now ≡ codes.items) (λ e. result.now ≡ []) }
+/// The sources of nets, none where some input has none.
+fn found<'v, 'a>(inputs: &'v Result<Vec<Option<Source<'a>>>, StimFault>) -> &'v [Option<Source<'a>>]
+    ensures { MatchResult inputs.now (λ sources. result.now ≡ sources.items) (λ e. result.now ≡ []) }
 {
     match inputs {
-        Ok(codes) => codes.as_slice(),
+        Ok(sources) => sources.as_slice(),
         Err(_) => &[],
     }
 }

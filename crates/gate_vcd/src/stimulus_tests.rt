@@ -14,7 +14,7 @@ fn circuit(alloc: Global, bench: &[u8], settings: &[u8]) -> Result<Circuit, Fail
     Ok(Circuit::of(alloc, bench, settings)?)
 }
 
-fn stimulus(alloc: Global, bench: &[u8], text: &[u8]) -> Result<Stimulus, Fail> {
+pub fn stimulus(alloc: Global, bench: &[u8], text: &[u8]) -> Result<Stimulus, Fail> {
     let circuit = circuit(alloc, bench, b"")?;
     Ok(read_stimulus(alloc, text, &circuit)?)
 }
@@ -35,8 +35,8 @@ fn is_refused(
     }
 }
 
-/// The values of net 0 at the times 0, 1, 2 and so on, a letter each.
-fn has_values(stimulus: &Stimulus, net: u32, values: &[u8]) -> bool {
+/// The values of a net at the times 0, 1, 2 and so on, a letter each.
+pub fn has_values(stimulus: &Stimulus, net: u32, values: &[u8]) -> bool {
     values.iter().enumerate().all(|(time, letter)| {
         let value = match letter {
             b'0' => Logic::Zero,
@@ -48,7 +48,7 @@ fn has_values(stimulus: &Stimulus, net: u32, values: &[u8]) -> bool {
     })
 }
 
-fn assert_refusals(
+pub fn assert_refusals(
     rt: &impl Abort,
     alloc: Global,
     rows: &[(&[u8], &[u8], u64, StimCause)],

@@ -2,14 +2,14 @@ ghost use Rattle.std.specs.Prelude.{◌≡◌, IfErr, IfOk};
 ghost use Rattle.std.specs.List.{concat};
 ghost use Rattle.gate_vcd.specs.declared.fault.StimCause.TheVariants as causes;
 ghost use Rattle.gate_vcd.specs.Commands.{variable};
-ghost use Rattle.gate_vcd.specs.Declarations.{is_code, is_single, is_unvalued, unescaped, variable_of};
+ghost use Rattle.gate_vcd.specs.Declarations.{is_code, is_unvalued, unescaped, variable_of};
 ghost use Rattle.gate_vcd.specs.Faults.{out_of_memory};
 ghost use Rattle.gate_vcd.specs.Reading.{Gives, or_fault};
 ghost use Rattle.gate_vcd.specs.Words.{texts, token_of};
 
 use crate::fault::{StimCause, StimFault};
 use crate::keyword::{begins, is_word};
-use crate::numbers::{is_numeral, number_up_to};
+use crate::numbers::is_numeral;
 use crate::words::Word;
 use std::alloc::Global;
 
@@ -19,8 +19,10 @@ pub struct Variable<'a> {
     /// Its reference text, without a backslash at its beginning.
     pub reference: Vec<u8>,
     pub code: &'a [u8],
-    /// Its size is 1, and its type isn't `real`, `realtime` or `string`.
-    pub single: bool,
+    /// How many bits it has, in decimal digits.
+    pub size: &'a [u8],
+    /// Its type isn't `real`, `realtime` or `string`.
+    pub valued: bool,
     /// It stands in the scope that is asked for.
     pub counted: bool,
 }
@@ -47,12 +49,6 @@ fn is_unvalued(kind: &[u8]) -> bool
     ensures { result ≡ is_unvalued kind.now }
 {
     is_word(kind, b"real") || is_word(kind, b"realtime") || is_word(kind, b"string")
-}
-
-fn is_single(kind: &[u8], size: &[u8]) -> bool
-    ensures { result ≡ is_single kind.now size.now }
-{
-    number_up_to(1, size) == Some(1) && !is_unvalued(kind)
 }
 
 /// The text without a backslash at its beginning.
@@ -83,7 +79,8 @@ pub fn variable_of<'a>(
             Ok(Variable {
                 reference,
                 code,
-                single: is_single(kind, size),
+                size,
+                valued: !is_unvalued(kind),
                 counted,
             })
         }

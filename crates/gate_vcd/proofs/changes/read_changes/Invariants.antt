@@ -1,6 +1,6 @@
 use Rattle.std.proofs.Common.{length}
 use Rattle.gate_vcd.specs.Changes.{events_from, items, nothing}
-use Rattle.gate_vcd.specs.Items.{knows}
+use Rattle.gate_vcd.specs.Known.{knows}
 use Rattle.gate_vcd.specs.Lists.{lists_in}
 use Rattle.gate_vcd.proofs.ItemLaws.{GoesOn}
 use Rattle.gate_vcd.proofs.changes.read_changes.Given as goal

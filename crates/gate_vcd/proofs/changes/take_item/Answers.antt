@@ -1,5 +1,5 @@
 use Rattle.std.proofs.lemmas.Result.{err_from_is_err_and}
-use Rattle.gate_vcd.specs.Words.{token_of}
+use Rattle.gate_vcd.specs.Words.{bytes_of, token_of}
 use Rattle.gate_vcd.specs.Lists.{lists_in}
 use Rattle.gate_vcd.proofs.ItemLaws.{takes-stamp, takes-change, refuses-change}
 use Rattle.gate_vcd.proofs.changes.take_item.Goals as goal
@@ -10,9 +10,9 @@ returns-in-Stamp c es others kept =
 
 pub returns-in_ok-take_change-in-Change : goal.returns-in_ok-take_change-in-Change
 returns-in_ok-take_change-in-Change c es others kept =
-    rw c.in-Change.is (takes-change c.args.codes.now c.args.now (token_of c.in-Change.first) c.in-Change.code.now c.in-Change.value others es (lists_in c.take_change.new.lists.items) (c.in_ok-take_change-in-Change.ensures es kept))
+    rw c.in-Change.is (takes-change c.args.codes.now c.args.now (token_of c.in-Change.first) c.in-Change.code.now (bytes_of c.in-Change.digits) others es (lists_in c.take_change.new.lists.items) (c.in_ok-take_change-in-Change.ensures es kept))
 
 pub returns-in_err-take_change-in-Change : goal.returns-in_err-take_change-in-Change
 returns-in_err-take_change-in-Change c es others kept =
     let p = err_from_is_err_and c.from_residual.result c.from_residual.ensures.1 in
-    rw (p.1, p.2, c.in-Change.is) (refuses-change c.args.codes.now c.args.now (token_of c.in-Change.first) c.in-Change.code.now c.in-Change.value others es (lists_in c.take_change.new.lists.items) _ (c.in_err-take_change-in-Change.ensures es kept))
+    rw (p.1, p.2, c.in-Change.is) (refuses-change c.args.codes.now c.args.now (token_of c.in-Change.first) c.in-Change.code.now (bytes_of c.in-Change.digits) others es (lists_in c.take_change.new.lists.items) _ (c.in_err-take_change-in-Change.ensures es kept))

@@ -1,7 +1,8 @@
 use Rattle.std.proofs.Common.{◌≡◌, take}
-use Rattle.gate_vcd.specs.Scalars.{codes_in, numbers_of}
+use Rattle.gate_vcd.specs.Known.{sources_by}
+use Rattle.gate_vcd.specs.Scalars.{numbers_of}
 use Rattle.gate_vcd.proofs.inputs.numbers_of.Given as goal
 
 -- the numbers of the nets so far
-abbrev pub invariant-loop-code : goal.invariant-loop-code
-invariant-loop-code l = l.numbers.items ≡ numbers_of l.used (codes_in (take l.code-index l.nets))
+abbrev pub invariant-loop-source : goal.invariant-loop-source
+invariant-loop-source l = l.numbers.items ≡ numbers_of l.used (sources_by (take l.source-index l.nets))

@@ -7,9 +7,8 @@ use Rattle.gate_vcd.specs.Commands.{variables}
 use Rattle.gate_vcd.specs.Declarations.{Header}
 use Rattle.gate_vcd.specs.Changes.{items, nothing}
 use Rattle.gate_netlist.specs.Circuit.{nets_of}
-use Rattle.gate_vcd.specs.Inputs.{codes_below}
-use Rattle.gate_vcd.specs.Items.{knows}
-use Rattle.gate_vcd.specs.Scalars.{codes_in}
+use Rattle.gate_vcd.specs.Inputs.{sources_below}
+use Rattle.gate_vcd.specs.Known.{knows, source, sources_by}
 use Rattle.gate_vcd.specs.Stimulus.{has_code}
 use Rattle.gate_vcd.proofs.Meaning.{declared-fails, changes-fail, inputs-fail, reads, means, laid, declared-read, known-codes, events-fail, events-read}
 use Rattle.gate_vcd.proofs.reading.read_stimulus.Goals as goal
@@ -30,7 +29,7 @@ returns-in_err-lists c =
     let read = declared-read c.args.circuit.now c.args.text.now _ _ (λ (r : Read). r ≡ Ok (h, c.read_declarations.new.words)) c.asked_scope.ensures c.new-words.ensures declared in
     let first : variables c.deref.result.now ≡ h.variables = ap variables c.deref.ensures.value ∙ is.variables in
     let second : variables c.deref-2.result.now ≡ h.variables = ap variables c.deref-2.ensures.value ∙ is.variables in
-    let known = known-codes c.args.circuit.now h.variables c.in_ok-codes.codes c.in_ok-inputs.inputs c.found.result.now (rw (← second) c.in_ok-codes.ensures.all) c.in_ok-codes.ensures.used (rw (← first) c.in_ok-inputs.ensures.ok) c.found.ensures in
+    let known = known-codes c.args.circuit.now h.variables c.in_ok-codes.codes c.in_ok-inputs.inputs c.found.result.now (rw (← second) c.in_ok-codes.ensures.all) (rw (← first) c.in_ok-inputs.ensures.ok) c.found.ensures in
     rw (p.1, p.2) (changes-fail c.args.text.now c.args.circuit.now _ h c.read_declarations.new.words read
     (events-fail (knows c.in_ok-codes.codes) (has_code h.variables) (items nothing c.read_declarations.new.words) _ known c.in_err-lists.ensures))
 
@@ -41,7 +40,7 @@ returns-in_err-taken c =
     let read = declared-read c.args.circuit.now c.args.text.now _ _ (λ (r : Read). r ≡ Ok (h, c.read_declarations.new.words)) c.asked_scope.ensures c.new-words.ensures declared in
     let first : variables c.deref.result.now ≡ h.variables = ap variables c.deref.ensures.value ∙ is.variables in
     let second : variables c.deref-2.result.now ≡ h.variables = ap variables c.deref-2.ensures.value ∙ is.variables in
-    let known = known-codes c.args.circuit.now h.variables c.in_ok-codes.codes c.in_ok-inputs.inputs c.found.result.now (rw (← second) c.in_ok-codes.ensures.all) c.in_ok-codes.ensures.used (rw (← first) c.in_ok-inputs.ensures.ok) c.found.ensures in
+    let known = known-codes c.args.circuit.now h.variables c.in_ok-codes.codes c.in_ok-inputs.inputs c.found.result.now (rw (← second) c.in_ok-codes.ensures.all) (rw (← first) c.in_ok-inputs.ensures.ok) c.found.ensures in
     let (es, now, events, kept) = c.in_ok-lists.ensures in
     rw (p.1, p.2) (inputs-fail c.args.text.now c.args.circuit.now _ h c.read_declarations.new.words es read
     (events-read (knows c.in_ok-codes.codes) (has_code h.variables) (items nothing c.read_declarations.new.words) es known events)
@@ -53,7 +52,7 @@ new-requires c =
     let first : variables c.deref.result.now ≡ h.variables = ap variables c.deref.ensures.value ∙ is.variables in
     let (es, now, events, kept) = c.in_ok-lists.ensures in
     let shown : c.found.result.now ≡ c.in_ok-taken.taken.items = rw c.in_ok-taken.was at c.found.ensures in
-    laid c.args.circuit.now h c.in_ok-codes.codes.used c.in_ok-lists.lists.items c.in_ok-list_of.list_of.items es now (codes_in c.in_ok-taken.taken.items) (rw (← shown) c.in_ok-codes.ensures.used) kept (rw c.deref-3.ensures.value at c.in_ok-list_of.ensures.ok)
+    laid c.args.circuit.now h c.in_ok-codes.codes.used c.in_ok-lists.lists.items c.in_ok-list_of.list_of.items es now (sources_by c.in_ok-taken.taken.items) (rw (← shown) c.in_ok-codes.ensures.used) kept (rw c.deref-3.ensures.value at c.in_ok-list_of.ensures.ok)
     (rw (← first) (rw c.in_ok-taken.was at c.in_ok-inputs.ensures.ok)) c.law.ensures.drivers
 
 pub returns : goal.returns
@@ -62,12 +61,12 @@ returns c =
     let read = declared-read c.args.circuit.now c.args.text.now _ _ (λ (r : Read). r ≡ Ok (h, c.read_declarations.new.words)) c.asked_scope.ensures c.new-words.ensures declared in
     let first : variables c.deref.result.now ≡ h.variables = ap variables c.deref.ensures.value ∙ is.variables in
     let second : variables c.deref-2.result.now ≡ h.variables = ap variables c.deref-2.ensures.value ∙ is.variables in
-    let known = known-codes c.args.circuit.now h.variables c.in_ok-codes.codes c.in_ok-inputs.inputs c.found.result.now (rw (← second) c.in_ok-codes.ensures.all) c.in_ok-codes.ensures.used (rw (← first) c.in_ok-inputs.ensures.ok) c.found.ensures in
+    let known = known-codes c.args.circuit.now h.variables c.in_ok-codes.codes c.in_ok-inputs.inputs c.found.result.now (rw (← second) c.in_ok-codes.ensures.all) (rw (← first) c.in_ok-inputs.ensures.ok) c.found.ensures in
     let (es, now, events, kept) = c.in_ok-lists.ensures in
     let shown : c.found.result.now ≡ c.in_ok-taken.taken.items = rw c.in_ok-taken.was at c.found.ensures in
-    let below : codes_below c.args.circuit.now h.variables (nets_of c.args.circuit.now) ≡ Ok (codes_in c.in_ok-taken.taken.items) = rw (← first) (rw c.in_ok-taken.was at c.in_ok-inputs.ensures.ok) in (
-      record { timescale = h.timescale; events = es; codes = codes_in c.in_ok-taken.taken.items },
-      reads c.args.text.now c.args.circuit.now h c.read_declarations.new.words es (codes_in c.in_ok-taken.taken.items) read (events-read (knows c.in_ok-codes.codes) (has_code h.variables) (items nothing c.read_declarations.new.words) es known events) below,
-      rw (c.new.ensures, is.timescale) (means c.args.circuit.now h c.in_ok-codes.codes.used c.in_ok-lists.lists.items c.in_ok-list_of.list_of.items es now (codes_in c.in_ok-taken.taken.items) (rw (← shown) c.in_ok-codes.ensures.used) kept
+    let below : sources_below c.args.circuit.now h.variables (nets_of c.args.circuit.now) ≡ Ok (sources_by c.in_ok-taken.taken.items) = rw (← first) (rw c.in_ok-taken.was at c.in_ok-inputs.ensures.ok) in (
+      record { timescale = h.timescale; events = es; sources = sources_by c.in_ok-taken.taken.items },
+      reads c.args.text.now c.args.circuit.now h c.read_declarations.new.words es (sources_by c.in_ok-taken.taken.items) read (events-read (knows c.in_ok-codes.codes) (has_code h.variables) (items nothing c.read_declarations.new.words) es known events) below,
+      rw (c.new.ensures, is.timescale) (means c.args.circuit.now h c.in_ok-codes.codes.used c.in_ok-lists.lists.items c.in_ok-list_of.list_of.items es now (sources_by c.in_ok-taken.taken.items) (rw (← shown) c.in_ok-codes.ensures.used) kept
           (rw c.deref-3.ensures.value at c.in_ok-list_of.ensures.ok) below c.law.ensures.drivers),
     )

@@ -1,6 +1,6 @@
 use Rattle.std.proofs.Common.{◌≡◌, ◌∙◌, sym, refl, true}
 use Rattle.gate_netlist.specs.Circuit.{driver_of, is_input}
-use Rattle.gate_vcd.proofs.inputs.code_of_net.Goals as goal
+use Rattle.gate_vcd.proofs.inputs.source_of_net.Goals as goal
 
 pub returns-in-Ok : goal.returns-in-Ok
 returns-in-Ok c =

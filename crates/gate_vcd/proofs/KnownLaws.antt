@@ -1,0 +1,135 @@
+-- The sources that are kept, one more at a time.
+use Rattle.std.proofs.Common.{◌≡◌, ℕ, zero, suc, ◌+◌, ◌<◌, ◌≤◌, Bool, true, false, cond, ◌&&◌, ◌||◌, nat_eq, List, [], ◌∷◌, ◌++◌, length, map, take, get_or, slice_get, Option, Some, None, is_some, Bor, refl, ap, sym, ◌∙◌, arith, length-append, inl, inr}
+use Rattle.std.proofs.Math.Seq.{get_or-append_seam}
+use Rattle.std.proofs.Math.ListN.{get_or-append}
+use Rattle.std.proofs.lemmas.List.{length-map, map-append}
+use Rattle.std.specs.Str.{bytes_eq}
+use Rattle.std.specs.List.{list_any}
+use Rattle.gate_vcd.specs.Changes.{Source}
+use Rattle.gate_vcd.specs.declared.known.KnownCodes.{KnownCodes}
+use Rattle.gate_vcd.specs.declared.source.Source.{Source as Held}
+use Rattle.gate_vcd.specs.Known.{AreLinked, IsLinked, Takes, flat, found_in, is_of, is_taken, knows, last_below, same_source, source, source_by, sources_by, sources_in}
+use Rattle.gate_vcd.proofs.Compared.{cases_eq}
+use Rattle.gate_vcd.proofs.Keeping.{same_bytes}
+use Rattle.gate_vcd.proofs.InputLaws.{any-more, more_taken, one_code, same_sources, turned}
+use Rattle.gate_vcd.proofs.Links.{slice_get-front, slice_get-end, slice_get-within, last_below-front, last_below-last}
+use Rattle.std.proofs.lemmas.Option.{same_Some}
+
+-- one source more is linked behind the last one of its code
+pub linked-more : (old new : List ℕ → Option (Option ℕ)) (before more : List (Option ℕ)) (sources all : List Source) (s : Source) → AreLinked (λ code. flat (old code)) before sources
+    → all ≡ sources ++ s ∷ [] → more ≡ before ++ flat (old s.code) ∷ []
+    → ((code : List ℕ) → new code ≡ cond (bytes_eq s.code code) (Some (Some (length sources))) (old code)) → AreLinked (λ code. flat (new code)) more all
+linked-more old new before more sources all s law ea em found = rw (ea, em) (record {
+  count = length-append before (flat (old s.code) ∷ []) ∙ ap (λ n. n + 1) law.count ∙ sym (length-append sources (s ∷ []));
+  ends = ends;
+  links = links;
+})
+  where
+    one : length (sources ++ s ∷ []) ≡ suc (length sources)
+    one = omega (arith, length-append sources (s ∷ []))
+
+    ends : (code : List ℕ) → flat (new code) ≡ last_below (is_of code) (sources ++ s ∷ []) (length (sources ++ s ∷ []))
+    ends code = rw (one, slice_get-end sources s, found code) (go (bytes_eq s.code code))
+      where
+        go : (b : Bool) → flat (cond b (Some (Some (length sources))) (old code)) ≡ cond b (Some (length sources)) (last_below (is_of code) (sources ++ s ∷ []) (length sources))
+        go true = refl
+        go false = law.ends code ∙ sym (last_below-front (is_of code) sources s (length sources) (omega arith))
+
+    links : (k : ℕ) (x : Source) → slice_get (sources ++ s ∷ []) k ≡ Some x → get_or (before ++ flat (old s.code) ∷ []) k None ≡ last_below (is_of x.code) (sources ++ s ∷ []) k
+    links k x at = elim (cases_eq k (length sources)) [
+      | inl e ↦ (let own : s ≡ x = same_Some s x (sym (slice_get-end sources s) ∙ ap (slice_get (sources ++ s ∷ [])) (sym e) ∙ at) in
+          rw (e, ← own, last_below-front (is_of s.code) sources s (length sources) (omega arith), ← law.count) (get_or-append_seam before (flat (old s.code)) [] None ∙ law.ends s.code ∙ ap (last_below (is_of s.code) sources) (sym law.count)))
+      | inr n ↦ (let lall : k < length (sources ++ s ∷ []) = slice_get-within (sources ++ s ∷ []) k x at in
+          let l : k < length sources = omega (arith, one) in
+          let lb : k < length before = omega (arith, law.count) in
+          rw (last_below-front (is_of x.code) sources s k (omega arith), get_or-append before (flat (old s.code) ∷ []) None k lb) (law.links k x (sym (slice_get-front sources s k l) ∙ at)))
+    ]
+
+any-none : {X : Type 0} (p : X → Bool) (xs : List X) → ((k : ℕ) (x : X) → slice_get xs k ≡ Some x → p x ≡ false) → list_any p xs ≡ false
+any-none p [] h = refl
+any-none p (x ∷ xs) h = rw (h 0 x refl) (any-none p xs (λ k y at. h (suc k) y at))
+
+-- a code of a source has a last one
+some-last : (p : Source → Bool) (sources : List Source) → list_any p sources ≡ true → is_some (last_below p sources (length sources)) ≡ true
+some-last p sources e = go (last_below p sources (length sources)) refl
+  where
+    go : (o : Option ℕ) → last_below p sources (length sources) ≡ o → is_some o ≡ true
+    go (Some k) h = refl
+    go None h =
+        let none : list_any p sources ≡ false = any-none p sources (λ k x at. last_below-last p sources (length sources) None k x h (omega arith) (slice_get-within sources k x at) at) in
+        let bad : true ≡ false = sym e ∙ none in
+        cc
+
+some-flat : (o : Option (Option ℕ)) → is_some (flat o) ≡ true → is_some o ≡ true
+some-flat None e = e
+some-flat (Some o) e = refl
+
+any-mapped : {X Y : Type 0} (p : Y → Bool) (f : X → Y) (xs : List X) → list_any p (map f xs) ≡ list_any (λ x. p (f x)) xs
+any-mapped p f [] = refl
+any-mapped p f (x ∷ xs) = ap (λ b. p (f x) || b) (any-mapped p f xs)
+
+any-weaker : {X : Type 0} (p q : X → Bool) (xs : List X) → ((x : X) → p x ≡ true → q x ≡ true) → list_any p xs ≡ true → list_any q xs ≡ true
+any-weaker p q [] h e = e
+any-weaker p q (x ∷ xs) h e = go (p x) refl e (any-weaker p q xs h)
+  where
+    go : (b : Bool) → p x ≡ b → (b || list_any p xs) ≡ true → (list_any p xs ≡ true → list_any q xs ≡ true) → (q x || list_any q xs) ≡ true
+    go true t k ih = rw (h x t) refl
+    go false t k ih = rw (ih k) (elim (q x) as (λ b. (b || true) ≡ true) [ true ↦ refl | false ↦ refl ])
+
+-- what is true already
+already : (a b : Bool) → (b ≡ true → a ≡ true) → a ≡ (a || b)
+already true b f = refl
+already false true f = f refl
+already false false f = refl
+
+same_codes : (s k : Source) → same_source s k ≡ true → bytes_eq k.code s.code ≡ true
+same_codes s k e = go (bytes_eq s.code k.code) refl e
+  where
+    go : (b : Bool) → bytes_eq s.code k.code ≡ b → (b && nat_eq s.place k.place) ≡ true → bytes_eq k.code s.code ≡ true
+    go true t h = turned k.code s.code ∙ t
+    go false t h = cc
+
+-- a source that is kept already
+pub takes-same : (known : KnownCodes) (s : Source) → IsLinked known → is_taken known.used s ≡ true → Takes known known (Some s)
+takes-same known s law taken = record {
+  linked = law;
+  codes = λ code. already (knows known code) (is_of code s) (of_code code);
+  used = λ q. already (is_taken known.used q) (same_source q s) (λ e. rw (same_sources q s e) taken);
+}
+  where
+    of_code : (code : List ℕ) → bytes_eq s.code code ≡ true → knows known code ≡ true
+    of_code code e =
+        let same : s.code ≡ code = same_bytes s.code code e in
+        let some : list_any (is_of s.code) (sources_in known) ≡ true = any-mapped (is_of s.code) source known.used.keys ∙ any-weaker (λ k. same_source s (source k)) (λ k. is_of s.code (source k)) known.used.keys (λ k. same_codes s (source k)) taken in
+        rw (← same) (some-flat (found_in known.last s.code) (ap is_some (law.ends s.code) ∙ some-last (is_of s.code) (sources_in known) some))
+
+-- one that is kept now
+pub takes-more : (old new : KnownCodes) (s : Held) → IsLinked old → new.used.keys ≡ old.used.keys ++ s ∷ [] → new.before.items ≡ old.before.items ++ flat (found_in old.last s.code.now) ∷ []
+    → ((code : List ℕ) → found_in new.last code ≡ cond (bytes_eq s.code.now code) (Some (Some (length old.used.keys))) (found_in old.last code)) → Takes old new (Some (source s))
+takes-more old new s law ek eb found = record {
+  linked = linked-more (found_in old.last) (found_in new.last) old.before.items new.before.items (sources_in old) (sources_in new) (source s) law (ap (map source) ek ∙ map-append source old.used.keys (s ∷ [])) eb
+      (λ code. rw (length-map old.used.keys source) (found code));
+  codes = λ code. rw (found code) (one_code s.code.now code (Some (length old.used.keys)) (found_in old.last code));
+  used = λ q. ap (list_any (λ k. same_source q (source k))) ek ∙ any-more (λ k. same_source q (source k)) old.used.keys s;
+}
+
+or_none : (b : Bool) → b ≡ (b || false)
+or_none true = refl
+or_none false = refl
+
+-- a net that takes none
+pub takes-none : (known : KnownCodes) → IsLinked known → Takes known known None
+takes-none known law = record { linked = law; codes = λ code. or_none (knows known code); used = λ q. or_none (is_taken known.used q) }
+
+or_assoc : (a b c : Bool) → ((a || b) || c) ≡ (a || (b || c))
+or_assoc true b c = refl
+or_assoc false b c = refl
+
+-- the nets so far with one more
+pub codes-next : (l : Bool) (p : Option Source → Bool) (nets : List (Option Held)) (i : ℕ) (old new : Bool) → i < length nets → old ≡ (l || list_any p (sources_by (take i nets))) → new ≡ (old || p (source_by (get_or nets i None)))
+    → new ≡ (l || list_any p (sources_by (take (i + 1) nets)))
+codes-next l p nets i old new h eo en = rw (more_taken p nets i h, en, eo) (or_assoc l (list_any p (sources_by (take i nets))) (p (source_by (get_or nets i None))))
+
+pub sources-next : (p : Option Source → Bool) (nets : List (Option Held)) (i : ℕ) (old new : Bool) → i < length nets → old ≡ list_any p (sources_by (take i nets)) → new ≡ (old || p (source_by (get_or nets i None)))
+    → new ≡ list_any p (sources_by (take (i + 1) nets))
+sources-next p nets i old new h eo en = rw (more_taken p nets i h, en, eo) refl

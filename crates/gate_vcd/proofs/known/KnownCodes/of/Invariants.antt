@@ -1,0 +1,15 @@
+use Rattle.std.proofs.Common.{◌≡◌, ℕ, List, ◌||◌, take}
+use Rattle.std.specs.List.{list_any}
+use Rattle.std.specs.Str.{bytes_eq}
+use Rattle.gate_vcd.specs.Changes.{Source}
+use Rattle.gate_vcd.specs.Commands.{variables}
+use Rattle.gate_vcd.specs.Known.{IsLinked, is_used, is_taken, knows, sources_by, takes}
+use Rattle.gate_vcd.proofs.known.KnownCodes.of.Given as goal
+
+-- the sources of the nets so far are kept
+abbrev pub invariant-loop-taken : goal.invariant-loop-taken
+invariant-loop-taken l = record {
+  linked : IsLinked l.known;
+  all : (code : List ℕ) → knows l.known code ≡ (list_any (λ v. bytes_eq code v.code) (variables l.all) || is_used (sources_by (take l.taken-index l.nets)) code);
+  used : (s : Source) → is_taken l.known.used s ≡ takes (sources_by (take l.taken-index l.nets)) s;
+}

@@ -1,0 +1,86 @@
+-- What a reader of changes keeps of the codes of a text.
+use Rattle.std.specs.Prelude.{◌≡◌, ℕ, zero, suc, Bool, false, ◌&&◌, ◌||◌, nat_eq, if◌then◌else◌, List, length, map, get_or, slice_get, position, Option, Some, None, is_some, option_map, option_and_then}
+use Rattle.std.specs.Option.{option_map_or}
+use Rattle.std.specs.Borrow.{Bor}
+use Rattle.std.specs.List.{list_any}
+use Rattle.std.specs.Str.{bytes_eq}
+use Rattle.std.specs.declared.hash.FoldHasher.{FoldHasher}
+use Rattle.std.specs.declared.hash.BuildHasherDefault.{BuildHasherDefault}
+use Rattle.indexmap.specs.IndexSet.{IndexSet}
+use Rattle.indexmap.specs.IndexMap.{IndexMap, get_by}
+use Rattle.gate_vcd.specs.declared.source.Source.{Source as Held}
+use Rattle.gate_vcd.specs.declared.known.KnownCodes.{KnownCodes}
+use Rattle.gate_vcd.specs.Changes.{Source}
+
+-- a source, without where it lies in memory
+abbrev pub source : Held → Source
+source s = record { code = s.code.now; place = s.place }
+
+abbrev pub source_by : Option Held → Option Source
+source_by s = option_map source s
+
+abbrev pub same_source : Source → Source → Bool
+same_source a b = bytes_eq a.code b.code && nat_eq a.place b.place
+
+-- sources with numbers
+abbrev pub Sources : Type 0
+Sources = IndexSet Held (BuildHasherDefault FoldHasher)
+
+abbrev pub is_taken : Sources → Source → Bool
+is_taken sources s = list_any (λ k. same_source s (source k)) sources.keys
+
+abbrev pub number_of : Sources → Source → Option ℕ
+number_of sources s = position (λ k. same_source s (source k)) sources.keys
+
+-- of each code its last source
+abbrev pub Last : Type 0
+Last = IndexMap (Bor (List ℕ)) (Option ℕ) (BuildHasherDefault FoldHasher)
+
+abbrev pub found_in : Last → List ℕ → Option (Option ℕ)
+found_in last code = get_by (λ (k : Bor (List ℕ)). bytes_eq code k.now) last
+
+-- the last place below n that passes a test
+abbrev pub last_below : {X : Type 0} → (X → Bool) → List X → ℕ → Option ℕ
+last_below p xs zero = None
+last_below p xs (suc n) = if option_map_or p (slice_get xs n) false then Some n else last_below p xs n
+
+abbrev pub is_of : List ℕ → Source → Bool
+is_of code s = bytes_eq s.code code
+
+-- Each code refers to its last source, and each source to the one before it of the same code.
+pub record AreLinked (last : List ℕ → Option ℕ) (before : List (Option ℕ)) (sources : List Source) : Type 0 where
+  pub count : length before ≡ length sources
+  pub ends : (code : List ℕ) → last code ≡ last_below (is_of code) sources (length sources)
+  pub links : (k : ℕ) (s : Source) → slice_get sources k ≡ Some s → get_or before k None ≡ last_below (is_of s.code) sources k
+
+-- no code is joined with its absence
+abbrev pub flat : Option (Option ℕ) → Option ℕ
+flat o = option_and_then (λ x. x) o
+
+abbrev pub sources_in : KnownCodes → List Source
+sources_in known = map source known.used.keys
+
+-- some variable has the code
+abbrev pub knows : KnownCodes → List ℕ → Bool
+knows known code = is_some (found_in known.last code)
+
+abbrev pub IsLinked : KnownCodes → Type 0
+IsLinked known = AreLinked (λ code. flat (found_in known.last code)) known.before.items (sources_in known)
+
+-- some net takes its values from the code
+abbrev pub is_used : List (Option Source) → List ℕ → Bool
+is_used nets code = list_any (λ taken. option_map_or (is_of code) taken false) nets
+
+-- some net takes the source
+abbrev pub takes : List (Option Source) → Source → Bool
+takes nets s = list_any (λ taken. option_map_or (same_source s) taken false) nets
+
+-- sources, without where they lie in memory
+abbrev pub sources_by : List (Option Held) → List (Option Source)
+sources_by nets = map source_by nets
+
+-- what is kept, with the source of one net more
+pub record Takes (old new : KnownCodes) (taken : Option Source) : Type 0 where
+  pub linked : IsLinked new
+  pub codes : (code : List ℕ) → knows new code ≡ (knows old code || option_map_or (is_of code) taken false)
+  pub used : (s : Source) → is_taken new.used s ≡ (is_taken old.used s || option_map_or (same_source s) taken false)

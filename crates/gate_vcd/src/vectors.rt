@@ -1,0 +1,248 @@
+ghost use Rattle.std.specs.Prelude.{◌≡◌, ◌<◌, ◌∷◌, ℕ, List, length, position, option_map, nat_eq, Some, IfErr, IfOk, IfSome, OnOk};
+ghost use Rattle.std.specs.Path.{rfind_below};
+ghost use Rattle.gate_vcd.specs.Commands.{variable as variable_of, variables};
+ghost use Rattle.gate_vcd.specs.Declarations.{Variable as TextVariable};
+ghost use Rattle.gate_vcd.specs.Faults.{out_of_memory};
+ghost use Rattle.gate_vcd.specs.Inputs.{first_given, source_in};
+ghost use Rattle.gate_vcd.specs.Known.{source_by};
+ghost use Rattle.gate_vcd.specs.Scalars.{AreVectors, bit as bit_by, two_texts, vector as vector_in, vector_by};
+ghost use Rattle.gate_vcd.specs.Vectors.{bit_of, both, bracketed, index_in, is_between, is_plain, number_in, of_size, parted, parted_at, place_in, range_in, ranged, vector_of};
+
+use crate::fault::StimFault;
+use crate::keyword::{begins, is_word};
+use crate::numbers::{is_numeral, number_up_to};
+use crate::source::Source;
+use crate::variable::Variable;
+use indexmap::IndexMap;
+use std::alloc::Global;
+
+/// The greatest number of a bit.
+const LAST_BIT: u64 = 4_294_967_295;
+
+/// A vector: its base, and the numbers of its leftmost bit and of its rightmost one.
+#[derive(Clone, Copy, Debug)]
+pub struct Vector<'v> {
+    pub base: &'v [u8],
+    pub left: u64,
+    pub right: u64,
+}
+
+/// A bit: the base of the vectors that have it, and its number.
+#[derive(Clone, Copy, Debug)]
+pub struct Bit<'n> {
+    pub base: &'n [u8],
+    pub index: u64,
+}
+
+/// The number that a text of decimal digits writes, where it can be that of a bit.
+fn number_in(text: &[u8]) -> Option<u64>
+    ensures { result ≡ number_in text.now }
+{
+    if is_numeral(text) {
+        number_up_to(LAST_BIT, text)
+    } else {
+        None
+    }
+}
+
+/// Where the last `[` stands.
+fn last_bracket(text: &[u8]) -> Option<usize>
+    ensures place { result ≡ rfind_below 91 text.now (length text.now) }
+    ensures within { IfSome result (λ at. at < length text.now) }
+{
+    let mut at = text.len();
+    while at > 0 {
+        at -= 1;
+        if text[at] == b'[' {
+            return Some(at);
+        }
+    }
+    None
+}
+
+/// What stands before the last `[`, which isn't empty, and after it.
+fn parted(text: &[u8]) -> Option<(&[u8], &[u8])>
+    ensures { two_texts result ≡ parted text.now }
+{
+    match last_bracket(text) {
+        Some(at) if at > 0 => Some((&text[..at], &text[at + 1..])),
+        _ => None,
+    }
+}
+
+/// Of a text that ends with something in brackets, what stands before and in them.
+fn bracketed(text: &[u8]) -> Option<(&[u8], &[u8])>
+    ensures { two_texts result ≡ bracketed text.now }
+{
+    match text.strip_suffix(b"]") {
+        Some(short) => parted(short),
+        None => None,
+    }
+}
+
+/// Where the first colon stands.
+fn colon_in(text: &[u8]) -> Option<usize>
+    ensures { result ≡ position (λ b. nat_eq b 58) text.now }
+{
+    text.iter().position(|byte| *byte == b':')
+}
+
+/// The numbers of a range, parted by a colon.
+fn range_in(text: &[u8]) -> Option<(u64, u64)>
+    ensures { result ≡ range_in text.now }
+{
+    match colon_in(text) {
+        Some(at) => match (number_in(&text[..at]), number_in(&text[at + 1..])) {
+            (Some(left), Some(right)) => Some((left, right)),
+            _ => None,
+        },
+        None => None,
+    }
+}
+
+/// The vector that a reference text with a range names.
+fn ranged(text: &[u8]) -> Option<Vector<'_>>
+    ensures { vector_by result ≡ ranged text.now }
+{
+    let (base, inside) = bracketed(text)?;
+    let (left, right) = range_in(inside)?;
+    Some(Vector { base, left, right })
+}
+
+/// The vector that a variable is.
+fn vector_of<'v, 'a>(variable: &'v Variable<'a>) -> Option<Vector<'v>>
+    ensures { vector_by result ≡ vector_of (variable_of variable.now) }
+{
+    if !variable.counted || !variable.valued {
+        return None;
+    }
+    let size = number_up_to(LAST_BIT + 1, variable.size)?;
+    match ranged(variable.reference.as_slice()) {
+        Some(vector) if size == vector.left.abs_diff(vector.right) + 1 => Some(vector),
+        Some(_) => None,
+        None if size >= 2 && size <= LAST_BIT => Some(Vector {
+            base: variable.reference.as_slice(),
+            left: size - 1,
+            right: 0,
+        }),
+        None => None,
+    }
+}
+
+/// Whether digits have no leading zeros.
+fn is_plain(digits: &[u8]) -> bool
+    ensures { result ≡ is_plain digits.now }
+{
+    !begins(b"0", digits) || digits.len() == 1
+}
+
+fn index_in(text: &[u8]) -> Option<u64>
+    ensures { result ≡ index_in text.now }
+{
+    if is_plain(text) {
+        number_in(text)
+    } else {
+        None
+    }
+}
+
+/// The bit that the name of a net tells.
+pub fn bit_of(name: &[u8]) -> Option<Bit<'_>>
+    ensures { option_map bit_by result ≡ bit_of name.now }
+{
+    let (base, inside) = bracketed(name)?;
+    let index = index_in(inside)?;
+    Some(Bit { base, index })
+}
+
+fn is_between(left: u64, right: u64, index: u64) -> bool
+    ensures { result ≡ is_between left right index }
+{
+    left <= index && index <= right || right <= index && index <= left
+}
+
+/// Where the digit of a bit stands in those of a vector that has it, counted from the right and from 0.
+fn place_in(bit: Bit, vector: Vector) -> Option<u64>
+    ensures { result ≡ place_in (bit_by bit.entry) (vector_in vector.entry) }
+{
+    if is_word(bit.base, vector.base) && is_between(vector.left, vector.right, bit.index) {
+        Some(bit.index.abs_diff(vector.right))
+    } else {
+        None
+    }
+}
+
+/// A vector that is kept, with its code, and where the next one of its base stands.
+#[derive(Clone, Copy, Debug)]
+pub struct Kept<'v, 'a> {
+    pub vector: Vector<'v>,
+    pub code: &'a [u8],
+    pub next: Option<usize>,
+}
+
+/// The vectors of a text by their bases: of each base the first one.
+#[derive(Drop)]
+pub struct Vectors<'v, 'a> {
+    pub first: IndexMap<&'v [u8], usize>,
+    pub kept: Vec<Kept<'v, 'a>>,
+}
+
+impl<'v, 'a> Vectors<'v, 'a> {
+    /// Keeps a vector before the others of its base.
+    fn put(&mut self, vector: Vector<'v>, code: &'a [u8]) -> Result<(), StimFault>
+        ensures ok { (vs : List TextVariable) (v : TextVariable) → vector_of v ≡ Some (vector_in vector.entry) → v.code ≡ code.now → AreVectors self.old vs → OnOk result (AreVectors self.new (v ∷ vs)) }
+        ensures err { IfErr result (λ e. e ≡ out_of_memory) }
+    {
+        let next = self.first.get(vector.base).copied();
+        self.first.insert(vector.base, self.kept.len())?;
+        self.kept.push(Kept { vector, code, next })?;
+        Ok(())
+    }
+
+    /// Keeps a variable before the others, if it is a vector.
+    fn put_variable(&mut self, variable: &'v Variable<'a>) -> Result<(), StimFault>
+        ensures ok { (vs : List TextVariable) → AreVectors self.old vs → OnOk result (AreVectors self.new (variable_of variable.now ∷ vs)) }
+        ensures err { IfErr result (λ e. e ≡ out_of_memory) }
+    {
+        match vector_of(variable) {
+            Some(vector) => self.put(vector, variable.code),
+            None => Ok(()),
+        }
+    }
+
+    /// The vectors among these variables.
+    pub fn of(alloc: Global, all: &'v [Variable<'a>]) -> Result<Vectors<'v, 'a>, StimFault>
+        ensures ok { IfOk result (λ vectors. AreVectors vectors (variables all.now)) }
+        ensures err { IfErr result (λ e. e ≡ out_of_memory) }
+    {
+        let mut vectors = Vectors {
+            first: IndexMap::new(alloc),
+            kept: Vec::new(alloc),
+        };
+        let mut at = all.len();
+        while at > 0 {
+            at -= 1;
+            vectors.put_variable(&all[at])?;
+        }
+        Ok(vectors)
+    }
+
+    /// The source that the first vector gives that has a bit.
+    pub fn source_of(&self, bit: Bit) -> Option<Source<'a>>
+        requires { (vs : List TextVariable) × AreVectors self.now vs }
+        ensures { (vs : List TextVariable) → AreVectors self.now vs → source_by result ≡ first_given (source_in (bit_by bit.entry)) vs }
+    {
+        let mut next = self.first.get(bit.base).copied();
+        while let Some(at) = next {
+            let kept = self.kept[at];
+            if let Some(place) = place_in(bit, kept.vector) {
+                return Some(Source {
+                    code: kept.code,
+                    place,
+                });
+            }
+            next = kept.next;
+        }
+        None
+    }
+}
