@@ -25,6 +25,8 @@ mod numbers;
 mod put;
 mod reading;
 #[cfg(test)]
+mod real_bus_tests;
+#[cfg(test)]
 mod real_dump_tests;
 mod scopes;
 mod sink;

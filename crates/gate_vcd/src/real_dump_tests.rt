@@ -177,7 +177,7 @@ b0001 %
 #25
 ";
 
-fn read(alloc: Global, bench: &str, settings: &str, text: &str) -> Result<Stimulus, Fail> {
+pub fn read(alloc: Global, bench: &str, settings: &str, text: &str) -> Result<Stimulus, Fail> {
     let bench = read_bench(alloc, bench.as_bytes())?;
     let circuit = Circuit::of(alloc, bench, settings.as_bytes())?;
     Ok(read_stimulus(alloc, text.as_bytes(), &circuit)?)
@@ -203,7 +203,7 @@ fn shown(alloc: Global, changes: &[Change]) -> Result<String, Fail> {
 }
 
 /// Each of the nets has these changes.
-fn assert_changes(
+pub fn assert_changes(
     rt: &impl Abort,
     alloc: Global,
     stimulus: &Stimulus,
