@@ -1,8 +1,8 @@
 -- The vectors that are kept, and the bits that are found in them.
-use Rattle.std.proofs.Common.{◌≡◌, ℕ, zero, suc, ◌+◌, ◌-◌, ◌<◌, ◌≤◌, Bool, true, false, cond, ◌&&◌, nat_eq, List, [], ◌∷◌, ◌++◌, length, drop, get_or, slice_get, slice_index, Option, Some, None, option_map, option_and_then, Bor, refl, ap, sym, ◌∙◌, subst, arith, length-append}
+use Rattle.std.proofs.Common.{◌≡◌, ℕ, zero, suc, ◌+◌, ◌-◌, ◌<◌, ◌≤◌, Bool, true, false, cond, List, [], ◌∷◌, ◌++◌, length, drop, get_or, slice_get, slice_index, Option, Some, None, option_map, option_and_then, refl, ap, sym, ◌∙◌, subst, arith, length-append}
 use Rattle.std.proofs.Math.Seq.{drop-cons}
 use Rattle.std.proofs.lemmas.List.{get_or-map, length-map}
-use Rattle.std.specs.List.{filter_map, cons_option}
+use Rattle.std.specs.List.{cons_option}
 use Rattle.std.specs.Path.{rfind_below}
 use Rattle.std.specs.Str.{bytes_eq}
 use Rattle.gate_vcd.specs.declared.variable.Variable.{Variable as Held}
@@ -11,9 +11,9 @@ use Rattle.gate_vcd.specs.declared.vectors.Vectors.{Vectors}
 use Rattle.gate_vcd.specs.Commands.{variable, variables}
 use Rattle.gate_vcd.specs.Declarations.{Variable}
 use Rattle.gate_vcd.specs.Changes.{Source}
-use Rattle.gate_vcd.specs.Vectors.{Vector, Bit, vector_of, place_in, is_between}
+use Rattle.gate_vcd.specs.Vectors.{Vector, Bit, vector_of, place_in}
 use Rattle.gate_vcd.specs.Inputs.{first_given, or_else, source_in}
-use Rattle.gate_vcd.specs.Scalars.{AreVectors, Leads, first_in, vector, vectors_of, with_code}
+use Rattle.gate_vcd.specs.Scalars.{AreVectors, Leads, first_in, vector, vectors_of}
 use Rattle.gate_vcd.proofs.Compared.{eq_true, eq_false}
 use Rattle.std.proofs.lemmas.Option.{same_Some}
 use Rattle.gate_vcd.proofs.InputLaws.{turned}

@@ -1,5 +1,5 @@
-ghost use Rattle.std.specs.Prelude.{◌≡◌, ◌<◌, ◌≤◌, ◌-◌, ℕ, List, [], Some, length, map, slice_get, replicate, IfErr, IfOk, MatchResult, OnOk};
-ghost use Rattle.gate_vcd.specs.Changes.{Event, Source as TextSource, value_at_place, Item as TextItem, events_from, items, nothing, stamped, last_stamp};
+ghost use Rattle.std.specs.Prelude.{◌≡◌, ◌<◌, ◌-◌, List, [], Some, length, map, slice_get, replicate, IfErr, IfOk, MatchResult, OnOk};
+ghost use Rattle.gate_vcd.specs.Changes.{Event, Source as TextSource, value_at_place, Item as TextItem, events_from, items, nothing, stamped};
 ghost use Rattle.gate_vcd.specs.Faults.{out_of_memory};
 ghost use Rattle.gate_vcd.specs.Items.{AreKept, AreSettled, AreTaken, IsTaken, TakesItem, ends_at, item_of, settled, undone, value_after};
 ghost use Rattle.gate_vcd.specs.Known.{IsLinked, is_of, knows, last_below, source, sources_in};

@@ -1,4 +1,4 @@
-ghost use Rattle.std.specs.Prelude.{◌≡◌, ◌<◌, ◌≤◌, length, IfOk, IfSome};
+ghost use Rattle.std.specs.Prelude.{◌<◌, ◌≤◌, length, IfOk, IfSome};
 ghost use Rattle.gate_vcd.specs.Changes.{items, nothing, end_of, code_of};
 ghost use Rattle.gate_vcd.specs.Items.{IsNext, IsPassed};
 ghost use Rattle.gate_vcd.specs.Words.{bytes_of, token_of};

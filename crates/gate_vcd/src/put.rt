@@ -1,7 +1,7 @@
 //! Bytes, texts and numbers into a sink, as far as it takes them. Each function returns how many bytes
 //! have been taken, and does nothing once the sink has failed.
 
-ghost use Rattle.std.specs.Prelude.{◌≡◌, decimal};
+ghost use Rattle.std.specs.Prelude.{decimal};
 ghost use Rattle.gate_vcd.specs.Sink.{Writes};
 
 use crate::sink::Sink;

@@ -1,6 +1,6 @@
 ghost use Rattle.std.specs.Prelude.{◌≡◌, ◌≤◌, [], ◌∷◌, length, not, position, MatchOption};
 ghost use Rattle.std.specs.List.{prefix_len};
-ghost use Rattle.gate_vcd.specs.Tokens.{tokens_of, is_space, is_end, fault_at};
+ghost use Rattle.gate_vcd.specs.Tokens.{tokens_of, is_space, fault_at};
 ghost use Rattle.gate_vcd.specs.Words.{token_of};
 
 use crate::fault::{StimCause, StimFault};

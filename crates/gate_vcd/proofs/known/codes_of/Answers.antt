@@ -1,4 +1,3 @@
-use Rattle.std.proofs.Common.{None}
 use Rattle.std.specs.Str.{bytes_eq}
 use Rattle.gate_vcd.specs.Known.{found_in}
 use Rattle.gate_vcd.proofs.InputLaws.{more_codes, no_sources}

@@ -8,7 +8,7 @@ use Rattle.gate_vcd.specs.Declarations.{Header}
 use Rattle.gate_vcd.specs.Changes.{items, nothing}
 use Rattle.gate_netlist.specs.Circuit.{nets_of}
 use Rattle.gate_vcd.specs.Inputs.{sources_below}
-use Rattle.gate_vcd.specs.Known.{knows, source, sources_by}
+use Rattle.gate_vcd.specs.Known.{knows, sources_by}
 use Rattle.gate_vcd.specs.Stimulus.{has_code}
 use Rattle.gate_vcd.proofs.Meaning.{declared-fails, changes-fail, inputs-fail, reads, means, laid, declared-read, known-codes, events-fail, events-read}
 use Rattle.gate_vcd.proofs.reading.read_stimulus.Goals as goal

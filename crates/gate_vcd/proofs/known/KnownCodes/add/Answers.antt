@@ -1,4 +1,3 @@
-use Rattle.std.proofs.Common.{◌∙◌}
 use Rattle.gate_vcd.proofs.KnownLaws.{takes-more}
 use Rattle.gate_vcd.proofs.known.KnownCodes.add.Goals as goal
 
