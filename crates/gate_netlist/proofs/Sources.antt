@@ -10,7 +10,7 @@ use Rattle.gate_netlist.specs.Circuit.{Design, nets_of, source_by, source_of, Is
 pub source_by-IsWellFormed : (nets : ℕ) (driver : Driver) (delay : ℕ) → IsDriven nets driver delay → IsWellFormed (source_by driver delay)
 source_by-IsWellFormed nets Input delay h = tt
 source_by-IsWellFormed nets (Gate kind inputs) delay h = (omega (arith, h.2.0), h.0)
-source_by-IsWellFormed nets (Flop d clock) delay h = omega (arith, h.2.0)
+source_by-IsWellFormed nets (Flop d clock init) delay h = omega (arith, h.2.0)
 
 pub source_of-IsWellFormed : (d : Design) (n : ℕ) → IsCircuit d → IsWellFormed (source_of d n)
 source_of-IsWellFormed d n law =

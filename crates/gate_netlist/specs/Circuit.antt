@@ -41,14 +41,14 @@ is_gate (Gate kind inputs) = true
 is_gate _ = false
 
 abbrev pub is_flop : Driver → Bool
-is_flop (Flop d clock) = true
+is_flop (Flop d clock init) = true
 is_flop _ = false
 
 -- how long a net takes, which only a net that a gate or a flip-flop sets does
 abbrev pub delay_by : Driver → ℕ → Option ℕ
 delay_by Input delay = None
 delay_by (Gate kind inputs) delay = Some delay
-delay_by (Flop d clock) delay = Some delay
+delay_by (Flop d clock init) delay = Some delay
 
 abbrev pub delay_of : Design → ℕ → Option ℕ
 delay_of d n = delay_by (driver_of d n) (get_or d.delays n 0)
@@ -57,7 +57,7 @@ delay_of d n = delay_by (driver_of d n) (get_or d.delays n 0)
 abbrev pub source_by : Driver → ℕ → Source
 source_by Input delay = Source.Outside
 source_by (Gate kind inputs) delay = Source.Gate kind delay inputs
-source_by (Flop d clock) delay = Source.Flop delay d clock
+source_by (Flop d clock init) delay = Source.Flop delay d clock init
 
 abbrev pub source_of : Design → ℕ → Source
 source_of d n = source_by (driver_of d n) (get_or d.delays n 0)
@@ -70,11 +70,11 @@ IsDelay delay = (1 ≤ delay) × (delay ≤ 1000000)
 abbrev pub IsDriven : ℕ → Driver → ℕ → Type 0
 IsDriven nets Input delay = delay ≡ 0
 IsDriven nets (Gate kind inputs) delay = HasInputs kind (length inputs) × All (λ i. i < nets) inputs × IsDelay delay
-IsDriven nets (Flop d clock) delay = (d < nets) × (clock < nets) × IsDelay delay
+IsDriven nets (Flop d clock init) delay = (d < nets) × (clock < nets) × IsDelay delay
 
 -- a flip-flop's clock is the circuit's clock
 abbrev pub IsClockedBy : Option ℕ → Driver → Type 0
-IsClockedBy circuit (Flop d clock) = circuit ≡ Some clock
+IsClockedBy circuit (Flop d clock init) = circuit ≡ Some clock
 IsClockedBy circuit _ = Unit {0}
 
 -- the cut is of as many nets, and just those that aren't inputs have an owner

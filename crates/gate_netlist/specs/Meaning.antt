@@ -1,6 +1,7 @@
 -- The circuit that a bench and a settings text mean.
 use Rattle.std.specs.Prelude.{◌≡◌, ℕ, ◌+◌, ◌&&◌, if◌then◌else◌, List, [], ◌∷◌, ◌++◌, map, codes, Option, Some, None, is_none, option_map, option_and_then, unwrap_or, Result, Ok, Err}
 use Rattle.std.specs.List.{zip}
+use Rattle.gate_values.specs.declared.logic.Logic.TheVariants.{X}
 use Rattle.toml.specs.Data.{Members, get_member, as_table}
 use Rattle.gate_netlist.specs.declared.bench.Definition.{Definition}
 use Rattle.gate_netlist.specs.declared.bench.Definition.TheVariants as line
@@ -26,7 +27,7 @@ with_clock name b = if has_flop b && is_none (number_of b name) then with_input 
 abbrev pub driver_by : ℕ → Definition → Driver
 driver_by clock line.Input = Input
 driver_by clock (line.Gate kind inputs) = Gate kind inputs
-driver_by clock (line.Flop d) = Flop d clock
+driver_by clock (line.Flop d) = Flop d clock X
 
 -- each net's delay, by its name and definition
 abbrev pub delays_of : Members → List (List ℕ) → List Definition → List ℕ

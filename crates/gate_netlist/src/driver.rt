@@ -1,5 +1,5 @@
 use crate::nets::Nets;
-use gate_values::Kind;
+use gate_values::{Kind, Logic};
 
 /// What sets a net. A delay is not part of it.
 #[derive(Debug, Drop)]
@@ -8,6 +8,6 @@ pub enum Driver {
     Input,
     /// A gate over these nets: one for `Not` and `Buff`, one or more for the others; a net may repeat.
     Gate { kind: Kind, inputs: Nets },
-    /// A flip-flop with its data net and its clock.
-    Flop { d: u32, clock: u32 },
+    /// A flip-flop with its data net, its clock, and the content that it begins with.
+    Flop { d: u32, clock: u32, init: Logic },
 }

@@ -5,11 +5,11 @@ use Rattle.gate_values.specs.declared.logic.Logic.{Logic}
 use Rattle.gate_values.specs.declared.logic.Logic.TheVariants.{Zero, One, X, Z}
 use Rattle.gate_values.proofs.Induction.{strong}
 use Rattle.gate_values.specs.Tables.{table_of, flip_of}
-use Rattle.gate_values.specs.Behaviour.{Source, Outside, Gate, Flop, Moment, back, output, delay_of, history, before, value, content, IsOver}
+use Rattle.gate_values.specs.Behaviour.{Source, Outside, Gate, Flop, Moment, initial_of, beginning, back, output, delay_of, history, before, value, content, IsOver}
 
 module _ (source : ℕ → Source) (given : ℕ → ℕ → Logic) where
   -- what lies back in the history
-  pub back-history : (t k : ℕ) → back (history source given t) (suc k) ≡ before source given (t - k)
+  pub back-history : (t k : ℕ) → back (beginning source) (history source given t) (suc k) ≡ before source given (t - k)
   unfolding history
   back-history zero k = ap (before source given) (let e : 0 ≡ 0 - k = omega arith in e)
   back-history (suc t) zero = ap (before source given) (let e : suc t ≡ suc t - 0 = omega arith in e)
@@ -21,17 +21,17 @@ module _ (source : ℕ → Source) (given : ℕ → ℕ → Logic) where
   value_is n t Outside e h = absurd (omega arith)
   value_is n t (Gate kind zero inputs) e h = absurd (omega arith)
   value_is n t (Gate kind (suc k) inputs) e h = rw e (ap (λ (m : Moment). table_of kind (map m.value inputs)) (back-history t k ∙ ap (before source given) (let e : t - k ≡ suc t - suc k = omega arith in e)))
-  value_is n t (Flop zero d c) e h = absurd (omega arith)
-  value_is n t (Flop (suc k) d c) e h = rw e (ap (λ (m : Moment). m.content n) (back-history t k ∙ ap (before source given) (let e : t - k ≡ suc t - suc k = omega arith in e)))
+  value_is n t (Flop zero d c i) e h = absurd (omega arith)
+  value_is n t (Flop (suc k) d c i) e h = rw e (ap (λ (m : Moment). m.content n) (back-history t k ∙ ap (before source given) (let e : t - k ≡ suc t - suc k = omega arith in e)))
 
   pub outside_is : (n t : ℕ) → source n ≡ Outside → value source given n t ≡ given t n
   unfolding history
   outside_is n t e = rw e refl
 
-  pub content_is : (n t delay d c : ℕ) → source n ≡ Flop delay d c →
+  pub content_is : (n t delay d c : ℕ) (i : Logic) → source n ≡ Flop delay d c i →
       content source given n t ≡ flip_of ((before source given t).content n) ((before source given t).value c) (value source given c t) ((before source given t).value d)
   unfolding history
-  content_is n t delay d c e = rw e refl
+  content_is n t delay d c i e = rw e refl
 
 -- Two behaviours with the same sources of the nets of Own, which read nets of Own, and nets of Shared that agree below u.
 pub record Joined (s1 s2 : ℕ → Source) (g1 g2 : ℕ → ℕ → Logic) (Own Shared : ℕ → Type 0) (u : ℕ) : Type 0 where
@@ -54,12 +54,12 @@ module _ (s1 s2 : ℕ → Source) (g1 g2 : ℕ → ℕ → Logic) (Own Shared : 
   same_output : (m n : ℕ) (s : Source) → Agree m → IsOver (λ i. Own i ⊎ Shared i) s → Own n → m ≤ u → output s (before s1 g1 m) n ≡ output s (before s2 g2 m) n
   same_output m n Outside a o own h = refl
   same_output m n (Gate kind delay inputs) a o own h = ap (table_of kind) (map_agree _ _ (λ i. Own i ⊎ Shared i) inputs (λ i p. a.values i p h) o.1)
-  same_output m n (Flop delay d c) a o own h = a.contents n own h
+  same_output m n (Flop delay d c i) a o own h = a.contents n own h
 
   delayed : (s : Source) (N : ℕ → Type 0) → IsOver N s → 0 < delay_of s
   delayed Outside N o = absurd o
   delayed (Gate kind delay inputs) N o = o.0
-  delayed (Flop delay d c) N o = o.0
+  delayed (Flop delay d c i) N o = o.0
 
   own_values : (n t : ℕ) → Own n → Agree (suc t - delay_of (s1 n)) → suc t - delay_of (s1 n) ≤ u → value s1 g1 n t ≡ value s2 g2 n t
   own_values n t own a h =
@@ -78,19 +78,19 @@ module _ (s1 s2 : ℕ → Source) (g1 g2 : ℕ → ℕ → Logic) (Own Shared : 
   unfolding history
   content_step t n Outside e ih o own h = absurd o
   content_step t n (Gate kind delay inputs) e ih o own h = let e2 : s2 n ≡ Gate kind delay inputs = sym (j.same_source n own) ∙ e in rw (e, e2) refl
-  content_step t n (Flop delay d c) e ih o own h =
+  content_step t n (Flop delay d c i) e ih o own h =
       let a = ih t (omega arith) in
       let le : t ≤ u = omega arith in
-      let e2 : s2 n ≡ Flop delay d c = sym (j.same_source n own) ∙ e in
+      let e2 : s2 n ≡ Flop delay d c i = sym (j.same_source n own) ∙ e in
       let content_before : (before s1 g1 t).content n ≡ (before s2 g2 t).content n = a.contents n own le in
       let clock_before : (before s1 g1 t).value c ≡ (before s2 g2 t).value c = a.values c o.2 le in
       let clock_now : value s1 g1 c t ≡ value s2 g2 c t = step_values t c ih o.2 h in
       let data_before : (before s1 g1 t).value d ≡ (before s2 g2 t).value d = a.values d o.1 le in
-      content_is s1 g1 n t delay d c e ∙ rw (content_before, clock_before, clock_now, data_before) (sym (content_is s2 g2 n t delay d c e2))
+      content_is s1 g1 n t delay d c i e ∙ rw (content_before, clock_before, clock_now, data_before) (sym (content_is s2 g2 n t delay d c i e2))
 
   agree_step : (m : ℕ) → ((k : ℕ) → k < m → Agree k) → Agree m
   unfolding history
-  agree_step zero ih = record { values = λ i p h. refl; contents = λ n own h. refl }
+  agree_step zero ih = record { values = λ i p h. refl; contents = λ n own h. ap initial_of (j.same_source n own) }
   agree_step (suc t) ih = record {
     values = λ i p h. step_values t i ih p h;
     contents = λ n own h. content_step t n (s1 n) refl ih (j.over n own) own h;
@@ -117,13 +117,13 @@ module _ (source : ℕ → Source) (given : ℕ → ℕ → Logic) (N : ℕ → 
   unfolding history
   quiet_output n Outside e o = refl
   quiet_output n (Gate kind delay inputs) e o = ap (table_of kind) (map_agree _ _ N inputs same o.1)
-  quiet_output n (Flop delay d c) e o =
-      content_is source given n s delay d c e ∙ rw (same c o.2) (flip_quiet ((before source given s).content n) ((before source given s).value c) ((before source given s).value d))
+  quiet_output n (Flop delay d c i) e o =
+      content_is source given n s delay d c i e ∙ rw (same c o.2) (flip_quiet ((before source given s).content n) ((before source given s).value c) ((before source given s).value d))
 
   delayed_by : (k : Source) → IsOver N k → 0 < delay_of k
   delayed_by Outside o = absurd o
   delayed_by (Gate kind delay inputs) o = o.0
-  delayed_by (Flop delay d c) o = o.0
+  delayed_by (Flop delay d c i) o = o.0
 
   pub quiet_value : (n t : ℕ) → IsOver N (source n) → s + delay_of (source n) ≡ suc t → value source given n (suc t) ≡ value source given n t
   quiet_value n t o e =

@@ -18,7 +18,7 @@ o = Source.Outside
 -- G0 G1 G2 G3 | G5 G6 G7 G14 G17 G8 G15 G16 G9 G10 G11 G12 G13 | CK
 s27 : ℕ → Source
 unfolding o
-s27 n = get_or (o ∷ o ∷ o ∷ o ∷ Source.Flop 1 13 17 ∷ Source.Flop 1 14 17 ∷ Source.Flop 1 16 17 ∷ Source.Gate Not 1 (0 ∷ []) ∷ Source.Gate Not 1 (14 ∷ [])
+s27 n = get_or (o ∷ o ∷ o ∷ o ∷ Source.Flop 1 13 17 X ∷ Source.Flop 1 14 17 X ∷ Source.Flop 1 16 17 X ∷ Source.Gate Not 1 (0 ∷ []) ∷ Source.Gate Not 1 (14 ∷ [])
     ∷ Source.Gate And 1 (7 ∷ 5 ∷ []) ∷ Source.Gate Or 1 (15 ∷ 9 ∷ []) ∷ Source.Gate Or 1 (3 ∷ 9 ∷ []) ∷ Source.Gate Nand 1 (11 ∷ 10 ∷ []) ∷ Source.Gate Nor 1 (7 ∷ 14 ∷ [])
     ∷ Source.Gate Nor 1 (4 ∷ 12 ∷ []) ∷ Source.Gate Nor 1 (1 ∷ 6 ∷ []) ∷ Source.Gate Nor 1 (2 ∷ 15 ∷ []) ∷ []) n Source.Outside
 

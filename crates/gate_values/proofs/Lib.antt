@@ -3,4 +3,4 @@ pub mod Induction
 pub mod Behaving
 pub mod ChangeLists
 pub mod Larger
-pub mod Unknown
+pub mod Beginning

@@ -14,7 +14,7 @@ mod logic;
 
 pub use flop::flip;
 pub use gate::{Kind, table};
-pub use laws::unknown_before_delay;
+pub use laws::initial_before_delay;
 pub use logic::{Change, Logic};
 
 #[cfg(test)]

@@ -17,6 +17,7 @@ use crate::settings::{
     Parts, block_table, clock_name, delays_of, greatest_block, has_flop, owners_of, parts_of,
     text_at, with_clock,
 };
+use gate_values::Logic;
 use std::alloc::{AllocError, Global};
 use toml::Table;
 
@@ -95,7 +96,11 @@ fn driver_by(definition: Definition, clock: u32) -> Driver
     match definition {
         Definition::Input => Driver::Input,
         Definition::Gate { kind, inputs } => Driver::Gate { kind, inputs },
-        Definition::Flop { d } => Driver::Flop { d, clock },
+        Definition::Flop { d } => Driver::Flop {
+            d,
+            clock,
+            init: Logic::X,
+        },
     }
 }
 

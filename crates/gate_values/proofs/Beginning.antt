@@ -1,4 +1,4 @@
--- A gate of unknown inputs puts out unknown.
+-- A gate of unknown inputs puts out unknown, and before its delay a net is as it began.
 use Rattle.std.proofs.Common.{◌≡◌, ℕ, suc, ◌-◌, ◌<◌, ◌∙◌, List, [], ◌∷◌, map, length, false, refl, arith}
 use Rattle.std.specs.List.{list_any}
 use Rattle.gate_values.specs.declared.logic.Logic.{Logic}
@@ -6,7 +6,7 @@ use Rattle.gate_values.specs.declared.logic.Logic.TheVariants.{X}
 use Rattle.gate_values.specs.declared.gate.Kind.{Kind}
 use Rattle.gate_values.specs.declared.gate.Kind.TheVariants.{And, Nand, Or, Nor, Xor, Xnor, Not, Buff}
 use Rattle.gate_values.specs.Tables.{table_of, HasInputs, is_zero, is_one}
-use Rattle.gate_values.specs.Behaviour.{Source, Outside, Gate, Flop, unknown, output, value, delay_of, history, IsWellFormed}
+use Rattle.gate_values.specs.Behaviour.{Source, Outside, Gate, Flop, initial_of, beginning, output, value, delay_of, history, IsWellFormed}
 use Rattle.gate_values.proofs.Behaving.{value_is}
 
 all_x : List ℕ → List Logic
@@ -39,15 +39,15 @@ table_of-unknown Xnor (n ∷ ns) h = refl
 table_of-unknown Not (n ∷ ns) h = refl
 table_of-unknown Buff (n ∷ ns) h = refl
 
--- what a source makes of the moment before time 0
-output-unknown : (s : Source) (n : ℕ) → IsWellFormed s → output s unknown n ≡ X
-output-unknown Outside n w = refl
-output-unknown (Gate kind delay inputs) n w = table_of-unknown kind inputs w.1
-output-unknown (Flop delay d c) n w = refl
+-- what a source makes of a moment before time 0
+output-beginning : (source : ℕ → Source) (n : ℕ) (s : Source) → source n ≡ s → IsWellFormed s → output s (beginning source) n ≡ initial_of s
+output-beginning source n Outside e w = refl
+output-beginning source n (Gate kind delay inputs) e w = table_of-unknown kind inputs w.1
+output-beginning source n (Flop delay d c i) e w = rw e refl
 
-pub unknown_before : (source : ℕ → Source) (given : ℕ → ℕ → Logic) (n t : ℕ) → IsWellFormed (source n) → t < delay_of (source n) → value source given n t ≡ X
+pub initial_before : (source : ℕ → Source) (given : ℕ → ℕ → Logic) (n t : ℕ) → IsWellFormed (source n) → t < delay_of (source n) → value source given n t ≡ initial_of (source n)
 unfolding history
-unknown_before source given n t w h =
+initial_before source given n t w h =
     let positive : 0 < delay_of (source n) = omega arith in
     let start : suc t - delay_of (source n) ≡ 0 = omega arith in
-    value_is source given n t (source n) refl positive ∙ rw start (output-unknown (source n) n w)
+    value_is source given n t (source n) refl positive ∙ rw start (output-beginning source n (source n) refl w)
