@@ -1,23 +1,27 @@
--- The circuit of a netlist with its clock has the law of circuits, and its cut that of cuts.
-use Rattle.std.proofs.Common.{◌≡◌, ◌∙◌, ℕ, ◌+◌, ◌<◌, Bool, true, not, nat_lt, List, [], ◌∷◌, length, map, get_or, Option, Some, None, is_some, IsSome, IfSome, unwrap_or, option_map, option_and_then, refl, ap, arith, inl, inr, codes}
+-- The circuit of a netlist with its flip-flops' clocks has the law of circuits, and its cut that of cuts.
+use Rattle.std.proofs.Common.{◌≡◌, ◌∙◌, ℕ, ◌+◌, ◌<◌, Bool, true, false, not, ◌||◌, nat_lt, List, [], ◌∷◌, length, map, get_or, Option, Some, None, is_some, IsSome, IfSome, unwrap_or, option_map, option_and_then, refl, ap, arith, inl, inr, codes}
 use Rattle.std.specs.List.{zip, list_any, position, position_or_len}
 use Rattle.std.specs.Str.{bytes_eq}
-use Rattle.std.proofs.lemmas.Bool.{cases_Bool, cases_lt, ltb-true}
+use Rattle.std.proofs.lemmas.Bool.{cases_Bool, cases_lt, ltb-true, eq-eqb}
 use Rattle.std.proofs.lemmas.List.{length-map, get_or-map, get_or_past}
-use Rattle.std.proofs.Math.ListN.{get_or-map as get_or-map_default}
-use Rattle.std.proofs.lemmas.List.Folds.{list_any_at}
+use Rattle.std.proofs.lemmas.Slice.Eq.{bytes_eq-Decides}
 use Rattle.std.proofs.lemmas.Slice.Zip.{length-zip, get_or-zip}
 use Rattle.toml.specs.Data.{Members, get_member, as_table}
 use Rattle.gate_netlist.specs.declared.bench.Definition.{Definition}
 use Rattle.gate_netlist.specs.declared.bench.Definition.TheVariants.{Input, Gate, Flop}
-use Rattle.gate_netlist.specs.Netlist.{Netlist, IsDefinition}
+use Rattle.gate_netlist.specs.declared.driver.Driver.TheVariants as driver
+use Rattle.gate_netlist.specs.Netlist.{Netlist, IsDefinition, place_of, any_net}
 use Rattle.gate_netlist.specs.Cut.{IsOwnership}
-use Rattle.gate_netlist.specs.Circuit.{IsCircuit, IsClockedBy, CutFits, IsDriven, IsDelay, driver_of, is_input, is_flop}
-use Rattle.gate_netlist.specs.Settings.{delay_at, table_at, net_delay, net_block, key_of, greatest_block, clock_name, delay_of_key}
-use Rattle.gate_netlist.specs.Causes.{is_flop_line, number_of, has_flop}
-use Rattle.gate_netlist.specs.Meaning.{with_clock, driver_by, delays_of, cut_of, clocked_circuit, circuit_of}
-use Rattle.gate_netlist.specs.Clocked.{HasClock}
+use Rattle.gate_netlist.specs.Circuit.{IsCircuit, CutFits, IsDriven, IsDelay, driver_of, is_input, is_clocked_by}
+use Rattle.gate_netlist.specs.Settings.{delay_at, table_at, net_delay, net_block, key_of, greatest_block, clock_name, clock_of_flop, takes_clock, delay_of_key}
+use Rattle.gate_netlist.specs.Causes.{is_flop_line}
+use Rattle.gate_netlist.specs.Meaning.{with_clock, driver_by, drivers_of, clock_among, delays_of, cut_of, clocked_circuit, circuit_of}
+use Rattle.gate_netlist.specs.Clocked.{HasClocks}
 use Rattle.gate_netlist.proofs.SettingValues.{unwrap_or_fits, delay_at-IsDelay, delay_of_key-IsDelay, greatest_block-within, block_at-le}
+
+or-last : (b : Bool) → (b || true) ≡ true
+or-last true = refl
+or-last false = refl
 
 -- ---- a list over names and definitions
 
@@ -46,34 +50,65 @@ known_below : (o : Option ℕ) (most : ℕ) → IsSome o → IfSome o (λ n. n <
 known_below None most some h = absurd cc
 known_below (Some n) most some h = h
 
-known_is : (o : Option ℕ) → IsSome o → o ≡ Some (unwrap_or o 0)
-known_is None some = absurd cc
-known_is (Some n) some = refl
-
-IsDriven-by : (ms : Members) (nets clock : ℕ) (name : List ℕ) (d : Definition) → IsDefinition nets d → (is_flop_line d ≡ true → clock < nets) → IsDriven nets (driver_by clock d) (net_delay ms name d)
-IsDriven-by ms nets clock name Input h c = refl
-IsDriven-by ms nets clock name (Gate kind inputs) h c =
+IsDriven-by : (ms : Members) (names : List (List ℕ)) (name : List ℕ) (d : Definition) → IsDefinition (length names) d
+    → (is_flop_line d ≡ true → IsSome (place_of names (clock_of_flop ms name))) → IsDriven (length names) (driver_by ms names name d) (net_delay ms name d)
+IsDriven-by ms names name Input h c = refl
+IsDriven-by ms names name (Gate kind inputs) h c =
     (h.0, h.1, unwrap_or_fits IsDelay (delay_at name (table_at (codes "net") ms)) (delay_of_key ms (key_of kind)) (delay_at-IsDelay name (table_at (codes "net") ms)) (delay_of_key-IsDelay ms (key_of kind)))
-IsDriven-by ms nets clock name (Flop d) h c =
-    (h, c refl, unwrap_or_fits IsDelay (delay_at name (table_at (codes "net") ms)) (delay_of_key ms (codes "DFF")) (delay_at-IsDelay name (table_at (codes "net") ms)) (delay_of_key-IsDelay ms (codes "DFF")))
+IsDriven-by ms names name (Flop d) h c = (
+  h,
+  known_below (place_of names (clock_of_flop ms name)) (length names) (c refl) (position-below (λ other. bytes_eq (clock_of_flop ms name) other) names),
+  unwrap_or_fits IsDelay (delay_at name (table_at (codes "net") ms)) (delay_of_key ms (codes "DFF")) (delay_at-IsDelay name (table_at (codes "net") ms)) (delay_of_key-IsDelay ms (codes "DFF")),
+)
 
-IsClockedBy-driver : (of : Option ℕ) (clock : ℕ) (d : Definition) → (is_flop_line d ≡ true → of ≡ Some clock) → IsClockedBy of (driver_by clock d)
-IsClockedBy-driver of clock Input h = tt
-IsClockedBy-driver of clock (Gate kind inputs) h = tt
-IsClockedBy-driver of clock (Flop d) h = h refl
+-- ---- the clock that `clock` names
 
-is_flop-by : (clock : ℕ) (ds : List Definition) → list_any is_flop (map (driver_by clock) ds) ≡ list_any is_flop_line ds
-is_flop-by clock [] = refl
-is_flop-by clock (Input ∷ ds) = is_flop-by clock ds
-is_flop-by clock (Gate kind inputs ∷ ds) = is_flop-by clock ds
-is_flop-by clock (Flop d ∷ ds) = refl
+-- a flip-flop that takes it has it
+clocked_by_it : (ms : Members) (names : List (List ℕ)) (c : ℕ) (name : List ℕ) (d : Definition) → place_of names (clock_name ms) ≡ Some c
+    → takes_clock ms name d ≡ true → is_clocked_by c (driver_by ms names name d) ≡ true
+clocked_by_it ms names c name Input e t = absurd cc
+clocked_by_it ms names c name (Gate kind inputs) e t = absurd cc
+clocked_by_it ms names c name (Flop d) e t =
+    let same : clock_of_flop ms name ≡ clock_name ms = (bytes_eq-Decides (clock_of_flop ms name) (clock_name ms)).0 t in
+    rw (same, e) (eq-eqb c c refl)
+
+some_clocked_by_it : (ms : Members) (names : List (List ℕ)) (c : ℕ) (nets : List (List ℕ × Definition)) → place_of names (clock_name ms) ≡ Some c
+    → list_any (λ (net : List ℕ × Definition). takes_clock ms net.0 net.1) nets ≡ true
+    → list_any (is_clocked_by c) (map (λ (net : List ℕ × Definition). driver_by ms names net.0 net.1) nets) ≡ true
+some_clocked_by_it ms names c [] e t = absurd cc
+some_clocked_by_it ms names c (net ∷ nets) e t =
+    elim (cases_Bool (takes_clock ms net.0 net.1)) [
+      | inl takes ↦ rw (clocked_by_it ms names c net.0 net.1 e takes) refl
+      | inr other ↦ (let rest : list_any (λ (n : List ℕ × Definition). takes_clock ms n.0 n.1) nets ≡ true = rw other at t in
+          rw (some_clocked_by_it ms names c nets e rest) (or-last (is_clocked_by c (driver_by ms names net.0 net.1))))
+    ]
+
+clock_taken : (ms : Members) (names : List (List ℕ)) (definitions : List Definition)
+    → IfSome (clock_among ms names definitions) (λ c. list_any (is_clocked_by c) (drivers_of ms names definitions) ≡ true)
+clock_taken ms names definitions =
+    elim (cases_Bool (any_net (takes_clock ms) names definitions)) [
+      | inl takes ↦ rw takes (by_place (place_of names (clock_name ms)) refl takes)
+      | inr none ↦ rw none tt
+    ]
+  where
+    by_place : (o : Option ℕ) → place_of names (clock_name ms) ≡ o → any_net (takes_clock ms) names definitions ≡ true
+        → IfSome o (λ c. list_any (is_clocked_by c) (drivers_of ms names definitions) ≡ true)
+    by_place None e t = tt
+    by_place (Some c) e t = some_clocked_by_it ms names c (zip names definitions) e t
+
+clock_among-below : (ms : Members) (names : List (List ℕ)) (definitions : List Definition) → IfSome (clock_among ms names definitions) (λ n. n < length names)
+clock_among-below ms names definitions =
+    elim (cases_Bool (any_net (takes_clock ms) names definitions)) [
+      | inl takes ↦ rw takes (position-below (λ other. bytes_eq (clock_name ms) other) names)
+      | inr none ↦ rw none tt
+    ]
 
 -- ---- the cut
 
-is_some-net_block : (blocks : Members) (clock : ℕ) (name : List ℕ) (d : Definition) → is_some (net_block blocks name d) ≡ not (is_input (driver_by clock d))
-is_some-net_block blocks clock name Input = refl
-is_some-net_block blocks clock name (Gate kind inputs) = refl
-is_some-net_block blocks clock name (Flop d) = refl
+is_some-net_block : (blocks ms : Members) (names : List (List ℕ)) (name : List ℕ) (d : Definition) → is_some (net_block blocks name d) ≡ not (is_input (driver_by ms names name d))
+is_some-net_block blocks ms names name Input = refl
+is_some-net_block blocks ms names name (Gate kind inputs) = refl
+is_some-net_block blocks ms names name (Flop d) = refl
 
 net_block-below : (blocks : Members) (name : List ℕ) (d : Definition) → IfSome (net_block blocks name d) (λ block. block < greatest_block blocks + 1)
 net_block-below blocks name Input = tt
@@ -92,50 +127,22 @@ cut_is_ownership blocks names ds e = record {
 
 -- ---- the circuit
 
-module _ (ms : Members) (b : Netlist) (h : HasClock (clock_name ms) b) where
-  abbrev clock_net : Option ℕ
-  clock_net = number_of b (clock_name ms)
-
-  has_flop-at : (n : ℕ) → n < length b.names → is_flop_line (get_or b.definitions n Input) ≡ true → has_flop b ≡ true
-  has_flop-at n l e = list_any_at is_flop_line b.definitions n Input (omega (arith, h.definitions)) e
-
-  clock_net-below : (flop : has_flop b ≡ true) → unwrap_or clock_net 0 < length b.names
-  clock_net-below flop = known_below clock_net (length b.names) (h.clocked flop) (position-below (λ other. bytes_eq (clock_name ms) other) b.names)
-
-  driver_at : (n : ℕ) → driver_of (clocked_circuit ms b) n ≡ driver_by (unwrap_or clock_net 0) (get_or b.definitions n Input)
-  driver_at n = get_or-map_default (driver_by (unwrap_or clock_net 0)) b.definitions n Input
+module _ (ms : Members) (b : Netlist) (h : HasClocks ms b) where
+  driver_at : (n : ℕ) → n < length b.names → driver_of (clocked_circuit ms b) n ≡ driver_by ms b.names (get_or b.names n []) (get_or b.definitions n Input)
+  driver_at n l = get_or-by_net (driver_by ms b.names) b.names b.definitions n driver.Input l (omega (arith, h.definitions))
 
   delay_at_net : (n : ℕ) → n < length b.names → get_or (delays_of ms b.names b.definitions) n 0 ≡ net_delay ms (get_or b.names n []) (get_or b.definitions n Input)
   delay_at_net n l = get_or-by_net (net_delay ms) b.names b.definitions n 0 l (omega (arith, h.definitions))
 
   driven_at : (n : ℕ) → n < length b.names → IsDriven (length b.names) (driver_of (clocked_circuit ms b) n) (get_or (delays_of ms b.names b.definitions) n 0)
-  driven_at n l = rw (driver_at n, delay_at_net n l)
-      (IsDriven-by ms (length b.names) (unwrap_or clock_net 0) (get_or b.names n []) (get_or b.definitions n Input) (h.defined n l) (λ e. clock_net-below (has_flop-at n l e)))
-
-  clock_with_flop : has_flop b ≡ true → (clocked_circuit ms b).clock ≡ Some (unwrap_or clock_net 0)
-  clock_with_flop flop = rw flop (known_is clock_net (h.clocked flop))
-
-  clocked_at : (n : ℕ) → n < length b.names → IsClockedBy (clocked_circuit ms b).clock (driver_of (clocked_circuit ms b) n)
-  clocked_at n l = rw (driver_at n) (IsClockedBy-driver _ _ (get_or b.definitions n Input) (λ e. clock_with_flop (has_flop-at n l e)))
-
-  clock_below : IfSome (clocked_circuit ms b).clock (λ n. n < length b.names)
-  clock_below =
-      elim (cases_Bool (has_flop b)) [
-        | inl flop ↦ rw flop (position-below (λ other. bytes_eq (clock_name ms) other) b.names)
-        | inr none ↦ rw none tt
-      ]
-
-  flops_have_clock : is_some (clocked_circuit ms b).clock ≡ list_any is_flop (clocked_circuit ms b).drivers
-  flops_have_clock = rw (is_flop-by (unwrap_or clock_net 0) b.definitions) (elim (cases_Bool (has_flop b)) [
-    | inl flop ↦ rw flop (h.clocked flop)
-    | inr none ↦ rw none refl
-  ])
+  driven_at n l = rw (driver_at n l, delay_at_net n l)
+      (IsDriven-by ms b.names (get_or b.names n []) (get_or b.definitions n Input) (h.defined n l) (h.clocked n l))
 
   cut_fits : (blocks : Members) → CutFits (clocked_circuit ms b) (cut_of blocks b.names b.definitions)
   cut_fits blocks = record {
     nets = length-by_net (net_block blocks) b.names b.definitions h.definitions;
-    owned = λ n l. rw (get_or-by_net (net_block blocks) b.names b.definitions n None l (omega (arith, h.definitions)), driver_at n)
-        (is_some-net_block blocks (unwrap_or clock_net 0) (get_or b.names n []) (get_or b.definitions n Input));
+    owned = λ n l. rw (get_or-by_net (net_block blocks) b.names b.definitions n None l (omega (arith, h.definitions)), driver_at n l)
+        (is_some-net_block blocks ms b.names (get_or b.names n []) (get_or b.definitions n Input));
   }
 
   cut_of_table : (o : Option Members) → IfSome (option_map (λ blocks. cut_of blocks b.names b.definitions) o) (CutFits (clocked_circuit ms b))
@@ -146,18 +153,17 @@ module _ (ms : Members) (b : Netlist) (h : HasClock (clock_name ms) b) where
   is_circuit = record {
     within = h.within;
     named = h.named;
-    drivers = length-map b.definitions (driver_by (unwrap_or clock_net 0)) ∙ h.definitions;
+    drivers = length-by_net (driver_by ms b.names) b.names b.definitions h.definitions;
     delays = length-by_net (net_delay ms) b.names b.definitions h.definitions;
     driven = driven_at;
     outputs = h.outputs;
     distinct = h.distinct;
-    clock = clock_below;
-    flops = flops_have_clock;
-    clocked = clocked_at;
+    clock = clock_among-below ms b.names b.definitions;
+    taken = clock_taken ms b.names b.definitions;
     marks = h.marks;
     cut = cut_of_table (option_and_then as_table (get_member (codes "block") ms));
   }
 
-pub clocked_circuit-circuit_of : (ms : Members) (name : List ℕ) (more parts b : Netlist) → more ≡ with_clock name parts → name ≡ clock_name ms → parts ≡ b → clocked_circuit ms more ≡ circuit_of b ms
+pub clocked_circuit-circuit_of : (ms : Members) (more parts b : Netlist) → more ≡ with_clock ms parts → parts ≡ b → clocked_circuit ms more ≡ circuit_of b ms
 unfolding circuit_of
-clocked_circuit-circuit_of ms name more parts b added named same = rw (added, named, same)
+clocked_circuit-circuit_of ms more parts b added same = rw (added, same) refl

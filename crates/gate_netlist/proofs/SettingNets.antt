@@ -1,6 +1,6 @@
 -- What the settings give each net, as the code walks over names and definitions.
-use Rattle.std.proofs.Common.{◌≡◌, ◌∙◌, ℕ, List, [], ◌∷◌, map, fold, max, Option, Some, None, unwrap_or, option_map, option_and_then, String, Global, string_bytes, Bor, BTreeMap, refl, ap, arith, codes}
-use Rattle.std.specs.List.{zip}
+use Rattle.std.proofs.Common.{◌≡◌, ◌∙◌, ℕ, Bool, ◌||◌, List, [], ◌∷◌, map, fold, max, Option, Some, None, unwrap_or, option_map, option_and_then, String, Global, string_bytes, Bor, BTreeMap, refl, ap, arith, codes}
+use Rattle.std.specs.List.{list_any, zip}
 use Rattle.std.specs.Map.{values_of}
 use Rattle.gate_values.specs.declared.gate.Kind.{Kind}
 use Rattle.gate_values.specs.declared.gate.Kind.TheVariants as kind
@@ -10,6 +10,7 @@ use Rattle.toml.specs.declared.value.Value.{Value}
 use Rattle.toml.proofs.Views.{Entry}
 use Rattle.gate_netlist.specs.declared.bench.Definition.{Definition}
 use Rattle.gate_netlist.specs.declared.bench.Definition.TheVariants.{Input, Gate, Flop}
+use Rattle.gate_netlist.specs.Netlist.{any_net}
 use Rattle.gate_netlist.specs.Settings.{as_block, table_at, delay_of_key, key_of, net_delay, greatest_block}
 use Rattle.gate_netlist.specs.declared.settings.nets.KindDelays.{KindDelays}
 use Rattle.gate_netlist.specs.Meaning.{delays_of}
@@ -21,6 +22,13 @@ pub map-zip-names : {X : Type 0} (f : List ℕ → Definition → X) (names : Li
 map-zip-names f [] ds = refl
 map-zip-names f (n ∷ ns) [] = refl
 map-zip-names f (n ∷ ns) (d ∷ ds) = ap (λ xs. f (string_bytes n) d ∷ xs) (map-zip-names f ns ds)
+
+-- a test of each net, as code makes it over names as texts
+pub any-zip-names : (p : List ℕ → Definition → Bool) (names : List (String Global)) (ds : List Definition)
+    → list_any (λ (net : String Global × Definition). p (string_bytes net.0) net.1) (zip names ds) ≡ any_net p (map string_bytes names) ds
+any-zip-names p [] ds = refl
+any-zip-names p (n ∷ ns) [] = refl
+any-zip-names p (n ∷ ns) (d ∷ ds) = ap (λ b. p (string_bytes n) d || b) (any-zip-names p ns ds)
 
 delay_of_kind-kind_delays : (ms : Members) (k : Kind) → delay_of_kind (kind_delays ms) k ≡ delay_of_key ms (key_of k)
 delay_of_kind-kind_delays ms kind.And = refl

@@ -1,16 +1,16 @@
 -- Why a settings document is refused.
 use Rattle.std.specs.Prelude.{ℕ, Bool, true, false, ◌&&◌, ◌||◌, not, ◌==◌, if◌then◌else◌, List, length, get_or, codes, Option, Some, None, is_none}
-use Rattle.std.specs.List.{list_any, list_all}
+use Rattle.std.specs.List.{list_all}
 use Rattle.std.specs.Option.{option_map_or}
 use Rattle.std.specs.Str.{bytes_eq}
 use Rattle.toml.specs.Data.{Data, Members, no_members, member, get_member, as_str, as_table}
 use Rattle.gate_netlist.specs.declared.bench.Definition.{Definition}
 use Rattle.gate_netlist.specs.declared.bench.Definition.TheVariants.{Input, Flop}
 use Rattle.gate_netlist.specs.declared.fault.SettingsFault.{SettingsFault}
-use Rattle.gate_netlist.specs.declared.fault.SettingsFault.TheVariants.{UnknownKey, UnknownNet, BadDelay, ClockNotInput, BadCut}
-use Rattle.gate_netlist.specs.Netlist.{Netlist, place_of}
+use Rattle.gate_netlist.specs.declared.fault.SettingsFault.TheVariants.{UnknownKey, UnknownNet, BadDelay, BadCut, BadClock, BadInit}
+use Rattle.gate_netlist.specs.Netlist.{Netlist, net_named, any_net}
 use Rattle.gate_netlist.specs.Symbols.{is_letter}
-use Rattle.gate_netlist.specs.Settings.{as_delay, as_block, table_at, clock_name}
+use Rattle.gate_netlist.specs.Settings.{as_delay, as_block, as_content, table_at, clock_name, clock_of_flop}
 
 -- the line of an input
 abbrev pub is_input_line : Definition → Bool
@@ -22,17 +22,13 @@ abbrev pub is_flop_line : Definition → Bool
 is_flop_line (Flop d) = true
 is_flop_line _ = false
 
--- the net of a name
-abbrev pub number_of : Netlist → List ℕ → Option ℕ
-number_of b name = place_of b.names name
-
 -- the name is that of a net which isn't an input
 abbrev pub is_driven : Netlist → List ℕ → Bool
-is_driven b name = option_map_or (λ n. not (is_input_line (get_or b.definitions n Input))) (number_of b name) false
+is_driven b name = option_map_or (λ n. not (is_input_line (get_or b.definitions n Input))) (net_named b name) false
 
--- some net is a flip-flop
-abbrev pub has_flop : Netlist → Bool
-has_flop b = list_any is_flop_line b.definitions
+-- the name is that of a flip-flop
+abbrev pub is_flop_name : Netlist → List ℕ → Bool
+is_flop_name b name = option_map_or (λ n. is_flop_line (get_or b.definitions n Input)) (net_named b name) false
 
 -- some member passes the test
 abbrev pub any_member : (List ℕ → Data → Bool) → Members → Bool
@@ -44,7 +40,7 @@ abbrev pub is_unknown_top : List ℕ → Data → Bool
 is_unknown_top k d =
     if bytes_eq k (codes "default") then false
     else if bytes_eq k (codes "clock") || bytes_eq k (codes "scope") then is_none (as_str d)
-    else if bytes_eq k (codes "gate") || bytes_eq k (codes "net") || bytes_eq k (codes "block") then is_none (as_table d)
+    else if bytes_eq k (codes "gate") || bytes_eq k (codes "net") || bytes_eq k (codes "block") || bytes_eq k (codes "clocks") || bytes_eq k (codes "init") then is_none (as_table d)
     else true
 
 -- a key that `gate` may have
@@ -58,11 +54,13 @@ is_gate_key k =
 abbrev pub has_unknown_key : Members → Bool
 has_unknown_key ms = any_member is_unknown_top ms || any_member (λ k d. not (is_gate_key k)) (table_at (codes "gate") ms)
 
--- a key of `net` or `block` that names no net, or names an input
+-- a key of `net` or `block` that names no net, or names an input, or one of `clocks` or `init` that names no flip-flop
 abbrev pub has_unknown_net : Netlist → Members → Bool
 has_unknown_net b ms =
     any_member (λ k d. not (is_driven b k)) (table_at (codes "net") ms)
     || any_member (λ k d. not (is_driven b k)) (table_at (codes "block") ms)
+    || any_member (λ k d. not (is_flop_name b k)) (table_at (codes "clocks") ms)
+    || any_member (λ k d. not (is_flop_name b k)) (table_at (codes "init") ms)
 
 -- a value that is no delay
 abbrev pub is_bad_delay : List ℕ → Data → Bool
@@ -79,13 +77,26 @@ has_bad_delay ms =
 abbrev pub is_name : List ℕ → Bool
 is_name bytes = not (length bytes == 0) && list_all is_letter bytes && not (bytes_eq bytes (codes "$end"))
 
--- there is a flip-flop, and the clock's name is no name or names a net that isn't an input
-abbrev pub has_bad_clock : Netlist → Members → Bool
-has_bad_clock b ms = has_flop b && (not (is_name (clock_name ms)) || is_driven b (clock_name ms))
-
 -- a value in `block` that is no block
 abbrev pub has_bad_block : Members → Bool
 has_bad_block ms = any_member (λ k d. is_none (as_block d)) (table_at (codes "block") ms)
+
+-- No net has a clock's name, and none can be added: only an input of the name that `clock` gives can, where it is a name.
+abbrev pub is_missing_clock : Netlist → Members → List ℕ → Bool
+is_missing_clock b ms name = is_none (net_named b name) && not (bytes_eq name (clock_name ms) && is_name name)
+
+-- the flip-flop's clock is missing
+abbrev pub lacks_clock : Netlist → Members → List ℕ → Definition → Bool
+lacks_clock b ms flop (Flop d) = is_missing_clock b ms (clock_of_flop ms flop)
+lacks_clock b ms net _ = false
+
+-- a value in `clocks` that is no text, or a flip-flop whose clock is missing
+abbrev pub has_bad_clock : Netlist → Members → Bool
+has_bad_clock b ms = any_member (λ k d. is_none (as_str d)) (table_at (codes "clocks") ms) || any_net (lacks_clock b ms) b.names b.definitions
+
+-- a value in `init` that is no content
+abbrev pub has_bad_init : Members → Bool
+has_bad_init ms = any_member (λ k d. is_none (as_content d)) (table_at (codes "init") ms)
 
 -- the least cause that applies
 unfoldable pub cause_of : Netlist → Members → Option SettingsFault
@@ -93,6 +104,7 @@ cause_of b ms =
     if has_unknown_key ms then Some UnknownKey
     else if has_unknown_net b ms then Some UnknownNet
     else if has_bad_delay ms then Some BadDelay
-    else if has_bad_clock b ms then Some ClockNotInput
     else if has_bad_block ms then Some BadCut
+    else if has_bad_clock b ms then Some BadClock
+    else if has_bad_init ms then Some BadInit
     else None

@@ -72,10 +72,10 @@ IsDriven nets Input delay = delay ≡ 0
 IsDriven nets (Gate kind inputs) delay = HasInputs kind (length inputs) × All (λ i. i < nets) inputs × IsDelay delay
 IsDriven nets (Flop d clock init) delay = (d < nets) × (clock < nets) × IsDelay delay
 
--- a flip-flop's clock is the circuit's clock
-abbrev pub IsClockedBy : Option ℕ → Driver → Type 0
-IsClockedBy circuit (Flop d clock init) = circuit ≡ Some clock
-IsClockedBy circuit _ = Unit {0}
+-- a flip-flop with this clock
+abbrev pub is_clocked_by : ℕ → Driver → Bool
+is_clocked_by c (Flop d clock init) = nat_eq clock c
+is_clocked_by c _ = false
 
 -- the cut is of as many nets, and just those that aren't inputs have an owner
 pub record CutFits (d : Design) (cut : Ownership) : Type 0 where
@@ -92,8 +92,7 @@ pub record IsCircuit (d : Design) : Type 0 where
   pub outputs : All (λ n. n < nets_of d) d.outputs
   pub distinct : IsDistinct nat_eq d.outputs
   pub clock : IfSome d.clock (λ c. c < nets_of d)
-  -- there is a clock just where there is a flip-flop
-  pub flops : is_some d.clock ≡ list_any is_flop d.drivers
-  pub clocked : (n : ℕ) → n < nets_of d → IsClockedBy d.clock (driver_of d n)
+  -- the circuit's clock is that of a flip-flop
+  pub taken : IfSome d.clock (λ c. list_any (is_clocked_by c) d.drivers ≡ true)
   pub marks : length d.outputs ≤ nets_of d
   pub cut : IfSome d.cut (CutFits d)

@@ -1,12 +1,14 @@
--- What is true of a netlist once its clock is among its nets.
-use Rattle.std.specs.Prelude.{◌≡◌, ℕ, ◌<◌, ◌≤◌, nat_eq, true, List, length, get_or, IsSome}
+-- What is true of a netlist once its flip-flops' clocks are among its nets.
+use Rattle.std.specs.Prelude.{◌≡◌, ℕ, ◌<◌, ◌≤◌, nat_eq, true, List, [], length, get_or, IsSome}
 use Rattle.std.specs.List.{All, IsDistinct}
+use Rattle.toml.specs.Data.{Members}
 use Rattle.gate_netlist.specs.declared.bench.Definition.TheVariants.{Input}
-use Rattle.gate_netlist.specs.Netlist.{Netlist, NamesDiffer, IsDefinition}
-use Rattle.gate_netlist.specs.Causes.{number_of, has_flop}
+use Rattle.gate_netlist.specs.Netlist.{Netlist, NamesDiffer, IsDefinition, net_named}
+use Rattle.gate_netlist.specs.Settings.{clock_of_flop}
+use Rattle.gate_netlist.specs.Causes.{is_flop_line}
 
--- what a netlist keeps of its law when the clock is added, and where there is a flip-flop, some net has the clock's name
-pub record HasClock (name : List ℕ) (b : Netlist) : Type 0 where
+-- what a netlist keeps of its law when a clock is added, and that each flip-flop's clock has the name of a net
+pub record HasClocks (ms : Members) (b : Netlist) : Type 0 where
   pub within : length b.names ≤ 1000000
   pub named : NamesDiffer b.names
   pub definitions : length b.definitions ≡ length b.names
@@ -14,4 +16,5 @@ pub record HasClock (name : List ℕ) (b : Netlist) : Type 0 where
   pub outputs : All (λ n. n < length b.names) b.outputs
   pub marks : length b.outputs ≤ length b.names
   pub distinct : IsDistinct nat_eq b.outputs
-  pub clocked : has_flop b ≡ true → IsSome (number_of b name)
+  pub clocked : (n : ℕ) → n < length b.names → is_flop_line (get_or b.definitions n Input) ≡ true
+      → IsSome (net_named b (clock_of_flop ms (get_or b.names n [])))

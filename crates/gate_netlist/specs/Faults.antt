@@ -26,23 +26,26 @@ bench_cause_name bench.Undriven = codes "Undriven"
 bench_cause_name bench.TooManyNets = codes "TooManyNets"
 bench_cause_name bench.Memory = codes "Memory"
 
+-- 5 was the number of a cause that is no more
 abbrev pub settings_fault_number : SettingsFault → ℕ
 settings_fault_number settings.Toml = 1
 settings_fault_number settings.UnknownKey = 2
 settings_fault_number settings.UnknownNet = 3
 settings_fault_number settings.BadDelay = 4
-settings_fault_number settings.ClockNotInput = 5
 settings_fault_number settings.BadCut = 6
 settings_fault_number settings.Memory = 7
+settings_fault_number settings.BadClock = 8
+settings_fault_number settings.BadInit = 9
 
 abbrev pub settings_fault_name : SettingsFault → List ℕ
 settings_fault_name settings.Toml = codes "Toml"
 settings_fault_name settings.UnknownKey = codes "UnknownKey"
 settings_fault_name settings.UnknownNet = codes "UnknownNet"
 settings_fault_name settings.BadDelay = codes "BadDelay"
-settings_fault_name settings.ClockNotInput = codes "ClockNotInput"
 settings_fault_name settings.BadCut = codes "BadCut"
 settings_fault_name settings.Memory = codes "Memory"
+settings_fault_name settings.BadClock = codes "BadClock"
+settings_fault_name settings.BadInit = codes "BadInit"
 
 -- the line and the cause, for people
 abbrev pub bench_fault_text : BenchFault → List ℕ

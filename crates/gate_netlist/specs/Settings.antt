@@ -1,8 +1,11 @@
 -- What a settings text says: a document, and what stands at its keys.
-use Rattle.std.specs.Prelude.{◌≡◌, ℕ, max, ◌&&◌, nat_le, if◌then◌else◌, List, codes, Option, Some, None, option_and_then, unwrap_or, pos, IsUtf8}
+use Rattle.std.specs.Prelude.{◌≡◌, ℕ, max, Bool, false, ◌&&◌, nat_le, if◌then◌else◌, List, codes, Option, Some, None, option_and_then, unwrap_or, pos, IsUtf8}
+use Rattle.std.specs.Str.{bytes_eq}
+use Rattle.gate_values.specs.declared.logic.Logic.{Logic}
+use Rattle.gate_values.specs.declared.logic.Logic.TheVariants.{Zero, One, X}
 use Rattle.gate_values.specs.declared.gate.Kind.{Kind}
 use Rattle.gate_values.specs.declared.gate.Kind.TheVariants as kind
-use Rattle.toml.specs.Data.{Data, integer, Members, no_members, member, get_member, as_str, as_table}
+use Rattle.toml.specs.Data.{Data, integer, string, Members, no_members, member, get_member, as_str, as_table}
 use Rattle.toml.specs.Parse.{parse_document}
 use Rattle.gate_netlist.specs.declared.bench.Definition.{Definition}
 use Rattle.gate_netlist.specs.declared.bench.Definition.TheVariants.{Input, Gate, Flop}
@@ -21,6 +24,15 @@ abbrev pub as_block : Data → Option ℕ
 as_block (integer (pos n)) = if nat_le n 1023 then Some n else None
 as_block _ = None
 
+-- a content: one of the texts 0, 1 and x
+abbrev pub as_content : Data → Option Logic
+as_content (string s) =
+    if bytes_eq s (codes "0") then Some Zero
+    else if bytes_eq s (codes "1") then Some One
+    else if bytes_eq s (codes "x") then Some X
+    else None
+as_content _ = None
+
 -- the table at a key, empty where there is none
 abbrev pub table_at : List ℕ → Members → Members
 table_at k ms = unwrap_or (option_and_then as_table (get_member k ms)) no_members
@@ -36,6 +48,10 @@ delay_at k ms = option_and_then as_delay (get_member k ms)
 -- the block at a key, where it is one
 abbrev pub block_at : List ℕ → Members → Option ℕ
 block_at k ms = option_and_then as_block (get_member k ms)
+
+-- the content at a key, where it is one
+abbrev pub content_at : List ℕ → Members → Option Logic
+content_at k ms = option_and_then as_content (get_member k ms)
 
 -- the key of a kind of gate
 abbrev pub key_of : Kind → List ℕ
@@ -72,6 +88,19 @@ abbrev pub greatest_block : Members → ℕ
 greatest_block no_members = 0
 greatest_block (member k d ms) = max (unwrap_or (as_block d) 0) (greatest_block ms)
 
--- the name of the clock: that of `clock`, else CK
+-- the name that `clock` gives, CK where it gives none
 abbrev pub clock_name : Members → List ℕ
 clock_name ms = unwrap_or (text_at (codes "clock") ms) (codes "CK")
+
+-- the name of a flip-flop's clock: its own in `clocks`, else the one that `clock` gives
+abbrev pub clock_of_flop : Members → List ℕ → List ℕ
+clock_of_flop ms flop = unwrap_or (text_at flop (table_at (codes "clocks") ms)) (clock_name ms)
+
+-- the flip-flop takes the clock that `clock` names
+abbrev pub takes_clock : Members → List ℕ → Definition → Bool
+takes_clock ms flop (Flop d) = bytes_eq (clock_of_flop ms flop) (clock_name ms)
+takes_clock ms net _ = false
+
+-- what a flip-flop begins with: its own content in `init`, else x
+abbrev pub initial_content : Members → List ℕ → Logic
+initial_content ms flop = unwrap_or (content_at flop (table_at (codes "init") ms)) X

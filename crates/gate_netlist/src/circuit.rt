@@ -41,8 +41,9 @@ impl Model for Circuit {
 
 impl Circuit {
     /// The circuit of a bench and a settings text: each net's delay is that of its name, else that of its kind,
-    /// else the default, and the flip-flops' clock is the input of the clock's name, which is added as the last
-    /// net where no net has the name. A text is refused for the least cause that applies to it.
+    /// else the default. A flip-flop's clock is the net of the name that its own key gives, else of the one that
+    /// `clock` gives; where no net has this one, an input of that name is added as the last net. It begins with
+    /// the content that its key gives, else unknown. A text is refused for the least cause that applies to it.
     ///
     /// The bench is consumed, also where the text is refused. Memory is answered wherever a growth is refused.
     pub fn of(alloc: Global, bench: Bench, settings: &[u8]) -> Result<Circuit, SettingsFault>
@@ -117,7 +118,7 @@ impl Circuit {
         }
     }
 
-    /// The clock of the flip-flops; none where there is no flip-flop.
+    /// The net that `clock` names; none where no flip-flop takes it.
     pub fn clock(&self) -> Option<u32>
         ensures { result ≡ self.now.clock }
     {

@@ -35,23 +35,29 @@ pub struct BenchFault {
     pub cause: BenchCause,
 }
 
-/// Why a settings text is refused: of the causes that apply, the one with the least number.
+/// Why a settings text is refused: of the causes that apply, the one with the least number. 5 was the number of a
+/// cause that is no more.
 #[derive(Clone, Copy, Debug, PartialEq, Eq)]
 pub enum SettingsFault {
     /// The text is no TOML document.
     Toml = 1,
-    /// A key that isn't listed, `clock` or `scope` that is no text, or `gate`, `net` or `block` that is no table.
+    /// A key that isn't listed, `clock` or `scope` that is no text, or one of `gate`, `net`, `block`, `clocks` and
+    /// `init` that is no table.
     UnknownKey = 2,
-    /// A key that names no net, or names an input.
+    /// A key of `net` or `block` that names no net, or names an input, or one of `clocks` or `init` that names no
+    /// flip-flop.
     UnknownNet = 3,
     /// A delay that is no whole number from 1 to 1,000,000.
     BadDelay = 4,
-    /// The clock's name is no name, or names a net that isn't an input.
-    ClockNotInput = 5,
     /// A block number that is no whole number from 0 to 1023.
     BadCut = 6,
     /// A growth was refused.
     Memory = 7,
+    /// A flip-flop's clock has the name of no net, and it isn't a name that `clock` gives, or a value of `clocks` is
+    /// no text.
+    BadClock = 8,
+    /// A content that isn't the text `0`, `1` or `x`.
+    BadInit = 9,
 }
 
 impl BenchCause {
@@ -96,9 +102,10 @@ impl SettingsFault {
             SettingsFault::UnknownKey => "UnknownKey",
             SettingsFault::UnknownNet => "UnknownNet",
             SettingsFault::BadDelay => "BadDelay",
-            SettingsFault::ClockNotInput => "ClockNotInput",
             SettingsFault::BadCut => "BadCut",
             SettingsFault::Memory => "Memory",
+            SettingsFault::BadClock => "BadClock",
+            SettingsFault::BadInit => "BadInit",
         }
     }
 }

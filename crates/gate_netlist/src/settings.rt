@@ -5,12 +5,14 @@ ghost use Rattle.gate_netlist.specs.Settings.{IsDocument};
 ghost use Rattle.gate_netlist.specs.Meaning.{IsRefusal};
 
 mod causes;
+mod flops;
 mod nets;
 mod parts;
 mod values;
 
 use crate::fault::SettingsFault;
-pub(crate) use causes::{cause_of, has_flop};
+pub(crate) use causes::cause_of;
+pub(crate) use flops::{clock_of_flop, initial_content, some_takes_clock};
 pub(crate) use nets::{delays_of, greatest_block, owners_of};
 pub(crate) use parts::{Parts, parts_of, with_clock};
 use std::alloc::Global;

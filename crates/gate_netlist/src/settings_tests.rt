@@ -1,11 +1,15 @@
 use crate::{Bench, Circuit, Counts, Cut, Driver, SettingsFault, read_bench};
-use gate_values::Kind;
+use gate_values::{Kind, Logic};
 use std::alloc::Global;
 use std::test::Fail;
 
 const FLIP_FLOP: &str = "INPUT(D)\nQ = DFF(D)\n";
 
 const INVERTER: &str = "INPUT(A)\nOUTPUT(Y)\nY = NOT(A)\n";
+
+const TOGGLE: &str = "N = NOT(Q)\nQ = DFF(N)\n";
+
+const GATED: &str = "INPUT(D)\nINPUT(E)\nINPUT(CK)\nG = AND(CK, E)\nQ = DFF(D)\n";
 
 const S27: &str =
     "INPUT(G0)\nINPUT(G1)\nINPUT(G2)\nINPUT(G3)\nOUTPUT(G17)\nG5 = DFF(G10)\nG6 = DFF(G11)\nG7 = DFF(G13)\nG14 = NOT(G0)\nG17 = NOT(G11)\nG8 = AND(G14, G6)\nG15 = OR(G12, G8)\nG16 = OR(G3, G8)\nG9 = NAND(G16, G15)\nG10 = NOR(G14, G11)\nG11 = NOR(G5, G9)\nG12 = NOR(G1, G7)\nG13 = NOR(G2, G12)\n";
@@ -30,6 +34,23 @@ fn clock_of(alloc: Global, bench: &str, settings: &str) -> Result<Option<u32>, S
 fn net_of(alloc: Global, bench: &str, name: &str) -> Result<Option<u32>, SettingsFault> {
     let circuit = circuit_of(alloc, bench, "")?;
     Ok(circuit.find(name))
+}
+
+/// The data net, the clock and the initial content of a net, where it is a flip-flop.
+fn flop_of(
+    alloc: Global,
+    bench: &str,
+    settings: &str,
+    net: u32,
+) -> Result<Option<(u32, u32, Logic)>, SettingsFault> {
+    let circuit = circuit_of(alloc, bench, settings)?;
+    if net >= circuit.nets() {
+        return Ok(None);
+    }
+    match circuit.driver(net) {
+        Driver::Flop { d, clock, init } => Ok(Some((*d, *clock, *init))),
+        _ => Ok(None),
+    }
 }
 
 /// Whether a net has this name and is a gate of this kind over these nets.
@@ -127,11 +148,15 @@ fn unknown_keys_and_nets(rt: HostRuntime) {
         ("clock = 1", SettingsFault::UnknownKey),
         ("scope = true", SettingsFault::UnknownKey),
         ("net = \"Q\"", SettingsFault::UnknownKey),
+        ("clocks = 1", SettingsFault::UnknownKey),
+        ("init = \"0\"", SettingsFault::UnknownKey),
         ("[gate]\nBUF = 1", SettingsFault::UnknownKey),
         ("[gate]\ndff = 1", SettingsFault::UnknownKey),
         ("[net]\nD = 2", SettingsFault::UnknownNet),
         ("[net]\nR = 2", SettingsFault::UnknownNet),
         ("[block]\nCK = 0", SettingsFault::UnknownNet),
+        ("[clocks]\nD = \"CK\"", SettingsFault::UnknownNet),
+        ("[init]\nD = \"0\"", SettingsFault::UnknownNet),
     ] {
         assert_eq!(rt;
             fault_of(rt.alloc(), settings),
@@ -148,12 +173,15 @@ fn bad_values(rt: HostRuntime) {
         ("default = 1000001", SettingsFault::BadDelay),
         ("default = 2.0", SettingsFault::BadDelay),
         ("[net]\nQ = \"2\"", SettingsFault::BadDelay),
-        ("clock = \"Q\"", SettingsFault::ClockNotInput),
-        ("clock = \"\"", SettingsFault::ClockNotInput),
-        ("clock = \"C K\"", SettingsFault::ClockNotInput),
-        ("clock = \"$end\"", SettingsFault::ClockNotInput),
         ("[block]\nQ = 1024", SettingsFault::BadCut),
         ("[block]\nQ = true", SettingsFault::BadCut),
+        ("clock = \"\"", SettingsFault::BadClock),
+        ("clock = \"C K\"", SettingsFault::BadClock),
+        ("clock = \"$end\"", SettingsFault::BadClock),
+        ("[clocks]\nQ = \"R\"", SettingsFault::BadClock),
+        ("[clocks]\nQ = 1", SettingsFault::BadClock),
+        ("[init]\nQ = \"z\"", SettingsFault::BadInit),
+        ("[init]\nQ = 1", SettingsFault::BadInit),
     ] {
         assert_eq!(rt;
             fault_of(rt.alloc(), settings),
@@ -164,22 +192,14 @@ fn bad_values(rt: HostRuntime) {
 }
 
 #[test]
-fn a_gate_is_no_clock(rt: HostRuntime) {
-    let circuit = circuit_of(rt.alloc(), "Q = DFF(Q)\nCK = NOT(Q)\n", "");
-    assert_eq!(rt; circuit.err(), Some(SettingsFault::ClockNotInput));
-}
-
-#[test]
 fn the_least_of_several(rt: HostRuntime) {
     for (settings, cause) in [
         ("speed = 1\ndefault = 0", SettingsFault::UnknownKey),
         ("block = 1\n[net]\nD = 0", SettingsFault::UnknownKey),
         ("default = 0\n[net]\nD = 0", SettingsFault::UnknownNet),
-        ("clock = \"Q\"\n[net]\nQ = 0", SettingsFault::BadDelay),
-        (
-            "clock = \"Q\"\n[block]\nQ = 1024",
-            SettingsFault::ClockNotInput,
-        ),
+        ("clock = \"\"\n[net]\nQ = 0", SettingsFault::BadDelay),
+        ("clock = \"\"\n[block]\nQ = 1024", SettingsFault::BadCut),
+        ("clock = \"\"\n[init]\nQ = 0", SettingsFault::BadClock),
     ] {
         assert_eq!(rt;
             fault_of(rt.alloc(), settings),
@@ -220,19 +240,42 @@ fn each_kind_has_its_delay(rt: HostRuntime) -> Result<(), Fail> {
 }
 
 #[test]
-fn the_clock_is_an_input(rt: HostRuntime) -> Result<(), Fail> {
-    for (bench, settings, clock) in [
-        (FLIP_FLOP, "", Some(2)),
-        (FLIP_FLOP, "clock = \"D\"", Some(0)),
-        (INVERTER, "clock = \"Y\"", None),
-        (S27, "", Some(17)),
+fn the_clock_is_the_net_of_its_name(rt: HostRuntime) -> Result<(), Fail> {
+    for (bench, settings, nets, clock) in [
+        (FLIP_FLOP, "", 3, Some(2)),
+        (FLIP_FLOP, "clock = \"D\"", 2, Some(0)),
+        (FLIP_FLOP, "clock = \"Q\"", 2, Some(1)),
+        (FLIP_FLOP, "[clocks]\nQ = \"CK\"", 3, Some(2)),
+        (FLIP_FLOP, "clock = \"\"\n[clocks]\nQ = \"D\"", 2, None),
+        ("Q = DFF(Q)\nCK = NOT(Q)\n", "", 2, Some(1)),
+        (INVERTER, "clock = \"Y\"", 2, None),
+        (S27, "", 18, Some(17)),
     ] {
-        assert_eq!(rt;
-            clock_of(rt.alloc(), bench, settings)?,
-            clock,
-            "at {settings}"
-        );
+        let circuit = circuit_of(rt.alloc(), bench, settings)?;
+        assert_eq!(rt; circuit.nets(), nets, "at {settings}");
+        assert_eq!(rt; circuit.clock(), clock, "at {settings}");
     }
+    Ok(())
+}
+
+#[test]
+fn flip_flops_with_clocks_and_contents(rt: HostRuntime) -> Result<(), Fail> {
+    for (bench, settings, net, flop) in [
+        (FLIP_FLOP, "", 1, (0, 2, Logic::X)),
+        (FLIP_FLOP, "[init]\nQ = \"x\"", 1, (0, 2, Logic::X)),
+        (FLIP_FLOP, "[clocks]\nQ = \"Q\"", 1, (0, 1, Logic::X)),
+        (TOGGLE, "[init]\nQ = \"0\"", 1, (0, 2, Logic::Zero)),
+        (
+            GATED,
+            "[clocks]\nQ = \"G\"\n[init]\nQ = \"1\"",
+            4,
+            (0, 3, Logic::One),
+        ),
+    ] {
+        let got = flop_of(rt.alloc(), bench, settings, net)?;
+        assert!(rt; got == Some(flop), "at {settings}");
+    }
+    assert_eq!(rt; clock_of(rt.alloc(), GATED, "[clocks]\nQ = \"G\"")?, None);
     Ok(())
 }
 

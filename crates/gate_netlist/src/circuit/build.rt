@@ -1,39 +1,39 @@
-ghost use Rattle.std.specs.Prelude.{◌≡◌, ◌≤◌, ℕ, List, IfOk, length, map, string_bytes, position, codes, option_map, option_and_then, if◌then◌else◌};
-ghost use Rattle.std.specs.List.{list_any};
-ghost use Rattle.gate_netlist.specs.Causes.{is_flop_line};
-ghost use Rattle.std.specs.Str.{bytes_eq};
+ghost use Rattle.std.specs.Prelude.{◌≡◌, ◌≤◌, ℕ, List, IfOk, None, length, map, string_bytes, codes, option_map, option_and_then};
+ghost use Rattle.std.specs.List.{zip};
 ghost use Rattle.toml.specs.Data.{get_member, as_table};
 ghost use Rattle.toml.specs.View.{table_view};
-ghost use Rattle.gate_netlist.specs.Settings.{clock_name, text_at};
-ghost use Rattle.gate_netlist.specs.Clocked.{HasClock};
+ghost use Rattle.gate_netlist.specs.Netlist.{place_of};
+ghost use Rattle.gate_netlist.specs.Settings.{text_at};
+ghost use Rattle.gate_netlist.specs.Causes.{cause_of};
+ghost use Rattle.gate_netlist.specs.Clocked.{HasClocks};
 ghost use Rattle.gate_netlist.specs.HeldParts.{parts_netlist};
-ghost use Rattle.gate_netlist.specs.Meaning.{driver_by, cut_of, clocked_circuit, circuit_of};
+ghost use Rattle.gate_netlist.specs.Meaning.{clock_among, driver_by, drivers_of, cut_of, clocked_circuit, circuit_of};
 
 use super::Circuit;
 use crate::bench::{Bench, Definition, Names};
 use crate::cut::Cut;
 use crate::driver::Driver;
 use crate::settings::{
-    Parts, block_table, clock_name, delays_of, greatest_block, has_flop, owners_of, parts_of,
-    text_at, with_clock,
+    Parts, block_table, clock_name, clock_of_flop, delays_of, greatest_block, initial_content,
+    owners_of, parts_of, some_takes_clock, text_at, with_clock,
 };
-use gate_values::Logic;
 use std::alloc::{AllocError, Global};
 use toml::Table;
 
 /// The circuit of a bench and a settings document that no cause speaks against.
 #[tactic(auto, unfolding(crate::specs::Meaning::circuit_of))]
 pub(super) fn build(alloc: Global, bench: Bench, table: &Table) -> Result<Circuit, AllocError>
+    requires { cause_of bench (table_view table.now) ≡ None }
     ensures { IfOk result (λ circuit. circuit ≡ circuit_of bench (table_view table.now)) }
 {
     let parts = parts_of(bench);
-    let clocked = with_clock(alloc, parts, clock_name(table))?;
+    let clocked = with_clock(alloc, parts, table)?;
     circuit_of_parts(alloc, clocked, table)
 }
 
-/// The circuit of a netlist that has its clock.
+/// The circuit of a netlist that has its flip-flops' clocks.
 fn circuit_of_parts(alloc: Global, parts: Parts, table: &Table) -> Result<Circuit, AllocError>
-    requires { HasClock (clock_name (table_view table.now)) (parts_netlist parts) }
+    requires { HasClocks (table_view table.now) (parts_netlist parts) }
     ensures { IfOk result (λ circuit. circuit ≡ clocked_circuit (table_view table.now) (parts_netlist parts)) }
 {
     let Parts {
@@ -44,9 +44,8 @@ fn circuit_of_parts(alloc: Global, parts: Parts, table: &Table) -> Result<Circui
     let delays = delays_of(alloc, table, names.as_slice(), definitions.as_slice())?;
     let cut = cut_of(alloc, table, names.as_slice(), definitions.as_slice())?;
     let scope = scope_of(alloc, table)?;
-    let named = number_of(&names, clock_name(table));
-    let clock = clock_of(definitions.as_slice(), named);
-    let drivers = drivers_of(alloc, definitions, named.unwrap_or(0))?;
+    let clock = clock_of(table, &names, definitions.as_slice());
+    let drivers = drivers_of(alloc, table, &names, definitions)?;
     Ok(Circuit {
         names,
         drivers,
@@ -59,9 +58,9 @@ fn circuit_of_parts(alloc: Global, parts: Parts, table: &Table) -> Result<Circui
 }
 
 /// The net of a name.
-fn number_of(names: &Names, name: &str) -> Option<u32>
+fn net_named(names: &Names, name: &str) -> Option<u32>
     requires { length names.now.keys ≤ 1000000 }
-    ensures { result ≡ position (λ other. bytes_eq name.now other) (map string_bytes names.now.keys) }
+    ensures { result ≡ place_of (map string_bytes names.now.keys) name.now }
 {
     match names.get_index_of(name) {
         Some(net) => Some(net as u32),
@@ -69,37 +68,60 @@ fn number_of(names: &Names, name: &str) -> Option<u32>
     }
 }
 
-/// The clock, where there is a flip-flop.
-fn clock_of(definitions: &[Definition], named: Option<u32>) -> Option<u32>
-    ensures { result ≡ (if list_any is_flop_line definitions.now then named else None) }
+/// The clock that `clock` names, where some flip-flop takes it.
+fn clock_of(table: &Table, names: &Names, definitions: &[Definition]) -> Option<u32>
+    requires { length names.now.keys ≤ 1000000 }
+    ensures { result ≡ clock_among (table_view table.now) (map string_bytes names.now.keys) definitions.now }
 {
-    if has_flop(definitions) { named } else { None }
+    if some_takes_clock(table, names.as_slice(), definitions) {
+        net_named(names, clock_name(table))
+    } else {
+        None
+    }
 }
 
-/// What sets each net, by its definition and the clock.
+/// What sets each net, by its definition and the settings.
 fn drivers_of(
     alloc: Global,
+    table: &Table,
+    names: &Names,
     definitions: Vec<Definition>,
-    clock: u32,
 ) -> Result<Vec<Driver>, AllocError>
-    ensures { IfOk result (λ drivers. drivers.items ≡ map (driver_by clock) definitions.items) }
+    requires { length names.now.keys ≤ 1000000 }
+    ensures { IfOk result (λ drivers. drivers.items ≡ drivers_of (table_view table.now) (map string_bytes names.now.keys) definitions.items) }
 {
-    definitions
-        .into_iter()
-        .map(|definition| driver_by(definition, clock))
+    drivers_among(alloc, table, names, names.as_slice(), definitions)
+}
+
+/// What sets each of some nets.
+fn drivers_among(
+    alloc: Global,
+    table: &Table,
+    all: &Names,
+    names: &[String],
+    definitions: Vec<Definition>,
+) -> Result<Vec<Driver>, AllocError>
+    requires { length all.now.keys ≤ 1000000 }
+    ensures { IfOk result (λ drivers. drivers.items ≡ map (λ net. driver_by (table_view table.now) (map string_bytes all.now.keys) (string_bytes net.0) net.1) (zip names.now definitions.items)) }
+{
+    names
+        .iter()
+        .zip(definitions)
+        .map(|(name, definition)| driver_by(table, all, name.as_str(), definition))
         .collect(alloc)
 }
 
-fn driver_by(definition: Definition, clock: u32) -> Driver
-    ensures { result ≡ driver_by clock definition }
+fn driver_by(table: &Table, names: &Names, name: &str, definition: Definition) -> Driver
+    requires { length names.now.keys ≤ 1000000 }
+    ensures { result ≡ driver_by (table_view table.now) (map string_bytes names.now.keys) name.now definition }
 {
     match definition {
         Definition::Input => Driver::Input,
         Definition::Gate { kind, inputs } => Driver::Gate { kind, inputs },
         Definition::Flop { d } => Driver::Flop {
             d,
-            clock,
-            init: Logic::X,
+            clock: net_named(names, clock_of_flop(table, name)).unwrap_or(0),
+            init: initial_content(table, name),
         },
     }
 }

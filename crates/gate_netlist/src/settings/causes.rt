@@ -1,15 +1,18 @@
-ghost use Rattle.std.specs.Prelude.{◌≡◌, ℕ, List, codes, not, is_none, string_bytes};
+ghost use Rattle.std.specs.Prelude.{◌≡◌, ◌&&◌, ℕ, List, codes, not, is_none, string_bytes};
 ghost use Rattle.std.specs.Prelude.{false};
 ghost use Rattle.std.specs.Option.{option_map_or};
-ghost use Rattle.std.specs.List.{list_any, list_all};
-ghost use Rattle.toml.specs.Data.{get_member};
+ghost use Rattle.std.specs.List.{list_any, list_all, zip};
+ghost use Rattle.std.specs.Str.{bytes_eq};
+ghost use Rattle.toml.specs.Data.{get_member, as_str};
 ghost use Rattle.std.specs.BTreeMap.{keys, values};
 ghost use Rattle.toml.specs.View.{view, table_view};
-ghost use Rattle.gate_netlist.specs.Settings.{as_delay, as_block, table_at};
+ghost use Rattle.gate_netlist.specs.Settings.{as_delay, as_block, as_content, table_at, clock_name};
+ghost use Rattle.gate_netlist.specs.Netlist.{any_net};
 ghost use Rattle.gate_netlist.specs.Symbols.{is_letter};
-ghost use Rattle.gate_netlist.specs.Causes.{is_input_line, is_flop_line, number_of, is_driven, has_flop, any_member, is_unknown_top, is_gate_key, has_unknown_key, has_unknown_net, is_bad_delay, has_bad_delay, is_name, has_bad_clock, has_bad_block, cause_of};
+ghost use Rattle.gate_netlist.specs.Causes.{is_input_line, is_flop_line, is_driven, is_flop_name, any_member, is_unknown_top, is_gate_key, has_unknown_key, has_unknown_net, is_bad_delay, has_bad_delay, is_name, is_missing_clock, lacks_clock, has_bad_clock, has_bad_init, has_bad_block, cause_of};
 
-use super::values::{block_of, clock_name, delay_of, table_at, value_at};
+use super::flops::clock_of_flop;
+use super::values::{block_of, clock_name, content_of, delay_of, table_at, value_at};
 use crate::bench::{Bench, Definition};
 use crate::fault::SettingsFault;
 use crate::token::is_letter;
@@ -26,10 +29,12 @@ pub(crate) fn cause_of(bench: &Bench, table: &Table) -> Option<SettingsFault>
         Some(SettingsFault::UnknownNet)
     } else if has_bad_delay(table) {
         Some(SettingsFault::BadDelay)
-    } else if has_bad_clock(bench, table) {
-        Some(SettingsFault::ClockNotInput)
     } else if has_bad_block(table) {
         Some(SettingsFault::BadCut)
+    } else if has_bad_clock(bench, table) {
+        Some(SettingsFault::BadClock)
+    } else if has_bad_init(table) {
+        Some(SettingsFault::BadInit)
     } else {
         None
     }
@@ -69,7 +74,7 @@ fn is_unknown_top(key: &str, value: &Value) -> bool
         false
     } else if key == "clock" || key == "scope" {
         !value.is_str()
-    } else if key == "gate" || key == "net" || key == "block" {
+    } else if key == "gate" || key == "net" || key == "block" || key == "clocks" || key == "init" {
         !value.is_table()
     } else {
         true
@@ -102,11 +107,14 @@ fn is_gate_key(key: &str) -> bool
         || key == "DFF"
 }
 
-/// Whether a key of `net` or `block` names no net, or an input.
+/// Whether a key of `net` or `block` names no net, or an input, or one of `clocks` or `init` names no flip-flop.
 fn has_unknown_net(bench: &Bench, table: &Table) -> bool
     ensures { result ≡ has_unknown_net bench.now (table_view table.now) }
 {
-    has_unknown_net_at(bench, table, "net") || has_unknown_net_at(bench, table, "block")
+    has_unknown_net_at(bench, table, "net")
+        || has_unknown_net_at(bench, table, "block")
+        || has_unknown_flop_at(bench, table, "clocks")
+        || has_unknown_flop_at(bench, table, "init")
 }
 
 fn has_unknown_net_at(bench: &Bench, table: &Table, key: &str) -> bool
@@ -128,6 +136,43 @@ fn some_net_is_unknown(bench: &Bench, nets: &Table) -> bool
     ensures { result ≡ list_any (λ k. not (is_driven bench.now (string_bytes k))) (keys nets.now) }
 {
     nets.keys().any(|key| !is_driven(bench, key.as_str()))
+}
+
+fn has_unknown_flop_at(bench: &Bench, table: &Table, key: &str) -> bool
+    ensures { result ≡ any_member (λ k d. not (is_flop_name bench.now k)) (table_at key.now (table_view table.now)) }
+{
+    match table_at(table, key) {
+        Some(flops) => has_unknown_flop_in(bench, flops),
+        None => false,
+    }
+}
+
+fn has_unknown_flop_in(bench: &Bench, flops: &Table) -> bool
+    ensures { result ≡ any_member (λ k d. not (is_flop_name bench.now k)) (table_view flops.now) }
+{
+    some_flop_is_unknown(bench, flops)
+}
+
+fn some_flop_is_unknown(bench: &Bench, flops: &Table) -> bool
+    ensures { result ≡ list_any (λ k. not (is_flop_name bench.now (string_bytes k))) (keys flops.now) }
+{
+    flops.keys().any(|key| !is_flop_name(bench, key.as_str()))
+}
+
+/// Whether the name is that of a flip-flop.
+fn is_flop_name(bench: &Bench, name: &str) -> bool
+    ensures { result ≡ is_flop_name bench.now name.now }
+{
+    match bench.names.get_index_of(name) {
+        Some(net) => is_flop_line(&bench.definitions[net]),
+        None => false,
+    }
+}
+
+fn is_flop_line(definition: &Definition) -> bool
+    ensures { result ≡ is_flop_line definition.now }
+{
+    matches!(definition, Definition::Flop { .. })
 }
 
 /// Whether the name is that of a net that isn't an input.
@@ -183,30 +228,108 @@ fn some_delay_is_bad(delays: &Table) -> bool
     delays.values().any(|value| delay_of(value).is_none())
 }
 
-/// Whether there is a flip-flop whose clock can't have the name that the document gives.
+/// Whether a value of `clocks` is no text, or a flip-flop's clock is missing.
 fn has_bad_clock(bench: &Bench, table: &Table) -> bool
     ensures { result ≡ has_bad_clock bench.now (table_view table.now) }
 {
-    if !bench_has_flop(bench) {
-        return false;
+    has_clock_without_text(table) || some_lacks_clock(bench, table)
+}
+
+fn has_clock_without_text(table: &Table) -> bool
+    ensures { result ≡ any_member (λ k d. is_none (as_str d)) (table_at (codes "clocks") (table_view table.now)) }
+{
+    match table_at(table, "clocks") {
+        Some(clocks) => has_value_without_text(clocks),
+        None => false,
     }
-    let name = clock_name(table);
-    !is_name(name.as_bytes()) || is_driven(bench, name)
 }
 
-fn bench_has_flop(bench: &Bench) -> bool
-    ensures { result ≡ has_flop bench.now }
+fn has_value_without_text(clocks: &Table) -> bool
+    ensures { result ≡ any_member (λ k d. is_none (as_str d)) (table_view clocks.now) }
 {
-    has_flop(bench.definitions.as_slice())
+    some_value_is_no_text(clocks)
 }
 
-/// Whether a flip-flop is defined.
-pub(crate) fn has_flop(definitions: &[Definition]) -> bool
-    ensures { result ≡ list_any is_flop_line definitions.now }
+fn some_value_is_no_text(clocks: &Table) -> bool
+    ensures { result ≡ list_any (λ v. is_none (as_str (view v))) (values clocks.now) }
 {
-    definitions
-        .iter()
-        .any(|definition| matches!(definition, Definition::Flop { .. }))
+    clocks.values().any(|value| !value.is_str())
+}
+
+/// Whether the clock of some flip-flop is missing.
+fn some_lacks_clock(bench: &Bench, table: &Table) -> bool
+    ensures { result ≡ any_net (lacks_clock bench.now (table_view table.now)) bench.now.names bench.now.definitions }
+{
+    lacks_clock_among(
+        bench,
+        table,
+        bench.names.as_slice(),
+        bench.definitions.as_slice(),
+    )
+}
+
+fn lacks_clock_among(
+    bench: &Bench,
+    table: &Table,
+    names: &[String],
+    definitions: &[Definition],
+) -> bool
+    ensures { result ≡ list_any (λ net. lacks_clock bench.now (table_view table.now) (string_bytes net.0) net.1) (zip names.now definitions.now) }
+{
+    names.iter().zip(definitions).any(|(name, definition)| lacks_clock(
+        bench,
+        table,
+        name.as_str(),
+        definition,
+    ))
+}
+
+fn lacks_clock(bench: &Bench, table: &Table, name: &str, definition: &Definition) -> bool
+    ensures { result ≡ lacks_clock bench.now (table_view table.now) name.now definition.now }
+{
+    match definition {
+        Definition::Flop { .. } => is_missing_clock(bench, table, clock_of_flop(table, name)),
+        _ => false,
+    }
+}
+
+/// Whether no net has a clock's name, and no input of it can be added.
+fn is_missing_clock(bench: &Bench, table: &Table, name: &str) -> bool
+    ensures { result ≡ is_missing_clock bench.now (table_view table.now) name.now }
+{
+    match bench.names.get_index_of(name) {
+        Some(_) => false,
+        None => !may_be_added(table, name),
+    }
+}
+
+/// Whether an input of this name may be added: it is the one that `clock` gives, and a name.
+fn may_be_added(table: &Table, name: &str) -> bool
+    ensures { result ≡ (bytes_eq name.now (clock_name (table_view table.now)) && is_name name.now) }
+{
+    name == clock_name(table) && is_name(name.as_bytes())
+}
+
+/// Whether a value of `init` is no content.
+fn has_bad_init(table: &Table) -> bool
+    ensures { result ≡ has_bad_init (table_view table.now) }
+{
+    match table_at(table, "init") {
+        Some(contents) => has_bad_init_in(contents),
+        None => false,
+    }
+}
+
+fn has_bad_init_in(contents: &Table) -> bool
+    ensures { result ≡ any_member (λ k d. is_none (as_content d)) (table_view contents.now) }
+{
+    some_content_is_bad(contents)
+}
+
+fn some_content_is_bad(contents: &Table) -> bool
+    ensures { result ≡ list_any (λ v. is_none (as_content (view v))) (values contents.now) }
+{
+    contents.values().any(|value| content_of(value).is_none())
 }
 
 /// Whether the bytes may name a net in a bench text.

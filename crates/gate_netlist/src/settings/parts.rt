@@ -1,13 +1,16 @@
 ghost use Rattle.std.specs.Prelude.{◌≡◌, IfOk, false, string_bytes};
 ghost use Rattle.std.specs.List.{list_any};
 ghost use Rattle.std.specs.Str.{bytes_eq};
+ghost use Rattle.toml.specs.View.{table_view};
 ghost use Rattle.gate_netlist.specs.Netlist.{IsNetlist};
 ghost use Rattle.gate_netlist.specs.HeldParts.{parts_netlist};
 ghost use Rattle.gate_netlist.specs.Meaning.{with_input, with_clock};
 
-use super::causes::has_flop;
+use super::flops::some_takes_clock;
+use super::values::clock_name;
 use crate::bench::{Bench, Definition, Names};
 use std::alloc::{AllocError, Global};
+use toml::Table;
 
 /// The parts of a bench, to which a clock may be added.
 #[derive(Drop)]
@@ -34,14 +37,15 @@ pub(crate) fn parts_of(bench: Bench) -> Parts
     }
 }
 
-/// The parts with the clock of this name among the nets: where there is a flip-flop and no net has the name, an
+/// The parts with the clock that `clock` names among the nets: where a flip-flop takes it and no net has the name, an
 /// input of that name is added as the last net.
-pub(crate) fn with_clock(alloc: Global, parts: Parts, name: &str) -> Result<Parts, AllocError>
-    ensures { IfOk result (λ more. parts_netlist more ≡ with_clock name.now (parts_netlist parts)) }
+pub(crate) fn with_clock(alloc: Global, parts: Parts, table: &Table) -> Result<Parts, AllocError>
+    ensures { IfOk result (λ more. parts_netlist more ≡ with_clock (table_view table.now) (parts_netlist parts)) }
 {
-    if !has_flop(parts.definitions.as_slice()) {
+    if !some_takes_clock(table, parts.names.as_slice(), parts.definitions.as_slice()) {
         return Ok(parts);
     }
+    let name = clock_name(table);
     match parts.names.get_index_of(name) {
         Some(_) => Ok(parts),
         None => add_input(alloc, parts, name),

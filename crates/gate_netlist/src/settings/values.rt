@@ -1,9 +1,10 @@
 ghost use Rattle.std.specs.Prelude.{◌≡◌, codes, option_map, option_and_then, option_copied, unwrap_or};
 ghost use Rattle.std.specs.Option.{option_map_or};
-ghost use Rattle.toml.specs.Data.{no_members, get_member, as_table};
+ghost use Rattle.toml.specs.Data.{string, no_members, get_member, as_table};
 ghost use Rattle.toml.specs.View.{view, table_view};
-ghost use Rattle.gate_netlist.specs.Settings.{as_delay, as_block, delay_at, block_at, text_at, clock_name};
+ghost use Rattle.gate_netlist.specs.Settings.{as_delay, as_block, as_content, delay_at, block_at, content_at, text_at, clock_name};
 
+use gate_values::Logic;
 use toml::{Table, Value};
 
 /// A delay: a whole number from 1 to 1,000,000.
@@ -22,6 +23,27 @@ pub(super) fn block_of(value: &Value) -> Option<u32>
 {
     match value.as_integer() {
         Some(block) if block >= 0 && block <= 1023 => Some(block as u32),
+        _ => None,
+    }
+}
+
+/// A content: one of the texts `0`, `1` and `x`.
+pub(super) fn content_of(value: &Value) -> Option<Logic>
+    ensures { result ≡ as_content (view value.now) }
+{
+    match value.as_str() {
+        Some(text) => content_named(text),
+        None => None,
+    }
+}
+
+fn content_named(text: &str) -> Option<Logic>
+    ensures { result ≡ as_content (string text.now) }
+{
+    match text {
+        "0" => Some(Logic::Zero),
+        "1" => Some(Logic::One),
+        "x" => Some(Logic::X),
         _ => None,
     }
 }
@@ -70,6 +92,16 @@ pub(super) fn block_at(table: &Table, key: &str) -> Option<u32>
     }
 }
 
+/// The content at a key, where it is one.
+pub(super) fn content_at(table: &Table, key: &str) -> Option<Logic>
+    ensures { result ≡ content_at key.now (table_view table.now) }
+{
+    match value_at(table, key) {
+        Some(value) => content_of(value),
+        None => None,
+    }
+}
+
 /// The text at a key, where it is one.
 pub(crate) fn text_at<'a>(table: &'a Table, key: &str) -> Option<&'a str>
     ensures { option_map (λ text. text.now) result ≡ text_at key.now (table_view table.now) }
@@ -80,7 +112,7 @@ pub(crate) fn text_at<'a>(table: &'a Table, key: &str) -> Option<&'a str>
     }
 }
 
-/// The name of the clock.
+/// The name that `clock` gives.
 pub(crate) fn clock_name(table: &Table) -> &str
     ensures { result.now ≡ clock_name (table_view table.now) }
 {

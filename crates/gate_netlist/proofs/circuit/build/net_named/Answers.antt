@@ -1,7 +1,7 @@
 use Rattle.std.proofs.Common.{◌∙◌, sym, string_bytes}
 use Rattle.std.specs.Str.{bytes_eq}
 use Rattle.gate_netlist.proofs.Positions.{position-map}
-use Rattle.gate_netlist.proofs.circuit.build.number_of.Goals as goal
+use Rattle.gate_netlist.proofs.circuit.build.net_named.Goals as goal
 
 pub returns-in-Some : goal.returns-in-Some
 returns-in-Some c = sym (position-map (λ other. bytes_eq c.args.name.now other) string_bytes c.args.names.now.keys ∙ sym c.get_index_of.ensures.index ∙ c.in-Some.is)
