@@ -8,11 +8,11 @@ use Rattle.gate_netlist.specs.declared.fault.BenchCause.TheVariants as cause
 use Rattle.gate_netlist.specs.declared.fault.BenchFault.{BenchFault}
 use Rattle.gate_netlist.specs.Faults.{fault_at, out_of_memory}
 use Rattle.gate_netlist.specs.Statements.{Name, Statement}
-use Rattle.gate_netlist.specs.Bench.{◌>>=◌, net_of, nets_of, stated, accepted}
+use Rattle.gate_netlist.specs.Bench.{◌>>=◌, net_defined, nets_defined, stated, accepted}
 
 -- the nets that were named before, and those of what is still read
 abbrev pub after : List Name → Result (List Statement) BenchFault → Result (List Name) BenchFault
-after earlier read = read >>= λ ss. Ok (earlier ++ nets_of ss)
+after earlier read = read >>= λ ss. Ok (earlier ++ nets_defined ss)
 
 -- more than is left of a text
 abbrev pub text_left : Option (Bor (List ℕ)) → ℕ
@@ -35,14 +35,14 @@ front-option (Some x) xs = refl
 pub behind : {X Y : Type 0} (f : X → Option Y) (ys : List Y) (x : X) (xs : List X) → (ys ++ option_to_list (f x)) ++ filter_map f xs ≡ ys ++ filter_map f (x ∷ xs)
 behind f ys x xs = append_assoc ys (option_to_list (f x)) (filter_map f xs) ∙ ap (λ (zs : List _). ys ++ zs) (front-option (f x) (filter_map f xs))
 
-regrouped : (earlier : List Name) (s : Statement) (read : Result (List Statement) BenchFault) → after earlier (read >>= λ ss. Ok (s ∷ ss)) ≡ after (earlier ++ option_to_list (net_of s)) read
-regrouped earlier s (Ok ss) = ap Ok (sym (behind net_of earlier s ss))
+regrouped : (earlier : List Name) (s : Statement) (read : Result (List Statement) BenchFault) → after earlier (read >>= λ ss. Ok (s ∷ ss)) ≡ after (earlier ++ option_to_list (net_defined s)) read
+regrouped earlier s (Ok ss) = ap Ok (sym (behind net_defined earlier s ss))
 regrouped earlier s (Err e) = refl
 
 pub one_more : (earlier : List Name) (line : ℕ) (l : List ℕ) (ls : List (List ℕ)) (s : Statement) (total : Result (List Name) BenchFault) → stated earlier l ≡ Ok s
-    → after earlier (accepted earlier line (l ∷ ls)) ≡ total → after (earlier ++ option_to_list (net_of s)) (accepted (earlier ++ option_to_list (net_of s)) (line + 1) ls) ≡ total
+    → after earlier (accepted earlier line (l ∷ ls)) ≡ total → after (earlier ++ option_to_list (net_defined s)) (accepted (earlier ++ option_to_list (net_defined s)) (line + 1) ls) ≡ total
 unfolding accepted
-one_more earlier line l ls s total e h = sym (regrouped earlier s (accepted (earlier ++ option_to_list (net_of s)) (line + 1) ls)) ∙ rw e at h
+one_more earlier line l ls s total e h = sym (regrouped earlier s (accepted (earlier ++ option_to_list (net_defined s)) (line + 1) ls)) ∙ rw e at h
 
 -- the fault at a line is that of all lines
 pub refused_at : (earlier : List Name) (line : ℕ) (l : List ℕ) (ls : List (List ℕ)) (c : BenchCause) (total : Result (List Name) BenchFault) → (c ≡ cause.Memory) ⊎ (stated earlier l ≡ Err c)

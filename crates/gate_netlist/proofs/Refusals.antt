@@ -7,7 +7,7 @@ use Rattle.gate_netlist.specs.declared.statement.GateWord.TheVariants as word
 use Rattle.gate_netlist.specs.Symbols.{Symbol, Open, Close, Equals, Word, code_of, symbols, is_clean}
 use Rattle.gate_netlist.specs.Statements.{Name, Statement, says, gate_of, arguments, takes, marked, driven, driven_by, statement_of, meaning_of}
 use Rattle.gate_netlist.specs.Lines.{lines_of}
-use Rattle.gate_netlist.specs.Bench.{◌>>=◌, net_of, is_among, refusal, unless, stated, at_line, accepted, nets_of, uses_other, unless_undriven, bench_of}
+use Rattle.gate_netlist.specs.Bench.{◌>>=◌, net_defined, is_among, refusal, unless, stated, at_line, accepted, nets_defined, uses_other, unless_undriven, bench_of}
 use Rattle.gate_netlist.specs.Refusals.{IsOfBench}
 
 -- a cause that a line can have
@@ -68,7 +68,7 @@ defined-of_line earlier (Some n) s = refused-of_line (is_among earlier n) (nat_l
 
 stated-of_line : (earlier : List Name) (line : List ℕ) → IfErr (stated earlier line) IsOfLine
 unfolding stated
-stated-of_line earlier line = then-refused IsOfLine (meaning_of line) _ (meaning_of-of_line line) (λ s. defined-of_line earlier (net_of s) s)
+stated-of_line earlier line = then-refused IsOfLine (meaning_of line) _ (meaning_of-of_line line) (λ s. defined-of_line earlier (net_defined s) s)
 
 -- ---- a text
 
@@ -81,7 +81,7 @@ unfolding accepted
 accepted-of_bench earlier line [] = tt
 accepted-of_bench earlier line (l ∷ ls) =
     then-refused IsOfBench (at_line line (stated earlier l)) _ (at_line-of_bench line (stated earlier l) (stated-of_line earlier l))
-    (λ s. then-refused IsOfBench (accepted (earlier ++ option_to_list (net_of s)) (line + 1) ls) _ (accepted-of_bench (earlier ++ option_to_list (net_of s)) (line + 1) ls) (λ ss. tt))
+    (λ s. then-refused IsOfBench (accepted (earlier ++ option_to_list (net_defined s)) (line + 1) ls) _ (accepted-of_bench (earlier ++ option_to_list (net_defined s)) (line + 1) ls) (λ ss. tt))
 
 undriven-of_bench : (place : Option ℕ) (ss : List Statement) → IfErr (unless_undriven place ss) IsOfBench
 undriven-of_bench None ss = tt
@@ -91,4 +91,4 @@ pub bench_of-of_bench : (text : List ℕ) → IfErr (bench_of text) IsOfBench
 unfolding bench_of
 bench_of-of_bench text =
     then-refused IsOfBench (accepted [] 1 (lines_of text)) _ (accepted-of_bench [] 1 (lines_of text))
-    (λ ss. undriven-of_bench (position (uses_other (nets_of ss)) ss) ss)
+    (λ ss. undriven-of_bench (position (uses_other (nets_defined ss)) ss) ss)

@@ -18,7 +18,8 @@ use Rattle.gate_netlist.specs.Faults.{fault_at, out_of_memory}
 use Rattle.gate_netlist.specs.Netlist.{IsDefinition, NamesDiffer, Netlist, IsNetlist}
 use Rattle.gate_netlist.specs.Symbols.{Symbol, Open, Close, Equals, Word, code_of, symbols, is_clean}
 use Rattle.gate_netlist.specs.Statements.{Name, Statement, Nothing, Input, Output, Gate, Flop, says, gate_of, arguments, takes, driven, driven_by, statement_of, meaning_of}
-use Rattle.gate_netlist.specs.Bench.{◌>>=◌, net_of, is_among, refusal, unless, stated, at_line, accepted, nets_of, uses_other, number_of, definition_of, output_of, with_last, each_once, netlist_of, names_of, linked, unless_undriven, resolved, bench_of}
+use Rattle.gate_netlist.specs.Bench.{◌>>=◌, net_defined, is_among, refusal, unless, stated, at_line, accepted, nets_defined, uses_other, number_among, definition_of, output_of, with_last, each_once, netlist_by, unless_undriven, resolved, bench_of}
+use Rattle.gate_netlist.specs.Passes.{defined_names, linked}
 use Rattle.gate_netlist.specs.declared.fault.BenchCause.TheVariants.{Undriven}
 use Rattle.gate_netlist.specs.declared.fault.BenchCause.TheVariants as cause
 use Rattle.gate_netlist.specs.Lines.{lines_of}
@@ -102,13 +103,13 @@ at_line-ok line (Err c) x e = absurd cc
 -- a statement that stands behind these nets
 record Follows (earlier : List Name) (s : Statement) : Type 0 where
   enough : HasEnough s
-  free : refusal earlier (net_of s) ≡ None
+  free : refusal earlier (net_defined s) ≡ None
 
 follows : (earlier : List Name) (line : List ℕ) (s : Statement) → stated earlier line ≡ Ok s → Follows earlier s
 unfolding stated
 follows earlier line s e =
-    let m = bind_ok (meaning_of line) (λ s. unless (refusal earlier (net_of s)) s) s e in
-    let o = stated-ok (refusal earlier (net_of m.0)) m.0 s m.2 in
+    let m = bind_ok (meaning_of line) (λ s. unless (refusal earlier (net_defined s)) s) s e in
+    let o = stated-ok (refusal earlier (net_defined m.0)) m.0 s m.2 in
     subst (Follows earlier) o.1 (record { enough = enough-meaning line m.0 m.1; free = o.0 })
 
 room-test : (a b : Bool) (c d : BenchCause) → cond a (Some c) (cond b None (Some d)) ≡ None → b ≡ true
@@ -124,8 +125,8 @@ room earlier (Some n) e le =
 
 -- what is known of accepted statements
 pub record AreAccepted (earlier : List Name) (ss : List Statement) : Type 0 where
-  pub within : length (earlier ++ nets_of ss) ≤ 999999
-  pub named : NamesDiffer (earlier ++ nets_of ss)
+  pub within : length (earlier ++ nets_defined ss) ≤ 999999
+  pub named : NamesDiffer (earlier ++ nets_defined ss)
   pub enough : AllByRecursion HasEnough ss
 
 abbrev listed : List Statement → Result (List Statement) BenchFault
@@ -138,11 +139,11 @@ pub are_accepted : (earlier : List Name) (line : ℕ) (ls : List (List ℕ)) (ss
 unfolding accepted
 are_accepted earlier line [] ss le differ e = subst (AreAccepted earlier) (same_list [] ss e) (record { within = rw append-nil le; named = rw append-nil differ; enough = tt })
 are_accepted earlier line (l ∷ ls) ss le differ e =
-    let a = bind_ok (at_line line (stated earlier l)) (λ s. accepted (earlier ++ option_to_list (net_of s)) (line + 1) ls >>= λ ss. Ok (s ∷ ss)) ss e in
-    let b = bind_ok (accepted (earlier ++ option_to_list (net_of a.0)) (line + 1) ls) (λ ss. Ok (a.0 ∷ ss)) ss a.2 in
+    let a = bind_ok (at_line line (stated earlier l)) (λ s. accepted (earlier ++ option_to_list (net_defined s)) (line + 1) ls >>= λ ss. Ok (s ∷ ss)) ss e in
+    let b = bind_ok (accepted (earlier ++ option_to_list (net_defined a.0)) (line + 1) ls) (λ ss. Ok (a.0 ∷ ss)) ss a.2 in
     let f = follows earlier l a.0 (at_line-ok line (stated earlier l) a.0 a.1) in
-    let rest = are_accepted (earlier ++ option_to_list (net_of a.0)) (line + 1) ls b.0 (room earlier (net_of a.0) f.free le) (names_differ_with earlier (net_of a.0) f.free differ) b.1 in
-    subst (AreAccepted earlier) (same_list (a.0 ∷ b.0) ss b.2) (record { within = subst (λ (ns : List Name). length ns ≤ 999999) (behind net_of earlier a.0 b.0) rest.within; named = subst NamesDiffer (behind net_of earlier a.0 b.0) rest.named; enough = (f.enough, rest.enough) })
+    let rest = are_accepted (earlier ++ option_to_list (net_defined a.0)) (line + 1) ls b.0 (room earlier (net_defined a.0) f.free le) (names_differ_with earlier (net_defined a.0) f.free differ) b.1 in
+    subst (AreAccepted earlier) (same_list (a.0 ∷ b.0) ss b.2) (record { within = subst (λ (ns : List Name). length ns ≤ 999999) (behind net_defined earlier a.0 b.0) rest.within; named = subst NamesDiffer (behind net_defined earlier a.0 b.0) rest.named; enough = (f.enough, rest.enough) })
 
 -- ---- the netlist of statements whose nets are all driven
 
@@ -170,7 +171,7 @@ and-both : (a b : Bool) → (a && b) ≡ true → (a ≡ true) × (b ≡ true)
 and-both true b e = (refl, e)
 and-both false b e = absurd cc
 
-numbers-within : (nets : List Name) (ns : List Name) → list_all (is_among nets) ns ≡ true → AllByRecursion (λ i. i < length nets) (map (number_of nets) ns)
+numbers-within : (nets : List Name) (ns : List Name) → list_all (is_among nets) ns ≡ true → AllByRecursion (λ i. i < length nets) (map (number_among nets) ns)
 numbers-within nets [] e = tt
 numbers-within nets (n ∷ ns) e =
     let b = and-both (is_among nets n) (list_all (is_among nets) ns) e in
@@ -185,7 +186,7 @@ defined-one nets (Input n) h u = (tt, tt)
 defined-one nets (Output n) h u = tt
 defined-one nets (Gate n kind inputs) h u =
     let all = numbers-within nets inputs (not-false _ u) in
-    ((subst (HasInputs kind) (sym (length-map inputs (number_of nets))) h, All-from_recursion (λ i. i < length nets) (map (number_of nets) inputs) all), tt)
+    ((subst (HasInputs kind) (sym (length-map inputs (number_among nets))) h, All-from_recursion (λ i. i < length nets) (map (number_among nets) inputs) all), tt)
 defined-one nets (Flop n d) h u = ((numbers-within nets (d ∷ []) (not-false _ u)).0, tt)
 
 and_then : {X : Type 0} (P : X → Type 0) (xs ys : List X) → AllByRecursion P xs → AllByRecursion P ys → AllByRecursion P (xs ++ ys)
@@ -202,7 +203,7 @@ at-place n [] i h = tt
 at-place n (d ∷ ds) zero h = h.0
 at-place n (d ∷ ds) (suc i) h = at-place n ds i h.1
 
-as_many : (nets : List Name) (ss : List Statement) → length (filter_map (definition_of nets) ss) ≡ length (nets_of ss)
+as_many : (nets : List Name) (ss : List Statement) → length (filter_map (definition_of nets) ss) ≡ length (nets_defined ss)
 as_many nets [] = refl
 as_many nets (Nothing ∷ ss) = as_many nets ss
 as_many nets (Input n ∷ ss) = ap suc (as_many nets ss)
@@ -230,22 +231,22 @@ once-below : (n : ℕ) (found is : List ℕ) → AreBelow n found → AreBelow n
 once-below n found [] h k = h
 once-below n found (i ∷ is) h k = once-below n (with_last found i) is (with_last-below n found i (list_any (λ m. eqb i m) found) h k.0) k.1
 
-pub is_netlist : (ss : List Statement) → AreAccepted [] ss → position (uses_other (nets_of ss)) ss ≡ None → IsNetlist (netlist_of ss)
+pub is_netlist : (ss : List Statement) → AreAccepted [] ss → position (uses_other (nets_defined ss)) ss ≡ None → IsNetlist (netlist_by ss)
 is_netlist ss a e =
-    let driven = none_passes (uses_other (nets_of ss)) ss (place_none (uses_other (nets_of ss)) ss e) in
-    let defined = all-defined (nets_of ss) ss a.enough driven in
+    let driven = none_passes (uses_other (nets_defined ss)) ss (place_none (uses_other (nets_defined ss)) ss e) in
+    let defined = all-defined (nets_defined ss) ss a.enough driven in
     record {
       within = a.within;
       named = a.named;
-      definitions = as_many (nets_of ss) ss;
-      defined = λ n lt. at-place (length (nets_of ss)) (filter_map (definition_of (nets_of ss)) ss) n defined;
-      outputs = All-from_recursion (λ i. i < length (nets_of ss)) (each_once (filter_map (output_of (nets_of ss)) ss)) (once-below (length (nets_of ss)) [] (filter_map (output_of (nets_of ss)) ss) tt (outputs-below (nets_of ss) ss driven));
-      distinct = each_once-distinct (filter_map (output_of (nets_of ss)) ss);
+      definitions = as_many (nets_defined ss) ss;
+      defined = λ n lt. at-place (length (nets_defined ss)) (filter_map (definition_of (nets_defined ss)) ss) n defined;
+      outputs = All-from_recursion (λ i. i < length (nets_defined ss)) (each_once (filter_map (output_of (nets_defined ss)) ss)) (once-below (length (nets_defined ss)) [] (filter_map (output_of (nets_defined ss)) ss) tt (outputs-below (nets_defined ss) ss driven));
+      distinct = each_once-distinct (filter_map (output_of (nets_defined ss)) ss);
     }
 
 -- ---- what a text says
 
-unless-ok : (found : Option ℕ) (ss : List Statement) (b : Netlist) → unless_undriven found ss ≡ Ok b → (found ≡ None) × (netlist_of ss ≡ b)
+unless-ok : (found : Option ℕ) (ss : List Statement) (b : Netlist) → unless_undriven found ss ≡ Ok b → (found ≡ None) × (netlist_by ss ≡ b)
 unless-ok None ss b e = (refl, ap (value_or b) e)
 unless-ok (Some i) ss b e = absurd cc
 
@@ -253,13 +254,13 @@ pub is_read : (text : List ℕ) (b : Netlist) → bench_of text ≡ Ok b → IsN
 unfolding bench_of
 is_read text b e =
     let a = bind_ok (accepted [] 1 (lines_of text)) resolved b e in
-    let r = unless-ok (position (uses_other (nets_of a.0)) a.0) a.0 b a.2 in
+    let r = unless-ok (position (uses_other (nets_defined a.0)) a.0) a.0 b a.2 in
     subst IsNetlist r.1 (is_netlist a.0 (are_accepted [] 1 (lines_of text) a.0 (omega arith) no_name_differs a.1) r.0)
 
 -- the nets of an accepted text are few enough to be numbered
-pub within : (text : List ℕ) (nets : List Name) → names_of text ≡ Ok nets → length nets ≤ 999999
+pub within : (text : List ℕ) (nets : List Name) → defined_names text ≡ Ok nets → length nets ≤ 999999
 within text nets e =
-    let a = bind_ok (accepted [] 1 (lines_of text)) (λ ss. Ok (nets_of ss)) nets e in
+    let a = bind_ok (accepted [] 1 (lines_of text)) (λ ss. Ok (nets_defined ss)) nets e in
     subst (λ (ns : List Name). length ns ≤ 999999) (ap (value_or nets) a.2) (are_accepted [] 1 (lines_of text) a.0 (omega arith) no_name_differs a.1).within
 
 -- ---- the same, line by line
@@ -267,8 +268,8 @@ within text nets e =
 pub meaning_stated : (earlier : List Name) (l : List ℕ) (s : Statement) → stated earlier l ≡ Ok s → meaning_of l ≡ Ok s
 unfolding stated
 meaning_stated earlier l s e =
-    let m = bind_ok (meaning_of l) (λ s. unless (refusal earlier (net_of s)) s) s e in
-    m.1 ∙ ap said (stated-ok (refusal earlier (net_of m.0)) m.0 s m.2).1
+    let m = bind_ok (meaning_of l) (λ s. unless (refusal earlier (net_defined s)) s) s e in
+    m.1 ∙ ap said (stated-ok (refusal earlier (net_defined m.0)) m.0 s m.2).1
 
 abbrev finished : List Name → List Definition → List ℕ → Netlist
 finished nets ds os = record { names = nets; definitions = ds; outputs = each_once os }
@@ -329,36 +330,36 @@ links : (nets earlier : List Name) (line : ℕ) (ls : List (List ℕ)) (ss : Lis
 unfolding accepted linked_lines
 links nets earlier line [] ss ds os e = subst (λ ss. LinksTo nets line [] ss ds os) (same_list [] ss e) (rw (append-nil ds, append-nil os) refl)
 links nets earlier line (l ∷ ls) ss ds os e =
-    let a = bind_ok (at_line line (stated earlier l)) (λ s. accepted (earlier ++ option_to_list (net_of s)) (line + 1) ls >>= λ ss. Ok (s ∷ ss)) ss e in
-    let b = bind_ok (accepted (earlier ++ option_to_list (net_of a.0)) (line + 1) ls) (λ ss. Ok (a.0 ∷ ss)) ss a.2 in
+    let a = bind_ok (at_line line (stated earlier l)) (λ s. accepted (earlier ++ option_to_list (net_defined s)) (line + 1) ls >>= λ ss. Ok (s ∷ ss)) ss e in
+    let b = bind_ok (accepted (earlier ++ option_to_list (net_defined a.0)) (line + 1) ls) (λ ss. Ok (a.0 ∷ ss)) ss a.2 in
     let is = meaning_stated earlier l a.0 (at_line-ok line (stated earlier l) a.0 a.1) in
-    let rest = links nets (earlier ++ option_to_list (net_of a.0)) (line + 1) ls b.0 (ds ++ option_to_list (definition_of nets a.0)) (os ++ option_to_list (output_of nets a.0)) b.1 in
+    let rest = links nets (earlier ++ option_to_list (net_defined a.0)) (line + 1) ls b.0 (ds ++ option_to_list (definition_of nets a.0)) (os ++ option_to_list (output_of nets a.0)) b.1 in
     subst (λ ss. LinksTo nets line (l ∷ ls) ss ds os) (same_list (a.0 ∷ b.0) ss b.2) (link-more nets line l ls a.0 b.0 ds os (uses_other nets a.0) refl is rest)
 
-ends : (found : Option ℕ) (ss : List Statement) → ending (nets_of ss) 1 found (filter_map (definition_of (nets_of ss)) ss) (filter_map (output_of (nets_of ss)) ss) ≡ unless_undriven found ss
+ends : (found : Option ℕ) (ss : List Statement) → ending (nets_defined ss) 1 found (filter_map (definition_of (nets_defined ss)) ss) (filter_map (output_of (nets_defined ss)) ss) ≡ unless_undriven found ss
 ends None ss = refl
 ends (Some i) ss = refl
 
-linked_accepted : (text : List ℕ) (ss : List Statement) → accepted [] 1 (lines_of text) ≡ Ok ss → linked_lines (nets_of ss) 1 (lines_of text) [] [] ≡ bench_of text
+linked_accepted : (text : List ℕ) (ss : List Statement) → accepted [] 1 (lines_of text) ≡ Ok ss → linked_lines (nets_defined ss) 1 (lines_of text) [] [] ≡ bench_of text
 unfolding bench_of
 linked_accepted text ss e =
-    links (nets_of ss) [] 1 (lines_of text) ss [] [] e ∙ ends (position (uses_other (nets_of ss)) ss) ss ∙ sym (ap (λ read. read >>= resolved) e)
+    links (nets_defined ss) [] 1 (lines_of text) ss [] [] e ∙ ends (position (uses_other (nets_defined ss)) ss) ss ∙ sym (ap (λ read. read >>= resolved) e)
 
 -- a text says what its lines say of its nets
-pub linked_text : (text : List ℕ) (nets : List Name) → names_of text ≡ Ok nets → linked_lines nets 1 (lines_of text) [] [] ≡ bench_of text
+pub linked_text : (text : List ℕ) (nets : List Name) → defined_names text ≡ Ok nets → linked_lines nets 1 (lines_of text) [] [] ≡ bench_of text
 linked_text text nets e =
-    let a = bind_ok (accepted [] 1 (lines_of text)) (λ ss. Ok (nets_of ss)) nets e in
+    let a = bind_ok (accepted [] 1 (lines_of text)) (λ ss. Ok (nets_defined ss)) nets e in
     subst (λ nets. linked_lines nets 1 (lines_of text) [] [] ≡ bench_of text) (ap (value_or nets) a.2) (linked_accepted text a.0 a.1)
 
 abbrev error_or : {X E : Type 0} → E → Result X E → E
 error_or d (Ok x) = d
 error_or d (Err e) = e
 
-unnamed_by : (read : Result (List Statement) BenchFault) (e : BenchFault) → (read >>= λ ss. Ok (nets_of ss)) ≡ Err e → (read >>= resolved) ≡ Err e
+unnamed_by : (read : Result (List Statement) BenchFault) (e : BenchFault) → (read >>= λ ss. Ok (nets_defined ss)) ≡ Err e → (read >>= resolved) ≡ Err e
 unnamed_by (Ok ss) e h = absurd cc
 unnamed_by (Err f) e h = ap Err (ap (error_or f) h)
 
 -- a text whose lines are refused is refused
-pub unnamed : (text : List ℕ) (e : BenchFault) → names_of text ≡ Err e → bench_of text ≡ Err e
+pub unnamed : (text : List ℕ) (e : BenchFault) → defined_names text ≡ Err e → bench_of text ≡ Err e
 unfolding bench_of
 unnamed text e h = unnamed_by (accepted [] 1 (lines_of text)) e h

@@ -19,11 +19,11 @@ abbrev pub ◌>>=◌ : {A B E : Type 0} → Result A E → (A → Result B E) �
 -- ---- line by line
 
 -- the net that a line defines
-abbrev pub net_of : Statement → Option Name
-net_of (Input n) = Some n
-net_of (Gate n kind inputs) = Some n
-net_of (Flop n d) = Some n
-net_of _ = None
+abbrev pub net_defined : Statement → Option Name
+net_defined (Input n) = Some n
+net_defined (Gate n kind inputs) = Some n
+net_defined (Flop n d) = Some n
+net_defined _ = None
 
 abbrev pub is_among : List Name → Name → Bool
 is_among names n = list_any (λ other. bytes_eq n other) names
@@ -39,7 +39,7 @@ unless (Some cause) x = Err cause
 
 -- what a line says, after lines that define these nets
 unfoldable pub stated : List Name → List ℕ → Result Statement BenchCause
-stated earlier line = meaning_of line >>= λ s. unless (refusal earlier (net_of s)) s
+stated earlier line = meaning_of line >>= λ s. unless (refusal earlier (net_defined s)) s
 
 abbrev pub at_line : {X : Type 0} → ℕ → Result X BenchCause → Result X BenchFault
 at_line line (Ok x) = Ok x
@@ -50,20 +50,14 @@ unfoldable pub accepted : List Name → ℕ → List (List ℕ) → Result (List
 accepted earlier line [] = Ok []
 accepted earlier line (l ∷ ls) = do
   s ← at_line line (stated earlier l)
-  ss ← accepted (earlier ++ option_to_list (net_of s)) (line + 1) ls
+  ss ← accepted (earlier ++ option_to_list (net_defined s)) (line + 1) ls
   Ok (s ∷ ss)
 
 -- ---- all lines together
 
 -- the nets in the order of their lines
-abbrev pub nets_of : List Statement → List Name
-nets_of ss = filter_map net_of ss
-
--- the nets of a text, where each of its lines is accepted
-abbrev pub names_of : List ℕ → Result (List Name) BenchFault
-names_of text = do
-  ss ← accepted [] 1 (lines_of text)
-  Ok (nets_of ss)
+abbrev pub nets_defined : List Statement → List Name
+nets_defined ss = filter_map net_defined ss
 
 -- the nets that a line speaks of and doesn't define
 abbrev pub uses : Statement → List Name
@@ -76,26 +70,20 @@ uses _ = []
 abbrev pub uses_other : List Name → Statement → Bool
 uses_other nets s = not (list_all (is_among nets) (uses s))
 
--- what a line says, where each net that it uses is one of these
-unfoldable pub linked : List Name → List ℕ → Result Statement BenchCause
-linked nets line = do
-  s ← meaning_of line
-  if uses_other nets s then Err Undriven else Ok s
-
 -- how many nets stand before the one of this name
-abbrev pub number_of : List Name → Name → ℕ
-number_of nets n = position_or_len (λ other. bytes_eq n other) nets
+abbrev pub number_among : List Name → Name → ℕ
+number_among nets n = position_or_len (λ other. bytes_eq n other) nets
 
 -- what a line makes of the net that it defines
 abbrev pub definition_of : List Name → Statement → Option Definition
 definition_of nets (Input n) = Some definition.Input
-definition_of nets (Gate n kind inputs) = Some (definition.Gate kind (map (number_of nets) inputs))
-definition_of nets (Flop n d) = Some (definition.Flop (number_of nets d))
+definition_of nets (Gate n kind inputs) = Some (definition.Gate kind (map (number_among nets) inputs))
+definition_of nets (Flop n d) = Some (definition.Flop (number_among nets d))
 definition_of nets _ = None
 
 -- the net that a line marks
 abbrev pub output_of : List Name → Statement → Option ℕ
-output_of nets (Output n) = Some (number_of nets n)
+output_of nets (Output n) = Some (number_among nets n)
 output_of nets _ = None
 
 -- with this number at the end, where it isn't there
@@ -106,20 +94,20 @@ with_last ns n = if list_any (λ m. n == m) ns then ns else ns ++ n ∷ []
 abbrev pub each_once : List ℕ → List ℕ
 each_once ns = fold with_last [] ns
 
-abbrev pub netlist_of : List Statement → Netlist
-netlist_of ss = record {
-  names = nets_of ss;
-  definitions = filter_map (definition_of (nets_of ss)) ss;
-  outputs = each_once (filter_map (output_of (nets_of ss)) ss);
+abbrev pub netlist_by : List Statement → Netlist
+netlist_by ss = record {
+  names = nets_defined ss;
+  definitions = filter_map (definition_of (nets_defined ss)) ss;
+  outputs = each_once (filter_map (output_of (nets_defined ss)) ss);
 }
 
 -- the first line that uses a net which no line defines is refused
 abbrev pub unless_undriven : Option ℕ → List Statement → Result Netlist BenchFault
-unless_undriven None ss = Ok (netlist_of ss)
+unless_undriven None ss = Ok (netlist_by ss)
 unless_undriven (Some i) ss = Err (record { line = i + 1; cause = Undriven })
 
 abbrev pub resolved : List Statement → Result Netlist BenchFault
-resolved ss = unless_undriven (position (uses_other (nets_of ss)) ss) ss
+resolved ss = unless_undriven (position (uses_other (nets_defined ss)) ss) ss
 
 -- what a bench text says
 unfoldable pub bench_of : List ℕ → Result Netlist BenchFault

@@ -23,3 +23,4 @@ pub mod HeldBench
 pub mod Settings
 pub mod Refusals
 pub mod Seeds
+pub mod Passes

@@ -1,6 +1,5 @@
 -- The lines of a text.
-use Rattle.std.specs.Prelude.{ℕ, ◌-◌, length, take, slice_index, Bool, false, ◌==◌, ◌&&◌, List, [], ◌∷◌, Option, Some, None, if◌then◌else◌}
-use Rattle.std.specs.Borrow.{Bor}
+use Rattle.std.specs.Prelude.{ℕ, Bool, false, ◌==◌, ◌&&◌, List, [], ◌∷◌, if◌then◌else◌}
 
 abbrev pub begins_with_feed : List ℕ → Bool
 begins_with_feed [] = false
@@ -15,12 +14,3 @@ at_front b (l ∷ ls) = (b ∷ l) ∷ ls
 unfoldable pub lines_of : List ℕ → List (List ℕ)
 lines_of [] = [] ∷ []
 lines_of (b ∷ bs) = if b == 10 then [] ∷ lines_of bs else (if (b == 13) && begins_with_feed bs then lines_of bs else at_front b (lines_of bs))
-
--- the lines of what follows a line, where it has an end
-abbrev pub lines_after : Option (Bor (List ℕ)) → List (List ℕ)
-lines_after None = []
-lines_after (Some rest) = lines_of rest.now
-
--- what stands before an LF, without the CR right before it
-abbrev pub without_return : List ℕ → List ℕ
-without_return line = if slice_index line (length line - 1) == 13 then take (length line - 1) line else line

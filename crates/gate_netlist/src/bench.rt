@@ -28,9 +28,9 @@ impl Model for Bench {
 
     ghost Value = { Netlist };
 
-    ghost use Rattle.gate_netlist.specs.HeldBench.{netlist_of};
+    ghost use Rattle.gate_netlist.specs.HeldBench.{bench_netlist};
 
-    ghost view = { netlist_of };
+    ghost view = { bench_netlist };
 
-    ghost invariant = { λ b. IsNetlist (netlist_of b) };
+    ghost invariant = { λ b. IsNetlist (bench_netlist b) };
 }

@@ -5,7 +5,8 @@ ghost use Rattle.gate_netlist.specs.Faults.{out_of_memory, fault_at, MemoryHasNo
 ghost use Rattle.gate_netlist.specs.Gives.{Gives};
 ghost use Rattle.gate_netlist.specs.Meant.{meant};
 ghost use Rattle.gate_netlist.specs.Keys.{names_in};
-ghost use Rattle.gate_netlist.specs.Bench.{net_of, refusal, unless, stated, names_of, is_among, uses_other, linked, number_of, definition_of, output_of, each_once, bench_of};
+ghost use Rattle.gate_netlist.specs.Bench.{net_defined, refusal, unless, stated, is_among, uses_other, number_among, definition_of, output_of, each_once, bench_of};
+ghost use Rattle.gate_netlist.specs.Passes.{defined_names, linked};
 
 use crate::bench::{Bench, Definition, Names};
 use crate::fault::{BenchCause, BenchFault};
@@ -43,9 +44,9 @@ fn is_defined(names: &Names, name: &str) -> bool
 }
 
 /// The number of a name, and that of names where it is none of them.
-fn number_of(names: &Names, name: &str) -> u32
+fn number_among(names: &Names, name: &str) -> u32
     requires { length (names_in names.now) ≤ 999999 }
-    ensures { result ≡ number_of (names_in names.now) name.now }
+    ensures { result ≡ number_among (names_in names.now) name.now }
 {
     match names.get_index_of(name) {
         Some(number) => number as u32,
@@ -53,8 +54,8 @@ fn number_of(names: &Names, name: &str) -> u32
     }
 }
 
-fn net_of<'a>(statement: &Statement<'a>) -> Option<&'a str>
-    ensures { option_map (λ name. name.now) result ≡ net_of (meant statement.now) }
+fn net_defined<'a>(statement: &Statement<'a>) -> Option<&'a str>
+    ensures { option_map (λ name. name.now) result ≡ net_defined (meant statement.now) }
 {
     match statement {
         Statement::Input(name) => Some(*name),
@@ -69,10 +70,10 @@ fn net_of<'a>(statement: &Statement<'a>) -> Option<&'a str>
 #[tactic(auto, unfolding(crate::specs::Bench::stated))]
 fn stated<'a>(alloc: Global, names: &mut Names, line: &'a [u8]) -> Result<Statement<'a>, BenchCause>
     ensures gives { Gives cause.Memory meant result (stated (names_in names.old) line.now) }
-    ensures names { IfOk result (λ s. names_in names.new ≡ names_in names.old ++ option_to_list (net_of (meant s))) }
+    ensures names { IfOk result (λ s. names_in names.new ≡ names_in names.old ++ option_to_list (net_defined (meant s))) }
 {
     let statement = meaning_of(alloc, line)?;
-    match net_of(&statement) {
+    match net_defined(&statement) {
         None => Ok(statement),
         Some(name) => {
             define(alloc, names, name)?;
@@ -91,8 +92,8 @@ fn fault_at(line: u64, cause: BenchCause) -> BenchFault
 }
 
 /// The nets that the lines of a text define, where no line is faulty by itself or by the lines before it.
-fn names_of(alloc: Global, text: &[u8]) -> Result<Names, BenchFault>
-    ensures gives { Gives out_of_memory (λ names. names_in names) result (names_of text.now) }
+fn defined_names(alloc: Global, text: &[u8]) -> Result<Names, BenchFault>
+    ensures gives { Gives out_of_memory (λ names. names_in names) result (defined_names text.now) }
     ensures within { IfOk result (λ names. length (names_in names) ≤ 999999) }
     ensures memory { IfErr result MemoryHasNoLine }
 {
@@ -130,7 +131,7 @@ fn uses_other(names: &Names, statement: &Statement) -> bool
 }
 
 /// What a line says, where each net that it uses is one of these.
-#[tactic(auto, unfolding(crate::specs::Bench::linked))]
+#[tactic(auto, unfolding(crate::specs::Passes::linked))]
 fn linked<'a>(alloc: Global, names: &Names, line: &'a [u8]) -> Result<Statement<'a>, BenchCause>
     ensures { Gives cause.Memory meant result (linked (names_in names.now) line.now) }
 {
@@ -143,9 +144,11 @@ fn linked<'a>(alloc: Global, names: &Names, line: &'a [u8]) -> Result<Statement<
 
 fn numbers_of(alloc: Global, names: &Names, nets: &[&str]) -> Result<Vec<u32>, AllocError>
     requires { length (names_in names.now) ≤ 999999 }
-    ensures { IfOk result (λ numbers. numbers.items ≡ map (λ net. number_of (names_in names.now) net.now) nets.now) }
+    ensures { IfOk result (λ numbers. numbers.items ≡ map (λ net. number_among (names_in names.now) net.now) nets.now) }
 {
-    nets.iter().map(|net| number_of(names, net)).collect(alloc)
+    nets.iter()
+        .map(|net| number_among(names, net))
+        .collect(alloc)
 }
 
 /// What a line makes of the net that it defines.
@@ -167,7 +170,7 @@ fn definition_of(
             }))
         }
         Statement::Flop { d, .. } => Ok(Some(Definition::Flop {
-            d: number_of(names, d),
+            d: number_among(names, d),
         })),
         Statement::Nothing => Ok(None),
         Statement::Output(_) => Ok(None),
@@ -200,7 +203,7 @@ fn output_of(names: &Names, statement: &Statement) -> Option<u32>
     ensures { result ≡ output_of (names_in names.now) (meant statement.now) }
 {
     match statement {
-        Statement::Output(net) => Some(number_of(names, net)),
+        Statement::Output(net) => Some(number_among(names, net)),
         _ => None,
     }
 }
@@ -237,7 +240,7 @@ fn each_once(alloc: Global, seed: TextSeed, numbers: &[u32]) -> Result<Vec<u32>,
 
 /// What a text says, where its lines define these nets.
 fn bench_of(alloc: Global, names: Names, text: &[u8]) -> Result<Bench, BenchFault>
-    requires named { names_of text.now ≡ Ok (names_in names) }
+    requires named { defined_names text.now ≡ Ok (names_in names) }
     requires within { length (names_in names) ≤ 999999 }
     ensures exact { Gives out_of_memory (λ bench. bench) result (bench_of text.now) }
     ensures memory { IfErr result MemoryHasNoLine }
@@ -278,6 +281,6 @@ pub fn read_bench(alloc: Global, text: &[u8]) -> Result<Bench, BenchFault>
     ensures exact { Gives out_of_memory (λ bench. bench) result (bench_of text.now) }
     ensures memory { IfErr result MemoryHasNoLine }
 {
-    let names = names_of(alloc, text)?;
+    let names = defined_names(alloc, text)?;
     bench_of(alloc, names, text)
 }

@@ -3,7 +3,7 @@ ghost use Rattle.std.specs.Str.{str_eq_ignore_ascii_case};
 ghost use Rattle.gate_netlist.specs.declared.fault.BenchCause.TheVariants as cause;
 ghost use Rattle.gate_netlist.specs.Gives.{Gives};
 ghost use Rattle.gate_netlist.specs.Statements.{gate_of, takes, named, arguments, marked, driven, statement_of, meaning_of};
-ghost use Rattle.gate_netlist.specs.Meant.{meant, names_of};
+ghost use Rattle.gate_netlist.specs.Meant.{meant, names_meant};
 ghost use Rattle.gate_netlist.specs.Symbols.{Word, Open, Equals};
 ghost use Rattle.gate_netlist.specs.Tokens.{symbols_of};
 
@@ -101,7 +101,7 @@ fn marked<'a>(word: &str, name: &'a str) -> Result<Statement<'a>, BenchCause>
 }
 
 fn driven<'a>(name: &'a str, word: &str, inputs: Vec<&'a str>) -> Result<Statement<'a>, BenchCause>
-    ensures { Gives cause.Memory meant result (driven name.now (gate_of word.now) (names_of inputs.entry.items)) }
+    ensures { Gives cause.Memory meant result (driven name.now (gate_of word.now) (names_meant inputs.entry.items)) }
 {
     match gate_of(word) {
         None => Err(BenchCause::UnknownGate),
@@ -121,7 +121,7 @@ fn driven<'a>(name: &'a str, word: &str, inputs: Vec<&'a str>) -> Result<Stateme
 /// The names up to the closing mark, which nothing follows.
 #[tactic(auto, using(crate::proofs::Splitting::arguments_reads))]
 fn arguments<'a>(alloc: Global, tokens: &[Token<'a>]) -> Result<Option<Vec<&'a str>>, AllocError>
-    ensures { IfOk result (λ names. option_map (λ ns. names_of ns.items) names ≡ arguments (symbols_of tokens.now)) }
+    ensures { IfOk result (λ names. option_map (λ ns. names_meant ns.items) names ≡ arguments (symbols_of tokens.now)) }
 {
     if closes(tokens) {
         return Ok(Some(Vec::new(alloc)));
@@ -131,7 +131,7 @@ fn arguments<'a>(alloc: Global, tokens: &[Token<'a>]) -> Result<Option<Vec<&'a s
 
 /// One or more names parted by commas, and the closing mark.
 fn named<'a>(alloc: Global, tokens: &[Token<'a>]) -> Result<Option<Vec<&'a str>>, AllocError>
-    ensures { IfOk result (λ names. option_map (λ ns. names_of ns.items) names ≡ named (symbols_of tokens.now)) }
+    ensures { IfOk result (λ names. option_map (λ ns. names_meant ns.items) names ≡ named (symbols_of tokens.now)) }
 {
     let mut names = Vec::new(alloc);
     let mut at = 0;

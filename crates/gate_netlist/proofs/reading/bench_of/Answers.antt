@@ -1,5 +1,5 @@
 use Rattle.std.proofs.Common.{arith}
-use Rattle.gate_netlist.specs.Lines.{lines_after}
+use Rattle.gate_netlist.specs.Passes.{lines_after}
 use Rattle.gate_netlist.specs.Keys.{names_in}
 use Rattle.gate_netlist.specs.Meant.{meant}
 use Rattle.gate_netlist.proofs.Accepting.{line_counted}
