@@ -41,7 +41,7 @@ module _ (v : View) (is : IsLawful v) (last : Saved) (saved : IsSaved v last) (t
       ∙ ap (λ t. (moment_before v t).value i) (let e : time + 1 ≡ suc time = omega arith in e))
 
   kept : ((i : ℕ) → IsUsed v.part i → (moment_before v time).value i ≡ (moment_before v last.mark).value i)
-      × ((n delay d c : ℕ) → source_of v.part n ≡ Flop delay d c → IsUsed v.part c → (moment_before v time).content n ≡ (moment_before v last.mark).content n)
+      × ((n delay d c : ℕ) (i : Logic) → source_of v.part n ≡ Flop delay d c i → IsUsed v.part c → (moment_before v time).content n ≡ (moment_before v last.mark).content n)
   kept = quiet_to v is last.mark time earlier (omega arith) (omega arith) quiet
 
   last_is : (i : ℕ) → IsUsed v.part i → value_in v.part.nets last.values i ≡ (moment_before v time).value i
@@ -60,7 +60,7 @@ module _ (v : View) (is : IsLawful v) (last : Saved) (saved : IsSaved v last) (t
       content_next (source_of v.part) (timed v.part is.part) (effective_at v) (IsUsed v.part) time (get_or v.part.nets i 0) (get_or v.part.sources i Outside) here
       (subst (λ (s : Source). IsDriven s → IsOver (IsUsed v.part) s) here (over_used v.part is.part (get_or v.part.nets i 0)))
       (moment_of v.part.nets last.values last.contents) (value_in v.part.nets values) now_is last_is
-      (λ delay d c e used. ap (λ (vs : List Logic). value_in v.part.nets vs (get_or v.part.nets i 0)) saved.contents
+      (λ delay d c j e used. ap (λ (vs : List Logic). value_in v.part.nets vs (get_or v.part.nets i 0)) saved.contents
       ∙ (in_map v.part.nets (moment_before v last.mark).content X (get_or v.part.nets i 0) there
-      ∙ sym (kept.1 (get_or v.part.nets i 0) delay d c (here ∙ e) used)))
+      ∙ sym (kept.1 (get_or v.part.nets i 0) delay d c j (here ∙ e) used)))
       ∙ ap (λ t. (moment_before v t).content (get_or v.part.nets i 0)) (let e : suc time ≡ time + 1 = omega arith in e)

@@ -8,6 +8,7 @@ use Rattle.std.proofs.lemmas.List.Elements.{All-append, All-map, All-nil, All-co
 use Rattle.std.proofs.lemmas.List.Folds.{Any-from_list_any}
 use Rattle.std.proofs.lemmas.List.FromFn.{get_or-map-range_with_len, length-map-range_with_len}
 use Rattle.gate_values.specs.declared.gate.Kind.{Kind}
+use Rattle.gate_values.specs.declared.logic.Logic.{Logic}
 use Rattle.gate_values.specs.Tables.{HasInputs}
 use Rattle.gate_values.specs.Behaviour.{Source}
 use Rattle.gate_netlist.specs.Circuit.{Design, IsCircuit, IsDriven, IsDelay, nets_of, driver_of, source_of, source_by, is_input, delay_of, delay_by}
@@ -29,12 +30,12 @@ use Rattle.warp_block.proofs.PartLists.{or_none, any_more, any_below, has_at, ke
 pub uses-driver : (driver : Driver) (delay : ℕ) → uses (source_by driver delay) ≡ driver_uses driver
 uses-driver Input delay = refl
 uses-driver (Gate kind inputs) delay = refl
-uses-driver (Flop d clock) delay = refl
+uses-driver (Flop d clock init) delay = refl
 
 driver_uses-below : (driver : Driver) (nets delay : ℕ) → IsDriven nets driver delay → All (λ u. u < nets) (driver_uses driver)
 driver_uses-below Input nets delay h = All-nil (λ u. u < nets)
 driver_uses-below (Gate kind inputs) nets delay h = h.1
-driver_uses-below (Flop d clock) nets delay h = All-cons (λ u. u < nets) d (clock ∷ []) h.0 (All-cons (λ u. u < nets) clock [] h.1 (All-nil (λ u. u < nets)))
+driver_uses-below (Flop d clock init) nets delay h = All-cons (λ u. u < nets) d (clock ∷ []) h.0 (All-cons (λ u. u < nets) clock [] h.1 (All-nil (λ u. u < nets)))
 
 -- ---- a net that is among ascending ones
 
@@ -162,13 +163,13 @@ gate_is d n kind inputs delay law l is delays =
     subst (IsDriven (nets_of d) (Gate kind inputs)) (sym same) (subst (λ driver. IsDriven (nets_of d) driver (get_or d.delays n 0)) is (law.driven n l)) in
     (ap (λ driver. source_by driver (get_or d.delays n 0)) is ∙ ap (λ k. Source.Gate kind k inputs) (sym same), ap is_input is, driven.0, driven.2)
 
-pub flop_is : (d : Design) (n data_net clock delay : ℕ) → IsCircuit d → n < nets_of d → driver_of d n ≡ Flop data_net clock → Some delay ≡ delay_of d n
-    → (source_of d n ≡ Source.Flop delay data_net clock) × (is_input (driver_of d n) ≡ false) × IsDelay delay
-flop_is d n data_net clock delay law l is delays =
+pub flop_is : (d : Design) (n data_net clock delay : ℕ) (init : Logic) → IsCircuit d → n < nets_of d → driver_of d n ≡ Flop data_net clock init → Some delay ≡ delay_of d n
+    → (source_of d n ≡ Source.Flop delay data_net clock init) × (is_input (driver_of d n) ≡ false) × IsDelay delay
+flop_is d n data_net clock delay init law l is delays =
     let same : delay ≡ get_or d.delays n 0 = (let e : Some delay ≡ Some (get_or d.delays n 0) = subst (λ driver. Some delay ≡ delay_by driver (get_or d.delays n 0)) is delays in cc) in
-    let driven : IsDriven (nets_of d) (Flop data_net clock) delay =
-    subst (IsDriven (nets_of d) (Flop data_net clock)) (sym same) (subst (λ driver. IsDriven (nets_of d) driver (get_or d.delays n 0)) is (law.driven n l)) in
-    (ap (λ driver. source_by driver (get_or d.delays n 0)) is ∙ ap (λ k. Source.Flop k data_net clock) (sym same), ap is_input is, driven.2)
+    let driven : IsDriven (nets_of d) (Flop data_net clock init) delay =
+    subst (IsDriven (nets_of d) (Flop data_net clock init)) (sym same) (subst (λ driver. IsDriven (nets_of d) driver (get_or d.delays n 0)) is (law.driven n l)) in
+    (ap (λ driver. source_by driver (get_or d.delays n 0)) is ∙ ap (λ k. Source.Flop k data_net clock init) (sym same), ap is_input is, driven.2)
 
 -- ---- cells
 
@@ -194,14 +195,14 @@ module _ (nets : List ℕ) where
     input = refl;
   }
 
-  pub flop_cell : (pins : List ℕ) (delay d clock : ℕ) → IsTrue (is_some (slot_of nets d)) → IsTrue (is_some (slot_of nets clock)) → IsDelay delay
-      → IsCell nets pins (Source.Flop delay d clock) false (cell.Flop delay (place_of nets d) (place_of nets clock))
-  flop_cell pins delay d clock data_there clock_there delays =
+  pub flop_cell : (pins : List ℕ) (delay d clock : ℕ) (init : Logic) → IsTrue (is_some (slot_of nets d)) → IsTrue (is_some (slot_of nets clock)) → IsDelay delay
+      → IsCell nets pins (Source.Flop delay d clock init) false (cell.Flop delay (place_of nets d) (place_of nets clock) init)
+  flop_cell pins delay d clock init data_there clock_there delays =
       let data_is = place_is nets d data_there in
       let clock_is = place_is nets clock clock_there in
       record {
         fits = (data_is.0, clock_is.0, delays.0, delays.1);
-        source = ap (λ n. Source.Flop delay n (get_or nets (place_of nets clock) 0)) data_is.1 ∙ ap (λ n. Source.Flop delay d n) clock_is.1;
+        source = ap (λ n. Source.Flop delay n (get_or nets (place_of nets clock) 0) init) data_is.1 ∙ ap (λ n. Source.Flop delay d n init) clock_is.1;
         input = refl;
       }
 
@@ -215,7 +216,7 @@ module _ (nets : List ℕ) where
         source = ap (λ ps. Source.Gate kind delay (map (λ place. get_or nets place 0) ps)) (stretch-append pins more span within) ∙ h.source;
         input = h.input;
       }
-  IsCell-more pins more sets outer (cell.Flop delay d clock) h = record { fits = h.fits; source = h.source; input = h.input }
+  IsCell-more pins more sets outer (cell.Flop delay d clock init) h = record { fits = h.fits; source = h.source; input = h.input }
 
 -- one cell more
 pub AreCells-push : (d : Design) (cut : Ownership) (b : ℕ) (nets pins new : List ℕ) (cells : List Cell) (i : ℕ) (e : Cell) → length cells ≡ i → AreCells d cut b nets pins cells → HasMore (length nets) pins new

@@ -11,6 +11,8 @@ use Rattle.std.proofs.lemmas.List.Elements.{All-take, All-drop}
 use Rattle.std.proofs.lemmas.List.Kept.{AllPairs-from_increasing}
 use Rattle.std.proofs.lemmas.Slice.Eq.{bytes_eq-Decides, slice_eq-Decides}
 use lib.Pointwise.{pointwise}
+use Rattle.gate_values.specs.declared.logic.Logic.{Logic}
+use Rattle.gate_values.specs.declared.logic.Logic.TheVariants.{Zero, One, X, Z}
 use Rattle.gate_values.specs.declared.gate.Kind.{Kind}
 use Rattle.gate_values.specs.declared.gate.Kind.TheVariants.{And, Nand, Or, Nor, Xor, Xnor, Not, Buff}
 use Rattle.gate_values.specs.Behaviour.{Source, Outside, Gate, Flop}
@@ -19,7 +21,7 @@ use Rattle.warp_block.specs.declared.cell.Cell.TheVariants as cell
 use Rattle.warp_block.specs.declared.part.Part.TheInside.{Inside}
 use Rattle.warp_block.specs.HeldPart.{IsHeld, portion_of, CellFits, cell_source, is_input_cell, stretch}
 use Rattle.warp_block.specs.Portion.{Portion, IsPortion}
-use Rattle.warp_block.specs.SamePart.{kind_place, numbers_of, same_part, SameAt, SameCell}
+use Rattle.warp_block.specs.SamePart.{kind_place, logic_place, numbers_of, same_part, SameAt, SameCell}
 use Rattle.warp_block.proofs.PartHeld.{source-at, fits-at}
 use Rattle.warp_block.proofs.PartWhole.{same_portion}
 
@@ -39,6 +41,16 @@ kind_again Xnor = refl
 kind_again Not = refl
 kind_again Buff = refl
 
+logic_at : ℕ → Logic
+logic_at n = cond (n == 0) Zero (cond (n == 1) One (cond (n == 2) X Z))
+
+logic_again : (v : Logic) → logic_at (logic_place v) ≡ v
+unfolding logic_at
+logic_again Zero = refl
+logic_again One = refl
+logic_again X = refl
+logic_again Z = refl
+
 -- sources with the same numbers are one
 numbers_source : (s t : Source) → numbers_of s ≡ numbers_of t → s ≡ t
 numbers_source Outside Outside e = refl
@@ -46,13 +58,16 @@ numbers_source (Gate k d xs) (Gate l c ys) e =
     let places : kind_place k ≡ kind_place l = cc in
     let kinds : k ≡ l = sym (kind_again k) ∙ (ap kind_at places ∙ kind_again l) in
     cc
-numbers_source (Flop d n c) (Flop e m k) same = cc
+numbers_source (Flop d n c i) (Flop e m k j) same =
+    let places : logic_place i ≡ logic_place j = cc in
+    let contents : i ≡ j = sym (logic_again i) ∙ (ap logic_at places ∙ logic_again j) in
+    cc
 numbers_source Outside (Gate l c ys) e = cc
-numbers_source Outside (Flop e m k) same = cc
+numbers_source Outside (Flop e m k j) same = cc
 numbers_source (Gate k d xs) Outside e = cc
-numbers_source (Gate k d xs) (Flop e m c) same = cc
-numbers_source (Flop d n c) Outside e = cc
-numbers_source (Flop d n c) (Gate l e ys) same = cc
+numbers_source (Gate k d xs) (Flop e m c j) same = cc
+numbers_source (Flop d n c i) Outside e = cc
+numbers_source (Flop d n c i) (Gate l e ys) same = cc
 
 source_decides : (s t : Source) → Decides (on numbers_of (pointwise ◌==◌) s t) (s ≡ t)
 source_decides s t =
@@ -133,26 +148,27 @@ module _ (nets : List ℕ) (up : IsStrictlyIncreasing nets) where
               (All-take (λ pin. pin < length nets) t.count (drop t.start others) (All-drop (λ pin. pin < length nets) t.start others h)) same,
         )),
   )
-  cells_same pins others g h (cell.Flop d n c) (cell.Flop e m j) x y = (
-    λ r. (let delays = r.0 in let data_same = r.1 in let clocks = r.2 in (cc, refl)),
+  cells_same pins others g h (cell.Flop d n c a) (cell.Flop e m j b) x y = (
+    λ r. (let delays = r.0 in let data_same = r.1 in let clocks = r.2 in let contents = r.3 in (cc, refl)),
     λ r. (let source = r.0 in
         let delays : d ≡ e = cc in
         let data_same : get_or nets n 0 ≡ get_or nets m 0 = cc in
         let clocks : get_or nets c 0 ≡ get_or nets j 0 = cc in
-        (delays, place_same n m x.0 y.0 data_same, place_same c j x.1 y.1 clocks)),
+        let contents : a ≡ b = cc in
+        (delays, place_same n m x.0 y.0 data_same, place_same c j x.1 y.1 clocks, contents)),
   )
   cells_same pins others g h cell.Input cell.Foreign x y = (λ r. absurd r, λ r. absurd (let f = r.1 in cc))
   cells_same pins others g h cell.Input (cell.Gate l e t) x y = (λ r. absurd r, λ r. absurd (let f = r.0 in cc))
-  cells_same pins others g h cell.Input (cell.Flop e m j) x y = (λ r. absurd r, λ r. absurd (let f = r.0 in cc))
+  cells_same pins others g h cell.Input (cell.Flop e m j b) x y = (λ r. absurd r, λ r. absurd (let f = r.0 in cc))
   cells_same pins others g h cell.Foreign cell.Input x y = (λ r. absurd r, λ r. absurd (let f = r.1 in cc))
   cells_same pins others g h cell.Foreign (cell.Gate l e t) x y = (λ r. absurd r, λ r. absurd (let f = r.0 in cc))
-  cells_same pins others g h cell.Foreign (cell.Flop e m j) x y = (λ r. absurd r, λ r. absurd (let f = r.0 in cc))
+  cells_same pins others g h cell.Foreign (cell.Flop e m j b) x y = (λ r. absurd r, λ r. absurd (let f = r.0 in cc))
   cells_same pins others g h (cell.Gate k d s) cell.Input x y = (λ r. absurd r, λ r. absurd (let f = r.0 in cc))
   cells_same pins others g h (cell.Gate k d s) cell.Foreign x y = (λ r. absurd r, λ r. absurd (let f = r.0 in cc))
-  cells_same pins others g h (cell.Gate k d s) (cell.Flop e m j) x y = (λ r. absurd r, λ r. absurd (let f = r.0 in cc))
-  cells_same pins others g h (cell.Flop d n c) cell.Input x y = (λ r. absurd r, λ r. absurd (let f = r.0 in cc))
-  cells_same pins others g h (cell.Flop d n c) cell.Foreign x y = (λ r. absurd r, λ r. absurd (let f = r.0 in cc))
-  cells_same pins others g h (cell.Flop d n c) (cell.Gate l e t) x y = (λ r. absurd r, λ r. absurd (let f = r.0 in cc))
+  cells_same pins others g h (cell.Gate k d s) (cell.Flop e m j b) x y = (λ r. absurd r, λ r. absurd (let f = r.0 in cc))
+  cells_same pins others g h (cell.Flop d n c a) cell.Input x y = (λ r. absurd r, λ r. absurd (let f = r.0 in cc))
+  cells_same pins others g h (cell.Flop d n c a) cell.Foreign x y = (λ r. absurd r, λ r. absurd (let f = r.0 in cc))
+  cells_same pins others g h (cell.Flop d n c a) (cell.Gate l e t) x y = (λ r. absurd r, λ r. absurd (let f = r.0 in cc))
 
 -- two parts with the same nets say the same of a place where their cells do
 pub cells_at : (p q : Inside) (v w : Portion) → portion_of p ≡ v → portion_of q ≡ w → (i : ℕ) (a b : Cell) (pins others : List ℕ) → IsHeld p → IsHeld q → v.nets ≡ w.nets → i < length v.nets

@@ -66,19 +66,19 @@ module _ (p : Inside) (h : IsHeld p) (values contents : List Logic) (i : ℕ) (e
       (ap (table_of kind) (values-at p.nets.items values (stretch p.pins.items span) h.portion.ascending
       (All-take (λ pin. pin < length p.nets.items) span.count (drop span.start p.pins.items) (All-drop (λ pin. pin < length p.nets.items) span.start p.pins.items h.pins))))
 
-  pub flop_output : (delay d clock : ℕ) → get_or p.cells.items i e ≡ Flop delay d clock
+  pub flop_output : (delay d clock : ℕ) (init : Logic) → get_or p.cells.items i e ≡ Flop delay d clock init
       → output (get_or (portion_of p).sources i Outside) (moment_of p.nets.items values contents) (get_or p.nets.items i 0) ≡ get_or contents i X
-  flop_output delay d clock is =
-      rw (source-at p i e (Flop delay d clock) h l is) (of_net-at p.nets.items contents X i h.portion.ascending l)
+  flop_output delay d clock init is =
+      rw (source-at p i e (Flop delay d clock init) h l is) (of_net-at p.nets.items contents X i h.portion.ascending l)
 
-  pub flop_content : (now : List Logic) (delay d clock : ℕ) → get_or p.cells.items i e ≡ Flop delay d clock
+  pub flop_content : (now : List Logic) (delay d clock : ℕ) (init : Logic) → get_or p.cells.items i e ≡ Flop delay d clock init
       → next_content (get_or (portion_of p).sources i Outside) (value_in p.nets.items now) (moment_of p.nets.items values contents) (get_or p.nets.items i 0)
       ≡ flip_of (get_or contents i X) (get_or values clock X) (get_or now clock X) (get_or values d X)
-  flop_content now delay d clock is =
-      let fits : CellFits (length p.nets.items) (length p.pins.items) (Flop delay d clock) = fits-at p i e (Flop delay d clock) h l is in
+  flop_content now delay d clock init is =
+      let fits : CellFits (length p.nets.items) (length p.pins.items) (Flop delay d clock init) = fits-at p i e (Flop delay d clock init) h l is in
       let up = h.portion.ascending in
       let own = of_net-at p.nets.items contents X i up l in
       let before = of_net-at p.nets.items values X clock up fits.1 in
       let after = of_net-at p.nets.items now X clock up fits.1 in
       let given = of_net-at p.nets.items values X d up fits.0 in
-      rw (source-at p i e (Flop delay d clock) h l is) cc
+      rw (source-at p i e (Flop delay d clock init) h l is) cc

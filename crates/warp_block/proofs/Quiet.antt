@@ -70,29 +70,29 @@ module _ (v : View) (is : IsLawful v) where
   -- nets that are used, and contents, are as they were
   pub quiet_before : (m k : ℕ) → m ≤ v.mark → m + k ≤ suc v.horizon → IsQuietFrom m (m + k) →
       ((i : ℕ) → IsUsed v.part i → (before source (given at) (m + k)).value i ≡ (before source (given at) m).value i)
-      × ((n delay d c : ℕ) → source n ≡ Flop delay d c → IsUsed v.part c → (before source (given at) (m + k)).content n ≡ (before source (given at) m).content n)
+      × ((n delay d c : ℕ) (i : Logic) → source n ≡ Flop delay d c i → IsUsed v.part c → (before source (given at) (m + k)).content n ≡ (before source (given at) m).content n)
   unfolding history
   quiet_before m zero l h q =
       let e : m + 0 ≡ m = omega arith in
-      ((λ i used. ap (λ t. (before source (given at) t).value i) e), (λ n delay d c s used. ap (λ t. (before source (given at) t).content n) e))
+      ((λ i used. ap (λ t. (before source (given at) t).value i) e), (λ n delay d c i s used. ap (λ t. (before source (given at) t).content n) e))
   quiet_before m (suc k) l h q =
       let e : m + suc k ≡ suc (m + k) = omega arith in
       let past = quiet_before m k l (omega arith) (λ t a b. q t a (omega arith)) in
       let keeps : (i : ℕ) → IsUsed v.part i → value source (given at) i (m + k) ≡ (before source (given at) (m + k)).value i =
       λ i used. quiet_value (m + k) i (omega arith) (λ g t a b. q t (omega arith) (omega arith)) (q (m + k) (omega arith) (omega arith)) used in (
         (λ i used. ap (λ t. (before source (given at) t).value i) e ∙ (keeps i used ∙ past.0 i used)),
-        (λ n delay d c s used. ap (λ t. (before source (given at) t).content n) e
-            ∙ (content_is source (given at) n (m + k) delay d c s
+        (λ n delay d c i s used. ap (λ t. (before source (given at) t).content n) e
+            ∙ (content_is source (given at) n (m + k) delay d c i s
             ∙ (ap (λ (x : Logic). flip_of ((before source (given at) (m + k)).content n) ((before source (given at) (m + k)).value c) x ((before source (given at) (m + k)).value d)) (keeps c used)
             ∙ (flip_quiet ((before source (given at) (m + k)).content n) ((before source (given at) (m + k)).value c) ((before source (given at) (m + k)).value d)
-            ∙ past.1 n delay d c s used)))),
+            ∙ past.1 n delay d c i s used)))),
       )
 
   pub quiet_to : (m s : ℕ) → m ≤ v.mark → m ≤ s → s ≤ suc v.horizon → IsQuietFrom m s →
       ((i : ℕ) → IsUsed v.part i → (before source (given at) s).value i ≡ (before source (given at) m).value i)
-      × ((n delay d c : ℕ) → source n ≡ Flop delay d c → IsUsed v.part c → (before source (given at) s).content n ≡ (before source (given at) m).content n)
+      × ((n delay d c : ℕ) (i : Logic) → source n ≡ Flop delay d c i → IsUsed v.part c → (before source (given at) s).content n ≡ (before source (given at) m).content n)
   quiet_to m s l k h q =
       let e : m + (s - m) ≡ s = omega arith in
       subst (λ (t : ℕ). ((i : ℕ) → IsUsed v.part i → (before source (given at) t).value i ≡ (before source (given at) m).value i)
-      × ((n delay d c : ℕ) → source n ≡ Flop delay d c → IsUsed v.part c → (before source (given at) t).content n ≡ (before source (given at) m).content n)) e
+      × ((n delay d c : ℕ) (i : Logic) → source n ≡ Flop delay d c i → IsUsed v.part c → (before source (given at) t).content n ≡ (before source (given at) m).content n)) e
       (quiet_before m (s - m) l (omega arith) (subst (IsQuietFrom m) (sym e) q))

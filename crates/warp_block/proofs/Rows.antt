@@ -91,7 +91,7 @@ module _ (v : View) (is : IsLawful v) (i : ℕ) (in_nets : i < length v.part.net
   not_driven : (s : Source) → is_driven s ≡ false → s ≡ Outside
   not_driven Source.Outside e = refl
   not_driven (Source.Gate kind delay inputs) e = cc
-  not_driven (Source.Flop delay d c) e = cc
+  not_driven (Source.Flop delay d c j) e = cc
 
   -- the value of a net that is read, from its queue
   pub value_read : is_driven (get_or v.part.sources i Outside) ≡ false → (t : ℕ) → held (effective_in (get_or v.queues i [])) t ≡ block_value v net t

@@ -17,7 +17,7 @@ use Rattle.warp_block.specs.Portion.{is_driven}
 abbrev pub IsTimed : Source → Type 0
 IsTimed Outside = Unit {0}
 IsTimed (Gate kind delay inputs) = 0 < delay
-IsTimed (Flop delay d c) = 0 < delay
+IsTimed (Flop delay d c i) = 0 < delay
 
 -- what effective values give
 abbrev pub given : (ℕ → ℕ → Option Logic) → ℕ → ℕ → Logic
@@ -39,17 +39,17 @@ each-net P h (x ∷ xs) = (h x, each-net P h xs)
 pub driven_or_not : (s : Source) → IsDriven s ⊎ (s ≡ Outside)
 driven_or_not Outside = inr refl
 driven_or_not (Gate kind delay inputs) = inl refl
-driven_or_not (Flop delay d c) = inl refl
+driven_or_not (Flop delay d c i) = inl refl
 
 over_all : (N : ℕ → Type 0) → ((i : ℕ) → N i) → (s : Source) → IsDriven s → IsTimed s → IsOver N s
 over_all N h Outside d t = cc
 over_all N h (Gate kind delay inputs) d t = (t, each-net N h inputs)
-over_all N h (Flop delay dn c) d t = (t, h dn, h c)
+over_all N h (Flop delay dn c i) d t = (t, h dn, h c)
 
 pub delayed : (s : Source) → IsTimed s → IsDriven s → 0 < delay_of s
 delayed Outside t d = cc
 delayed (Gate kind delay inputs) t d = t
-delayed (Flop delay dn c) t d = t
+delayed (Flop delay dn c i) t d = t
 
 pub le_cases : (a b : ℕ) → (a ≤ b) ⊎ (b < a)
 le_cases a b = grind arith
@@ -106,7 +106,7 @@ module _ (source : ℕ → Source) (timed : (n : ℕ) → IsTimed (source n)) wh
 
   content_outside : (at : ℕ → ℕ → Option Logic) (n m : ℕ) → source n ≡ Outside → (before source (given at) m).content n ≡ X
   unfolding history
-  content_outside at n zero e = refl
+  content_outside at n zero e = rw e refl
   content_outside at n (suc m) e = rw e refl
 
   -- and so do the moments before it

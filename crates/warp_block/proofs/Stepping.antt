@@ -15,14 +15,14 @@ module _ (source : ℕ → Source) (timed : (n : ℕ) → IsTimed (source n)) (a
   -- the content after a time, from a moment that is as just before it, and values that are as at it
   pub content_next : (n : ℕ) (src : Source) → source n ≡ src → (IsDriven src → IsOver N src) → (last : Moment) (now : ℕ → Logic) →
       ((i : ℕ) → N i → now i ≡ value source (given at) i s) → ((i : ℕ) → N i → last.value i ≡ (before source (given at) s).value i) →
-      ((delay d c : ℕ) → src ≡ Flop delay d c → N c → last.content n ≡ (before source (given at) s).content n) →
+      ((delay d c : ℕ) (i : Logic) → src ≡ Flop delay d c i → N c → last.content n ≡ (before source (given at) s).content n) →
       next_content src now last n ≡ (before source (given at) (suc s)).content n
   unfolding history
   content_next n Outside e over last now h k c = rw e refl
   content_next n (Gate kind delay inputs) e over last now h k c = rw e refl
-  content_next n (Flop delay d clk) e over last now h k c =
+  content_next n (Flop delay d clk i) e over last now h k c =
       let o = over refl in
-      rw (c delay d clk refl o.2, k clk o.2, h clk o.2, k d o.1) (sym (content_is source (given at) n s delay d clk e))
+      rw (c delay d clk i refl o.2, k clk o.2, h clk o.2, k d o.1) (sym (content_is source (given at) n s delay d clk i e))
 
   -- what a source makes of a moment that is as right after a time
   pub output_next : (n : ℕ) (src : Source) → source n ≡ src → IsDriven src → IsOver N src → (m : Moment) →
@@ -33,9 +33,9 @@ module _ (source : ℕ → Source) (timed : (n : ℕ) → IsTimed (source n)) (a
       let back_there : suc (s + delay) - delay ≡ suc s = omega arith in
       ap (table_of kind) (map_agree _ _ N inputs values o.1)
       ∙ sym (value_is source (given at) n (s + delay) (Gate kind delay inputs) e o.0 ∙ rw back_there refl)
-  output_next n (Flop delay dn c) e d o m values contents =
+  output_next n (Flop delay dn c i) e d o m values contents =
       let back_there : suc (s + delay) - delay ≡ suc s = omega arith in
-      contents ∙ sym (value_is source (given at) n (s + delay) (Flop delay dn c) e o.0 ∙ rw back_there refl)
+      contents ∙ sym (value_is source (given at) n (s + delay) (Flop delay dn c i) e o.0 ∙ rw back_there refl)
 
 -- the change that a value makes after the log of a function is that of the function
 pub emitted_change : (f : ℕ → Logic) (v : Logic) (log : List Change) (t horizon : ℕ) → v ≡ f t → (t ≤ horizon → log ≡ changes f t) →

@@ -17,7 +17,7 @@ use Rattle.warp_block.proofs.Running.{IsTimed, IsDriven, run_log, run_news, driv
 timed_from : (s : Source) → IsWellFormed s → IsTimed s
 timed_from Outside w = tt
 timed_from (Gate kind delay inputs) w = w.0
-timed_from (Flop delay d c) w = w
+timed_from (Flop delay d c i) w = w
 
 -- a net that a gate of the block reads
 abbrev pub IsUsed : Portion → ℕ → Type 0
@@ -26,7 +26,7 @@ IsUsed p i = (is_used p i ≡ true) × (is_some (slot_of p.nets i) ≡ true)
 over_uses : (p : Portion) (N : ℕ → Type 0) (s : Source) → IsWellFormed s → IsDriven s → AllByRecursion N (uses s) → IsOver N s
 over_uses p N Outside w d u = cc
 over_uses p N (Gate kind delay inputs) w d u = (w.0, u)
-over_uses p N (Flop delay d c) w e u = (w, u.0, u.1.0)
+over_uses p N (Flop delay d c i) w e u = (w, u.0, u.1.0)
 
 -- each net that a source uses is used
 each_use : (p : Portion) (us : List ℕ) → ((u : ℕ) → list_any (λ x. x == u) us ≡ true → is_used p u ≡ true) → AllByRecursion (λ u. is_some (slot_of p.nets u) ≡ true) us → AllByRecursion (IsUsed p) us

@@ -1,10 +1,13 @@
 -- A block that has received nothing but the stimulus.
-use Rattle.std.specs.Prelude.{ℕ, ◌+◌, if◌then◌else◌, List, [], map}
+use Rattle.std.specs.Prelude.{ℕ, ◌+◌, if◌then◌else◌, List, [], ◌∷◌, map}
+use Rattle.gate_values.specs.declared.logic.Logic.{Logic}
+use Rattle.gate_values.specs.declared.logic.Logic.TheVariants.{X}
 use Rattle.gate_values.specs.declared.logic.Change.{Change}
-use Rattle.gate_values.specs.Changes.{before_time}
+use Rattle.gate_values.specs.Behaviour.{initial_of}
+use Rattle.gate_values.specs.Changes.{before_time, same}
 use Rattle.gate_vcd.specs.Given.{Given, changes_of}
 use Rattle.warp_block.specs.Entries.{Received, one_message}
-use Rattle.warp_block.specs.Portion.{Portion, is_input}
+use Rattle.warp_block.specs.Portion.{Portion, is_input, source_of}
 use Rattle.warp_block.specs.View.{View}
 
 -- one message of the change stands
@@ -26,6 +29,12 @@ silent_view p stimulus horizon = record {
   logs = map (λ _. []) p.nets;
 }
 
--- a new block: no net of its own has changed yet
+-- the log of a net that begins with a value: a change at 0, unless the value is unknown
+abbrev pub initial_log : Logic → List Change
+initial_log v = if same v X then [] else record { time = 0; value = v } ∷ []
+
+-- a new block: of its own nets those have changed that flip-flops with a known initial content set
 abbrev pub opening_view : Portion → Given → ℕ → View
-opening_view p stimulus horizon = silent_view p stimulus horizon
+opening_view p stimulus horizon = record (silent_view p stimulus horizon) {
+  logs = map (λ n. initial_log (initial_of (source_of p n))) p.nets;
+}

@@ -30,13 +30,13 @@ of_net nets xs other n = at_slot xs other (slot_of nets n)
 abbrev pub is_driven : Source → Bool
 is_driven Outside = false
 is_driven (Gate kind delay inputs) = true
-is_driven (Flop delay data_net clock) = true
+is_driven (Flop delay data_net clock initial) = true
 
 -- the nets that a gate uses as inputs, and a flip-flop as data and clock
 abbrev pub uses : Source → List ℕ
 uses Outside = []
 uses (Gate kind delay inputs) = inputs
-uses (Flop delay data_net clock) = data_net ∷ clock ∷ []
+uses (Flop delay data_net clock initial) = data_net ∷ clock ∷ []
 
 abbrev pub does_use : ℕ → Source → Bool
 does_use n s = list_any (λ u. u == n) (uses s)

@@ -3,6 +3,8 @@ use Rattle.std.specs.Prelude.{◌≡◌, ℕ, ◌+◌, ◌≤◌, Bool, false, �
 use Rattle.std.specs.Ordering.{on, eq_of_both}
 use Rattle.std.specs.Bool.{beq}
 use lib.Pointwise.{pointwise}
+use Rattle.gate_values.specs.declared.logic.Logic.{Logic}
+use Rattle.gate_values.specs.declared.logic.Logic.TheVariants.{Zero, One, X, Z}
 use Rattle.gate_values.specs.declared.gate.Kind.{Kind}
 use Rattle.gate_values.specs.declared.gate.Kind.TheVariants.{And, Nand, Or, Nor, Xor, Xnor, Not, Buff}
 use Rattle.gate_values.specs.Behaviour.{Source, Outside, Gate, Flop}
@@ -22,11 +24,18 @@ kind_place Xnor = 5
 kind_place Not = 6
 kind_place Buff = 7
 
+-- the place of a value among all values
+abbrev pub logic_place : Logic → ℕ
+logic_place Zero = 0
+logic_place One = 1
+logic_place X = 2
+logic_place Z = 3
+
 -- a source as a list of numbers, which no other source has
 abbrev pub numbers_of : Source → List ℕ
 numbers_of Outside = []
 numbers_of (Gate kind delay inputs) = 0 ∷ kind_place kind ∷ delay ∷ inputs
-numbers_of (Flop delay data_net clock) = 1 ∷ delay ∷ data_net ∷ clock ∷ []
+numbers_of (Flop delay data_net clock initial) = 1 ∷ delay ∷ data_net ∷ clock ∷ logic_place initial ∷ []
 
 -- field by field: block, nets, sources, inputs and readers
 abbrev pub same_part : Portion → Portion → Bool
@@ -48,7 +57,7 @@ abbrev pub SameCell : List ℕ → Cell → List ℕ → Cell → Type 0
 SameCell pins cell.Input others cell.Input = Unit {0}
 SameCell pins cell.Foreign others cell.Foreign = Unit {0}
 SameCell pins (cell.Gate k d s) others (cell.Gate l e t) = (k ≡ l) × (d ≡ e) × (stretch pins s ≡ stretch others t)
-SameCell pins (cell.Flop d n c) others (cell.Flop e m k) = (d ≡ e) × (n ≡ m) × (c ≡ k)
+SameCell pins (cell.Flop d n c i) others (cell.Flop e m k j) = (d ≡ e) × (n ≡ m) × (c ≡ k) × (i ≡ j)
 SameCell _ _ _ _ = ⊥
 
 -- the stretch of a gate lies within so many pins

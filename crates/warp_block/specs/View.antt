@@ -41,7 +41,7 @@ entry_of v n t = entry_in (queue_of v n) t
 abbrev pub effective_at : View → ℕ → ℕ → Option Logic
 effective_at v n t = effective_of (entry_of v n t)
 
--- the changes of a net that the block has computed
+-- the changes of an own net: the initial content of a flip-flop, and what the block has computed
 abbrev pub log_of : View → ℕ → List Change
 log_of v n = of_net v.part.nets v.logs [] n
 

@@ -44,7 +44,9 @@ impl Model for Block {
 
 impl Block {
     /// A block that has received nothing but the stimulus's changes up to the horizon, which is at most
-    /// [`MOST_HORIZON`](crate::MOST_HORIZON). Its mark and floor are 0, and it tells nothing. An error is a refused growth.
+    /// [`MOST_HORIZON`](crate::MOST_HORIZON). Its mark and floor are 0. Each of its flip-flops whose initial content is
+    /// known has it from time 0 on: the messages on that go behind `out`. An error is a refused growth; after it nothing
+    /// is told.
     pub fn new(
         alloc: Global,
         part: Part,
@@ -57,12 +59,12 @@ impl Block {
         ensures sends { IfOk result (λ block. SendsOnce (silent_view part stimulus.now horizon) block.seen Plus (λ t. t ≡ 0) out.old.items out.new.items) }
         ensures untold { OnErr result (out.new.items ≡ out.old.items) }
     {
-        let _ = &out;
         let look = Look::new(alloc, part, stimulus, horizon)?;
         look.law();
-        let first = State::unknown(alloc, look.part().len())?;
+        let first = look.first_state()?;
         let mut saved = Vec::new(alloc);
         saved.push(first)?;
+        look.tell_logged(out)?;
         Ok(Block { look, saved })
     }
 
@@ -210,7 +212,8 @@ impl Block {
         self.look.done()
     }
 
-    /// The changes of a net that the block has computed, committed ones included; none of a net that it doesn't own.
+    /// The changes of a net that the block has computed, after the initial content of a flip-flop, committed ones
+    /// included; none of a net that it doesn't own.
     pub fn log(&self, net: u32) -> &[Change]
         ensures { result.now ≡ log_of self.now.seen net }
     {

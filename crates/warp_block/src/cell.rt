@@ -1,4 +1,4 @@
-use gate_values::Kind;
+use gate_values::{Kind, Logic};
 
 /// A stretch of a list.
 #[derive(Clone, Copy, Debug, PartialEq, Eq)]
@@ -15,7 +15,16 @@ pub(crate) enum Cell {
     /// A net of another block.
     Foreign,
     /// A gate of the block, over a stretch of the block's pins.
-    Gate { kind: Kind, delay: u32, pins: Span },
-    /// A flip-flop of the block.
-    Flop { delay: u32, d: u32, clock: u32 },
+    Gate {
+        kind: Kind,
+        delay: u32,
+        pins: Span,
+    },
+    /// A flip-flop of the block, with the content that it begins with.
+    Flop {
+        delay: u32,
+        d: u32,
+        clock: u32,
+        init: Logic,
+    },
 }

@@ -14,6 +14,7 @@ ghost use Rattle.warp_block.specs.Held.{lists_in};
 mod admit;
 mod commit;
 mod emit;
+mod start;
 mod undo;
 
 use crate::cell::Cell;
@@ -57,7 +58,8 @@ impl Model for Look {
 }
 
 impl Look {
-    /// A block that has received nothing but the stimulus, and has computed nothing.
+    /// A block that has received nothing but the stimulus, and has computed nothing: its logs hold the initial
+    /// contents of its flip-flops.
     pub(crate) fn new(
         alloc: Global,
         part: Part,
@@ -73,7 +75,8 @@ impl Look {
         for slot in 0..part.len() {
             let queue = opening_queue(alloc, &part, stimulus, horizon, slot)?;
             queues.push(queue)?;
-            logs.push(Vec::new(alloc))?;
+            let log = start::opening_log(alloc, part.initial(slot))?;
+            logs.push(log)?;
         }
         Ok(Look {
             part,
@@ -144,7 +147,8 @@ impl Look {
         self.next_time().is_none()
     }
 
-    /// The changes of a net that the block has computed, committed ones included; none of a net that it doesn't own.
+    /// The changes of a net that the block has computed, after the initial content of a flip-flop, committed ones
+    /// included; none of a net that it doesn't own.
     pub fn log(&self, net: u32) -> &[Change]
         ensures { result.now ≡ log_of self.now net }
     {

@@ -3,7 +3,7 @@ ghost use Rattle.std.specs.List.{All};
 ghost use Rattle.std.specs.Cmp.Rules.{comparing};
 ghost use Rattle.std.proofs.Common.{rules};
 ghost use Rattle.gate_values.specs.declared.logic.Logic.TheVariants.{X};
-ghost use Rattle.gate_values.specs.Behaviour.{Outside, output as source_output, next_content as source_content, delay_of};
+ghost use Rattle.gate_values.specs.Behaviour.{Outside, output as source_output, next_content as source_content, delay_of, initial_of};
 ghost use Rattle.gate_netlist.specs.Circuit.{CutFits};
 ghost use Rattle.warp_block.specs.Portion.{IsPortion, slot_of, owns, reads, hears, is_used, is_driven};
 ghost use Rattle.warp_block.specs.PartOf.{part_of};
@@ -172,6 +172,17 @@ impl Part {
         match self.cells[slot] {
             Cell::Gate { delay, .. } | Cell::Flop { delay, .. } => u64::from(delay),
             Cell::Input | Cell::Foreign => 0,
+        }
+    }
+
+    /// What the flip-flop at a place holds before time 0; `X` for any other net.
+    pub(crate) fn initial(&self, slot: usize) -> Logic
+        requires { slot < length self.now.nets }
+        ensures { result ≡ initial_of (get_or self.now.sources slot Outside) }
+    {
+        match self.cells[slot] {
+            Cell::Flop { init, .. } => init,
+            Cell::Input | Cell::Foreign | Cell::Gate { .. } => Logic::X,
         }
     }
 

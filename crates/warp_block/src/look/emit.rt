@@ -129,8 +129,25 @@ fn emit(
     Ok(())
 }
 
-/// Tells each reader of a net.
-pub(super) fn send(
+/// Tells each reader of a net some changes.
+pub(super) fn tell(
+    readers: &[u32],
+    net: u32,
+    changes: &[Change],
+    sign: Sign,
+    out: &mut Vec<Message>,
+) -> Result<(), AllocError>
+    ensures ok { OnOk result (out.new.items ≡ out.old.items ++ flat_map (sent sign net readers.now) changes.now) }
+    ensures extends { Extends out.old.items out.new.items }
+{
+    for change in changes {
+        send(readers, net, *change, sign, out)?;
+    }
+    Ok(())
+}
+
+/// Tells each reader of a net a change.
+fn send(
     readers: &[u32],
     net: u32,
     change: Change,

@@ -1,5 +1,5 @@
 ghost use Rattle.std.specs.Prelude.{◌≡◌, ◌≤◌, ◌<◌, ◌+◌, ◌++◌, ◌⊎◌, ℕ, IsTrue, OnOk, OnErr, length, vec_len, slice_index};
-ghost use Rattle.std.specs.List.{All, flat_map};
+ghost use Rattle.std.specs.List.{All};
 ghost use Rattle.gate_values.specs.Behaviour.{delay_of};
 ghost use Rattle.warp_block.specs.Limits.{most_horizon};
 ghost use Rattle.warp_block.specs.declared.message.Sign.TheVariants.{Minus};
@@ -10,10 +10,10 @@ ghost use Rattle.warp_block.specs.View.{effective_at};
 ghost use Rattle.warp_block.specs.Sends.{SendsOnce};
 ghost use Rattle.warp_block.specs.Receive.{IsPut};
 ghost use Rattle.warp_block.specs.Held.{lists_in};
-ghost use Rattle.warp_block.specs.Step.{source_at, log_at, since_time, sent, told, Extends, AreCut};
+ghost use Rattle.warp_block.specs.Step.{source_at, log_at, since_time, told, Extends, AreCut};
 
 use super::Look;
-use super::emit::send;
+use super::emit::tell;
 use crate::entry::Entry;
 use crate::message::{Message, Sign};
 use crate::part::Part;
@@ -97,23 +97,7 @@ fn take_back_all(
     for slot in 0..part.len() {
         let end = mark + part.delay(slot);
         let late = log::from_time(&logs[slot], end);
-        take_back(part.readers(slot), part.net(slot), late, out)?;
-    }
-    Ok(())
-}
-
-/// Sends antimessages for some changes of a net.
-fn take_back(
-    readers: &[u32],
-    net: u32,
-    changes: &[Change],
-    out: &mut Vec<Message>,
-) -> Result<(), AllocError>
-    ensures ok { OnOk result (out.new.items ≡ out.old.items ++ flat_map (sent Minus net readers.now) changes.now) }
-    ensures extends { Extends out.old.items out.new.items }
-{
-    for change in changes {
-        send(readers, net, *change, Sign::Minus, out)?;
+        tell(part.readers(slot), part.net(slot), late, Sign::Minus, out)?;
     }
     Ok(())
 }

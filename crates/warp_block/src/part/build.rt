@@ -48,7 +48,7 @@ fn mark(driver: &Driver, used: &mut [bool])
     match driver {
         Driver::Input => {}
         Driver::Gate { inputs, .. } => mark_all(inputs.as_slice(), used),
-        Driver::Flop { d, clock } => {
+        Driver::Flop { d, clock, .. } => {
             used[*d as usize] = true;
             used[*clock as usize] = true;
         }
@@ -178,10 +178,11 @@ fn own_cell(
                 pins: span,
             })
         }
-        Driver::Flop { d, clock } => Ok(Cell::Flop {
+        Driver::Flop { d, clock, init } => Ok(Cell::Flop {
             delay,
             d: place_in(nets, *d),
             clock: place_in(nets, *clock),
+            init: *init,
         }),
     }
 }

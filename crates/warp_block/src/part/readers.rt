@@ -88,7 +88,7 @@ fn tell(
         Driver::Gate { inputs, .. } => {
             tell_all(inputs.as_slice(), reader, cut, block, nets, lists)
         }
-        Driver::Flop { d, clock } => {
+        Driver::Flop { d, clock, .. } => {
             tell_net(*d, reader, cut, block, nets, lists)?;
             tell_net(*clock, reader, cut, block, nets, lists)
         }

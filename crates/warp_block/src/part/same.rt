@@ -2,7 +2,7 @@ ghost use Rattle.std.specs.Prelude.{◌≡◌, ◌≤◌, ◌+◌, ◌↔◌, Is
 ghost use Rattle.warp_block.specs.SamePart.{SameCell, Spans};
 
 use crate::cell::Cell;
-use gate_values::Kind;
+use gate_values::{Kind, Logic};
 
 /// Whether two lists of numbers are equal.
 pub(super) fn same_numbers(first: &[u32], second: &[u32]) -> bool
@@ -12,6 +12,12 @@ pub(super) fn same_numbers(first: &[u32], second: &[u32]) -> bool
 }
 
 fn same_kind(first: Kind, second: Kind) -> bool
+    ensures { IsTrue result ↔ (first ≡ second) }
+{
+    first == second
+}
+
+fn same_logic(first: Logic, second: Logic) -> bool
     ensures { IsTrue result ↔ (first ≡ second) }
 {
     first == second
@@ -45,12 +51,23 @@ pub(super) fn same_cell(first: Cell, pins: &[u32], second: Cell, others: &[u32])
             }
             _ => false,
         },
-        Cell::Flop { delay, d, clock } => match second {
+        Cell::Flop {
+            delay,
+            d,
+            clock,
+            init,
+        } => match second {
             Cell::Flop {
                 delay: other_delay,
                 d: other_d,
                 clock: other_clock,
-            } => delay == other_delay && d == other_d && clock == other_clock,
+                init: other_init,
+            } => {
+                delay == other_delay
+                    && d == other_d
+                    && clock == other_clock
+                    && same_logic(init, other_init)
+            }
             _ => false,
         },
     }

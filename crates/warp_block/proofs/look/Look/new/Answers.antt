@@ -1,10 +1,13 @@
-use Rattle.std.proofs.Common.{◌≡◌, ℕ, ◌<◌, ◌≤◌, ◌++◌, List, [], ◌∷◌, length, refl, ap, ◌∙◌, arith, Vec}
+use Rattle.std.proofs.Common.{◌≡◌, ◌<◌, ◌≤◌, ◌++◌, List, [], ◌∷◌, length, refl, ap, sym, ◌∙◌, arith, Vec}
 use Rattle.std.specs.declared.alloc.Global.{Global}
 use Rattle.std.proofs.lemmas.List.{map-append}
 use Rattle.std.proofs.lemmas.List.Elements.{All-nil, All-push, All-same}
+use Rattle.gate_values.specs.Behaviour.{Outside, initial_of}
 use Rattle.warp_block.specs.Entries.{IsQueue}
-use Rattle.warp_block.specs.Opening.{opening_queue}
+use Rattle.warp_block.specs.Portion.{source_of}
+use Rattle.warp_block.specs.Opening.{opening_queue, initial_log}
 use Rattle.warp_block.specs.Held.{lists_in}
+use Rattle.warp_block.proofs.Slots.{of_net-at}
 use Rattle.warp_block.proofs.Filling.{map_more, map_all}
 use Rattle.warp_block.proofs.Opening.{opening_lawful}
 use Rattle.warp_block.proofs.look.Look.new.Goals as goal
@@ -25,12 +28,13 @@ loop-slot-preserved c =
     let count = c.len-slot-end.ensures.count in
     let h : c.loop-slot.slot < length c.args.part.nets = omega (arith, count) in
     let queues = one_more c.loop-slot.queues.items c.push.new.self.items c.in_ok-queue.queue c.in_ok-push.ensures.items in
-    let logs = one_more c.loop-slot.logs.items c.push-in-loop-slot.new.self.items c.new.result c.in_ok-push-2.ensures.items in
+    let logs = one_more c.loop-slot.logs.items c.push-in-loop-slot.new.self.items c.in_ok-log.log c.in_ok-push-2.ensures.items in
     record {
       queues = map_more (opening_queue c.args.part c.args.stimulus.now c.args.horizon) c.args.part.nets (lists_in c.loop-slot.queues.items) (lists_in c.push.new.self.items) c.loop-slot.slot c.in_ok-queue.queue.items h c.loop-slot.invariant.queues queues
           c.in_ok-queue.ensures.changes;
       ordered = All-same IsQueue (lists_in c.push.new.self.items) (lists_in c.loop-slot.queues.items ++ c.in_ok-queue.queue.items ∷ []) queues (All-push IsQueue (lists_in c.loop-slot.queues.items) c.in_ok-queue.queue.items c.loop-slot.invariant.ordered c.in_ok-queue.ensures.queue);
-      logs = map_more (λ (n : ℕ). []) c.args.part.nets (lists_in c.loop-slot.logs.items) (lists_in c.push-in-loop-slot.new.self.items) c.loop-slot.slot c.new.result.items h c.loop-slot.invariant.logs logs c.new.ensures.items;
+      logs = map_more (λ n. initial_log (initial_of (source_of c.args.part n))) c.args.part.nets (lists_in c.loop-slot.logs.items) (lists_in c.push-in-loop-slot.new.self.items) c.loop-slot.slot c.in_ok-log.log.items h c.loop-slot.invariant.logs logs
+          (c.in_ok-log.ensures ∙ ap initial_log (c.initial.ensures ∙ ap initial_of (sym (of_net-at c.args.part.nets c.args.part.sources Outside c.loop-slot.slot c.law.ensures.ascending h))));
     }
 
 pub invariant_of-result : goal.invariant_of-result
@@ -38,7 +42,7 @@ invariant_of-result c =
     let count = c.len-slot-end.ensures.count in
     let end : length c.args.part.nets ≤ c.loop-slot.slot = omega (arith, count) in
     let queues = map_all (opening_queue c.args.part c.args.stimulus.now c.args.horizon) c.args.part.nets (lists_in c.loop-slot.queues.items) c.loop-slot.slot end c.loop-slot.invariant.queues in
-    let logs = map_all (λ (n : ℕ). []) c.args.part.nets (lists_in c.loop-slot.logs.items) c.loop-slot.slot end c.loop-slot.invariant.logs in
+    let logs = map_all (λ n. initial_log (initial_of (source_of c.args.part n))) c.args.part.nets (lists_in c.loop-slot.logs.items) c.loop-slot.slot end c.loop-slot.invariant.logs in
     rw (queues, logs) (opening_lawful c.args.part c.law.ensures c.args.stimulus.now c.args.horizon c.requires (rw queues at c.loop-slot.invariant.ordered))
 
 pub returns : goal.returns
@@ -46,5 +50,5 @@ returns c =
     let count = c.len-slot-end.ensures.count in
     let end : length c.args.part.nets ≤ c.loop-slot.slot = omega (arith, count) in
     let queues = map_all (opening_queue c.args.part c.args.stimulus.now c.args.horizon) c.args.part.nets (lists_in c.loop-slot.queues.items) c.loop-slot.slot end c.loop-slot.invariant.queues in
-    let logs = map_all (λ (n : ℕ). []) c.args.part.nets (lists_in c.loop-slot.logs.items) c.loop-slot.slot end c.loop-slot.invariant.logs in
+    let logs = map_all (λ n. initial_log (initial_of (source_of c.args.part n))) c.args.part.nets (lists_in c.loop-slot.logs.items) c.loop-slot.slot end c.loop-slot.invariant.logs in
     rw (queues, logs) refl

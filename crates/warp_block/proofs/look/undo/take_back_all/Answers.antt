@@ -23,5 +23,5 @@ loop-slot-preserved c =
     let delay_is = ap (λ d. since_time (c.args.mark + d) c.deref.result.now) c.delay.ensures.delay in
     let log_is = ap (since_time (c.args.mark + delay_of (source_at c.args.part.now i))) (c.deref.ensures.value ∙ sym (row_at c.args.logs.now i c.index-logs-slot.result in_logs c.index-logs-slot.is)) in
     told-more Minus c.args.part.now (λ i. since_time (c.args.mark + delay_of (source_at c.args.part.now i)) (log_at (lists_in c.args.logs.now) i)) i
-    c.args.out.now.items c.loop-slot.out.items c.take_back.new.out.items c.net.result c.readers.result.now c.from_time-late.result.now
-    c.net.ensures c.readers.ensures (c.from_time-late.ensures ∙ (delay_is ∙ log_is)) c.loop-slot.invariant c.in_ok-take_back.ensures.ok
+    c.args.out.now.items c.loop-slot.out.items c.tell.new.out.items c.net.result c.readers.result.now c.from_time-late.result.now
+    c.net.ensures c.readers.ensures (c.from_time-late.ensures ∙ (delay_is ∙ log_is)) c.loop-slot.invariant c.in_ok-tell.ensures.ok

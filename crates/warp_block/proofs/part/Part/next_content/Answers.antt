@@ -16,10 +16,10 @@ returns-in-Flop c =
     let many = rw (← c.self.view_is) at c.requires.values in
     let many_values = rw (← c.self.view_is) at c.requires.last_values in
     let many_contents = rw (← c.self.view_is) at c.requires.last_contents in
-    let fits : CellFits (length p.nets.items) (length p.pins.items) (Flop c.in-Flop.delay c.in-Flop.d c.in-Flop.clock) = fits-at p c.args.slot c.index.result.now _ c.self.invariant nets cell in
+    let fits : CellFits (length p.nets.items) (length p.pins.items) (Flop c.in-Flop.delay c.in-Flop.d c.in-Flop.clock c.in-Flop.init) = fits-at p c.args.slot c.index.result.now _ c.self.invariant nets cell in
     let own = get_or_read contents.items c.args.slot c.index-in-Flop.result.now (omega (arith, contents.ok.0)) c.index-in-Flop.ensures X in
     let clock = get_or_default values.items c.in-Flop.clock X Zero (omega (arith, fits.1)) in
     let given = get_or_default values.items c.in-Flop.d X Zero (omega (arith, fits.0)) in
     let now = get_or_default c.args.values.now c.in-Flop.clock X Zero (omega (arith, fits.1)) in
-    let e = flop_content p c.self.invariant values.items contents.items c.args.slot c.index.result.now nets c.args.values.now c.in-Flop.delay c.in-Flop.d c.in-Flop.clock cell in
+    let e = flop_content p c.self.invariant values.items contents.items c.args.slot c.index.result.now nets c.args.values.now c.in-Flop.delay c.in-Flop.d c.in-Flop.clock c.in-Flop.init cell in
     rw (← c.self.view_is) (cc (e, own, clock, given, now, c.flip.ensures))

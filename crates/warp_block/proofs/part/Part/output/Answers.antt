@@ -20,6 +20,6 @@ returns-in-Flop c =
     let nets = rw (← c.self.view_is) at c.requires.slot in
     let many = rw (← c.self.view_is) at c.requires.contents in
     let e = flop_output c.self.inside c.self.invariant c.args.state.now.values.items contents.items c.args.slot c.index.result.now nets
-    c.in-Flop.delay c.in-Flop.d c.in-Flop.clock (sym c.index.ensures ∙ c.in-Flop.is) in
+    c.in-Flop.delay c.in-Flop.d c.in-Flop.clock c.in-Flop.init (sym c.index.ensures ∙ c.in-Flop.is) in
     let own = get_or_read contents.items c.args.slot c.index-in-Flop.result.now (omega (arith, contents.ok.0)) c.index-in-Flop.ensures X in
     rw (← c.self.view_is) (cc (e, own))
