@@ -28,12 +28,12 @@ each_more M N h (x ∷ xs) a = (h x a.0, each_more M N h xs a.1)
 over_more : (M N : ℕ → Type 0) → ((i : ℕ) → M i → N i) → (s : Source) → IsOver M s → IsOver N s
 over_more M N h Outside o = absurd o
 over_more M N h (Gate kind delay inputs) o = (o.0, each_more M N h inputs o.1)
-over_more M N h (Flop delay d c) o = (o.0, h d o.1, h c o.2)
+over_more M N h (Flop delay d c i) o = (o.0, h d o.1, h c o.2)
 
 delayed : (N : ℕ → Type 0) (s : Source) → IsOver N s → 0 < delay_of s
 delayed N Outside o = absurd o
 delayed N (Gate kind delay inputs) o = o.0
-delayed N (Flop delay d c) o = o.0
+delayed N (Flop delay d c i) o = o.0
 
 module _ (d : Design) (cut : Ownership) (g : Given) (horizon : ℕ) (blocks : List Process)
     (fits : CutFits d cut) (owners : IsOwnership cut) (given : (n : ℕ) → AreItsChanges (changes_of g n)) (short : horizon ≤ most_horizon)

@@ -26,17 +26,17 @@ owner_within cut n b e = elim (cases_lt n (length cut.owners)) [
 driver_drives : (driver : Driver) (delay : ℕ) → is_input driver ≡ false → is_driven (source_by driver delay) ≡ true
 driver_drives Input delay e = absurd cc
 driver_drives (Gate kind inputs) delay e = refl
-driver_drives (Flop d clock) delay e = refl
+driver_drives (Flop d clock init) delay e = refl
 
 input_outside : (driver : Driver) (delay : ℕ) → is_input driver ≡ true → source_by driver delay ≡ Outside
 input_outside Input delay e = refl
 input_outside (Gate kind inputs) delay e = absurd cc
-input_outside (Flop d clock) delay e = absurd cc
+input_outside (Flop d clock init) delay e = absurd cc
 
 undriven : (s : Source) → is_driven s ≡ false → s ≡ Outside
 undriven Source.Outside e = refl
 undriven (Source.Gate kind delay inputs) e = absurd cc
-undriven (Source.Flop delay d clock) e = absurd cc
+undriven (Source.Flop delay d clock init) e = absurd cc
 
 -- a net that is read is set outside, and is a net of the part
 pub read_outside : (p : Portion) (n : ℕ) → reads p n ≡ true → (is_some (slot_of p.nets n) ≡ true) × (source_of p n ≡ Outside)
