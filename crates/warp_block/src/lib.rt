@@ -1,9 +1,9 @@
 //! A logical process of Time Warp (Jefferson, Virtual Time, 1985): a block of a circuit that runs ahead on what it
 //! has received, and takes back what it should not have said.
 //!
-//! A [`Block`] holds a [`Part`] of a circuit. [`Block::receive`] takes a [`Message`] or its antimessage, from the
-//! block's past too; [`Block::advance`] runs the block up to a number of event times; both put what other blocks are
-//! to be told at the end of a list. [`Block::commit`] takes a time below which no message may come any more, and gives
+//! A [`Block`] holds a [`Part`] of a circuit. [`Block::new`] begins with what its flip-flops hold at first;
+//! [`Block::receive`] takes a [`Message`] or its antimessage, from the block's past too; [`Block::advance`] runs the
+//! block up to a number of event times; each puts what other blocks are to be told at the end of a list. [`Block::commit`] takes a time below which no message may come any more, and gives
 //! up the saved states that no rollback can need then; entries and logs stay. At every moment the block's logs and
 //! saved states are those of running what it has received, in order of time, from the start: that is the invariant of
 //! the types [`Block`] and [`Look`]. Times are whole numbers in units of the stimulus's timescale.
@@ -34,6 +34,8 @@ pub use state::SAVE_EVERY;
 
 #[cfg(test)]
 mod commit_tests;
+#[cfg(test)]
+mod opening_tests;
 #[cfg(test)]
 mod part_tests;
 #[cfg(test)]
