@@ -7,7 +7,9 @@ use Rattle.gate_vcd.specs.declared.fault.StimCause.TheVariants as causes
 use Rattle.gate_vcd.specs.Tokens.{Token, is_end, fault_at}
 use Rattle.gate_vcd.specs.Reading.{◌>>=◌, or_fault, Fails}
 use Rattle.gate_vcd.specs.Declarations.{Header, declared, declaring, keyword_of, opens_command, ends_declarations}
-use Rattle.gate_vcd.specs.Commands.{until_end, rest_of_command}
+use Rattle.gate_vcd.specs.declared.keyword.Keyword.{Keyword}
+use Rattle.gate_vcd.specs.declared.keyword.Keyword.TheVariants as words
+use Rattle.gate_vcd.specs.Commands.{has_texts, until_end, rest_of_command}
 use Rattle.gate_vcd.specs.Scopes.{along, AreAlong}
 
 -- the innermost scope closes
@@ -78,3 +80,40 @@ module _ (asked : Option (List ℕ)) (h : Header) (t : Token) (ts : List Token) 
 pub declaring-end : (asked asked' : Option (List ℕ)) (h start : Header) (ts rest first : List Token) → asked ≡ asked' → ts ≡ [] → rest ≡ [] → declaring asked h None ts ≡ declaring asked start None first → declaring asked' start None first ≡ Ok (h, rest)
 unfolding declaring
 declaring-end asked asked' h start ts rest first a e r d = rw (← a, r) (sym d ∙ rw e refl)
+
+abbrev behind : List (List ℕ) → List (List ℕ) × List Token → List (List ℕ) × List Token
+behind front x = (front ++ x.0, x.1)
+
+abbrev some_rest : List (List ℕ) → List Token → Option (List (List ℕ) × List Token)
+some_rest body rest = Some (body, rest)
+
+-- the end of a command is the same for tokens and those left of them, but for the texts between
+pub record EndsAlike (left all : List Token) : Type 0 where
+  pub front : List (List ℕ)
+  pub ends : until_end all ≡ option_map (behind front) (until_end left)
+
+pub alike-start : (ts : List Token) → EndsAlike ts ts
+alike-start ts = record { front = []; ends = elim (until_end ts) as (λ o. o ≡ option_map (behind []) o) [ None ↦ refl | Some x ↦ refl ] }
+
+pub alike-next : (t : Token) (left rest all : List Token) → is_end t.text ≡ false → left ≡ t ∷ rest → EndsAlike left all → EndsAlike rest all
+alike-next t left rest all goes is alike = record { front = alike.front ++ t.text ∷ []; ends = alike.ends ∙ rw (is, goes) (go (until_end rest)) }
+  where
+    go : (o : Option (List (List ℕ) × List Token)) → option_map (behind alike.front) (option_map (with_first t.text) o) ≡ option_map (behind (alike.front ++ t.text ∷ [])) o
+    go None = refl
+    go (Some x) = ap (λ b. some_rest b x.1) (sym (append_assoc alike.front (t.text ∷ []) x.0))
+
+pub alike-found : (first t : Token) (left rest all : List Token) → is_end t.text ≡ true → left ≡ t ∷ rest → EndsAlike left all → (body : List (List ℕ)) × (rest_of_command first all ≡ Ok (body, rest))
+alike-found first t left rest all stops is alike = (alike.front ++ [], rw (alike.ends, is, stops) refl)
+
+pub alike-none : (first : Token) (left all : List Token) → left ≡ [] → EndsAlike left all → rest_of_command first all ≡ Err (fault_at first causes.UnclosedCommand)
+alike-none first left all is alike = rw (alike.ends, is) refl
+
+-- a command that isn't about its texts
+pub declared-alike : (asked : Option (List ℕ)) (h : Header) (first : Token) (body all : List (List ℕ)) (keyword : Keyword) → (has_texts keyword ≡ true → body ≡ all)
+    → declared asked h (record { first = first; body = body }) keyword ≡ declared asked h (record { first = first; body = all }) keyword
+declared-alike asked h first body all words.Timescale same = rw (same refl) refl
+declared-alike asked h first body all words.Scope same = rw (same refl) refl
+declared-alike asked h first body all words.Upscope same = refl
+declared-alike asked h first body all words.Var same = rw (same refl) refl
+declared-alike asked h first body all words.EndDefinitions same = refl
+declared-alike asked h first body all words.Other same = refl

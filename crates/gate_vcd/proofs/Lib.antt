@@ -24,6 +24,7 @@ pub mod SettleLaws
 pub mod ItemLaws
 pub mod InputLaws
 pub mod VectorLaws
+pub mod TableLaws
 pub mod KnownLaws
 pub mod Meaning
 pub mod Refusals

@@ -1,15 +1,13 @@
 -- What a reader of changes keeps of the codes of a text.
 use Rattle.std.specs.Prelude.{◌≡◌, ℕ, zero, suc, Bool, false, ◌&&◌, ◌||◌, nat_eq, if◌then◌else◌, List, length, map, get_or, slice_get, position, Option, Some, None, is_some, option_map, option_and_then}
 use Rattle.std.specs.Option.{option_map_or}
-use Rattle.std.specs.Borrow.{Bor}
 use Rattle.std.specs.List.{list_any}
 use Rattle.std.specs.Str.{bytes_eq}
-use Rattle.std.specs.declared.hash.FoldHasher.{FoldHasher}
-use Rattle.std.specs.declared.hash.BuildHasherDefault.{BuildHasherDefault}
 use Rattle.indexmap.specs.IndexSet.{IndexSet}
-use Rattle.indexmap.specs.IndexMap.{IndexMap, get_by}
+use Rattle.gate_netlist.specs.declared.seed.TextSeed.{TextSeed}
 use Rattle.gate_vcd.specs.declared.source.Source.{Source as Held}
 use Rattle.gate_vcd.specs.declared.known.KnownCodes.{KnownCodes}
+use Rattle.gate_vcd.specs.Table.{found_in}
 use Rattle.gate_vcd.specs.Changes.{Source}
 
 -- a source, without where it lies in memory
@@ -24,20 +22,13 @@ same_source a b = bytes_eq a.code b.code && nat_eq a.place b.place
 
 -- sources with numbers
 abbrev pub Sources : Type 0
-Sources = IndexSet Held (BuildHasherDefault FoldHasher)
+Sources = IndexSet Held TextSeed
 
 abbrev pub is_taken : Sources → Source → Bool
 is_taken sources s = list_any (λ k. same_source s (source k)) sources.keys
 
 abbrev pub number_of : Sources → Source → Option ℕ
 number_of sources s = position (λ k. same_source s (source k)) sources.keys
-
--- of each code its last source
-abbrev pub Last : Type 0
-Last = IndexMap (Bor (List ℕ)) (Option ℕ) (BuildHasherDefault FoldHasher)
-
-abbrev pub found_in : Last → List ℕ → Option (Option ℕ)
-found_in last code = get_by (λ (k : Bor (List ℕ)). bytes_eq code k.now) last
 
 -- the last place below n that passes a test
 abbrev pub last_below : {X : Type 0} → (X → Bool) → List X → ℕ → Option ℕ

@@ -20,6 +20,7 @@ pub mod Commands
 pub mod Headers
 pub mod Changes
 pub mod Vectors
+pub mod Table
 pub mod Known
 pub mod Items
 pub mod Inputs

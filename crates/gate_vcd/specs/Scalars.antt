@@ -3,8 +3,7 @@ use Rattle.std.specs.Prelude.{◌≡◌, ◌<◌, ℕ, ◌-◌, Bool, nat_eq, if
 use Rattle.std.specs.List.{ends_with, filter_map}
 use Rattle.std.specs.Borrow.{Bor}
 use Rattle.std.specs.Str.{bytes_eq}
-use Rattle.std.specs.declared.hash.FoldHasher.{FoldHasher}
-use Rattle.std.specs.declared.hash.BuildHasherDefault.{BuildHasherDefault}
+use Rattle.gate_netlist.specs.declared.seed.TextSeed.{TextSeed}
 use Rattle.indexmap.specs.IndexMap.{IndexMap, get_by}
 use Rattle.std.specs.declared.alloc.Global.{Global}
 use Rattle.gate_vcd.specs.declared.fault.StimFault.{StimFault}
@@ -21,7 +20,7 @@ use Rattle.gate_vcd.specs.Known.{Sources, number_of, sources_by}
 
 -- codes by the names of the nets that they are scalars of
 abbrev pub Scalars : Type 0
-Scalars = IndexMap (Bor (List ℕ)) (Bor (List ℕ)) (BuildHasherDefault FoldHasher)
+Scalars = IndexMap (Bor (List ℕ)) (Bor (List ℕ)) TextSeed
 
 -- the code kept for a name
 abbrev pub code_in : Scalars → List ℕ → Option (List ℕ)

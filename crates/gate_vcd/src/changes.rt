@@ -136,7 +136,7 @@ fn take_change(
     match (codes.last.get(code), digits) {
         (None, _) => Err(first.fault(StimCause::UnknownCode)),
         (Some(_), None) => Ok(()),
-        (Some(last), Some(digits)) => settle_code(codes, lists, now, code, *last, digits),
+        (Some(last), Some(digits)) => settle_code(codes, lists, now, code, last, digits),
     }
 }
 

@@ -1,13 +1,14 @@
 ghost use Rattle.std.specs.Prelude.{◌≡◌, ◌≤◌, ◌∷◌, [], None, get_or, length, option_map};
 ghost use Rattle.std.specs.List.{concat};
 ghost use Rattle.gate_vcd.specs.declared.fault.StimCause.TheVariants as causes;
-ghost use Rattle.gate_vcd.specs.Commands.{rest_of_command, variables};
+ghost use Rattle.gate_vcd.specs.Commands.{IsBody, has_texts, rest_of_command, variables};
 ghost use Rattle.gate_vcd.specs.Declarations.{Header, timescale_of, keyword_of, opens_command, declared as declared_by, declaring, no_header, ends_declarations};
 ghost use Rattle.gate_vcd.specs.Headers.{IsHeader, Declares, GoesOn, AreRead, asked_of};
 ghost use Rattle.gate_vcd.specs.Reading.{Gives, or_fault};
 ghost use Rattle.gate_vcd.specs.Words.{texts, token_of};
 
 use crate::fault::{StimCause, StimFault};
+use crate::items::skip_command;
 use crate::keyword::{Keyword, is_end, keyword_of, opens_command, timescale_of};
 use crate::scopes::Scopes;
 use crate::timescale::{Timescale, Unit};
@@ -40,6 +41,29 @@ fn rest_of_command<'a>(
         body.push(word.text)?;
     }
     Err(first.fault(StimCause::UnclosedCommand))
+}
+
+fn has_texts(keyword: Keyword) -> bool
+    ensures { result ≡ has_texts keyword }
+{
+    matches!(keyword, Keyword::Timescale | Keyword::Scope | Keyword::Var)
+}
+
+/// The rest of a command: its words, where it is about them, or none, so that a comment takes no memory.
+fn body_of<'a>(
+    alloc: Global,
+    words: &mut Words<'a>,
+    first: Word<'a>,
+    keyword: Keyword,
+) -> Result<Vec<&'a [u8]>, StimFault>
+    ensures body { IsBody keyword (token_of first.entry) words.old words.new result }
+    ensures shorter { length words.new ≤ length words.old }
+{
+    if has_texts(keyword) {
+        return rest_of_command(alloc, words, first);
+    }
+    skip_command(words, first)?;
+    Ok(Vec::new(alloc))
 }
 
 fn timescale_in<'a>(
@@ -136,9 +160,10 @@ fn read_command<'a, 's>(
     if !opens_command(first.text) {
         return Err(first.fault(StimCause::BadToken));
     }
-    let body = rest_of_command(alloc, words, first)?;
+    let keyword = keyword_of(first.text);
+    let body = body_of(alloc, words, first, keyword)?;
     declare(alloc, declared, first, &body)?;
-    Ok(ends_declarations(keyword_of(first.text)))
+    Ok(ends_declarations(keyword))
 }
 
 /// Reads the declarations of a stimulus. Only variables in the scope that is asked for count.

@@ -1,61 +1,58 @@
-ghost use Rattle.std.specs.Prelude.{◌≡◌};
-ghost use Rattle.gate_vcd.specs.Faults.{stim_cause_name, out_of_memory};
+ghost use Rattle.std.specs.Prelude.{◌≡◌, Some};
+ghost use Rattle.gate_vcd.specs.Faults.{stim_cause_name, stim_cause_number, stim_fault_text, out_of_memory};
 
 use std::alloc::{AllocError, AllocFailed};
-use thiserror::Error;
+use std::error::Error;
+use std::fmt;
 
-/// Why a stimulus text is refused.
-#[derive(Clone, Copy, Debug, PartialEq, Eq, Error)]
+/// Why a stimulus text is refused. Each cause has a number, which stays.
+#[derive(Clone, Copy, Debug, PartialEq, Eq)]
 pub enum StimCause {
     /// A token that may not stand there, or a change without its code.
-    #[error("BadToken")]
     BadToken = 1,
     /// A command without its `$end`.
-    #[error("UnclosedCommand")]
     UnclosedCommand = 2,
     /// A `$var` without type, size, code and reference.
-    #[error("BadVar")]
     BadVar = 3,
     /// A `$timescale` that is no 1, 10 or 100 of a unit.
-    #[error("BadTimescale")]
     BadTimescale = 4,
     /// A stamp below the one before.
-    #[error("StampFalls")]
     StampFalls = 5,
     /// A stamp above 10^18.
-    #[error("StampTooLarge")]
     StampTooLarge = 6,
     /// A change of a code that no `$var` has.
-    #[error("UnknownCode")]
     UnknownCode = 7,
     /// No variable is named for an input.
-    #[error("MissingInput")]
     MissingInput = 8,
     /// Variables are named for an input, and none is a scalar of it.
-    #[error("NotScalar")]
     NotScalar = 9,
     /// A growth was refused.
-    #[error("Memory")]
     Memory = 10,
 }
 
 /// Where and why a stimulus text is refused: the offset of a token's first byte for the causes
 /// `BadToken` to `UnknownCode`, the net's number for `MissingInput` and `NotScalar`, 0 for `Memory`.
-#[derive(Clone, Copy, Debug, PartialEq, Eq, Error)]
-#[error("at {at}: {cause}")]
+#[derive(Clone, Copy, Debug, PartialEq, Eq)]
 pub struct StimFault {
     pub at: u64,
     pub cause: StimCause,
 }
 
 /// How much of a dump was written before the sink failed, in bytes.
-#[derive(Clone, Copy, Debug, PartialEq, Eq, Error)]
+#[derive(Clone, Copy, Debug, PartialEq, Eq, thiserror::Error)]
 #[error("the sink failed after {written} bytes")]
 pub struct WriteFault {
     pub written: u128,
 }
 
 impl StimCause {
+    /// The number of the cause.
+    pub fn number(self) -> u32
+        ensures { result ≡ stim_cause_number self }
+    {
+        self as u32
+    }
+
     /// The name of the cause.
     pub fn name(self) -> &'static str
         ensures { result.now ≡ stim_cause_name self }
@@ -74,6 +71,28 @@ impl StimCause {
         }
     }
 }
+
+impl fmt::Display for StimCause {
+    ghost output = { λ cause. Some (stim_cause_name cause) };
+
+    fn fmt<W: fmt::Write>(&self, f: &mut fmt::Formatter<W>) -> fmt::Result {
+        f.write_str(self.name())
+    }
+}
+
+impl fmt::Display for StimFault {
+    ghost output = { λ fault. Some (stim_fault_text fault) };
+
+    fn fmt<W: fmt::Write>(&self, f: &mut fmt::Formatter<W>) -> fmt::Result {
+        let at = self.at;
+        let cause = self.cause.name();
+        write!(f, "at {at}: {cause}")
+    }
+}
+
+impl Error for StimCause {}
+
+impl Error for StimFault {}
 
 impl StimFault {
     /// Want of memory.

@@ -16,13 +16,13 @@ use crate::numbers::number_up_to;
 use crate::source::Source;
 use crate::variable::Variable;
 use crate::vectors::{Vectors, bit_of};
-use gate_netlist::{Circuit, Driver};
+use gate_netlist::{Circuit, Driver, TextSeed};
 use indexmap::{IndexMap, IndexSet};
 use std::alloc::Global;
 
 /// Keeps a code for a name that has none yet.
 fn note<'v, 'a>(
-    scalars: &mut IndexMap<&'v [u8], &'a [u8]>,
+    scalars: &mut IndexMap<&'v [u8], &'a [u8], TextSeed>,
     name: &'v [u8],
     code: &'a [u8],
 ) -> Result<(), StimFault>
@@ -50,7 +50,7 @@ fn is_single(variable: &Variable) -> bool
 
 /// Keeps the code of a variable for the names of nets that it is a scalar of.
 fn note_variable<'v, 'a>(
-    scalars: &mut IndexMap<&'v [u8], &'a [u8]>,
+    scalars: &mut IndexMap<&'v [u8], &'a [u8], TextSeed>,
     variable: &'v Variable<'a>,
 ) -> Result<(), StimFault>
     ensures ok { (name : List ℕ) → OnOk result (code_in scalars.new name ≡ or_else (code_in scalars.old name) (code_if (is_scalar_of name (variable_of variable.now)) variable.now.code.now)) }
@@ -69,12 +69,13 @@ fn note_variable<'v, 'a>(
 /// The codes of the first scalars, by the names of the nets.
 fn scalars_of<'v, 'a>(
     alloc: Global,
+    seed: TextSeed,
     all: &'v [Variable<'a>],
-) -> Result<IndexMap<&'v [u8], &'a [u8]>, StimFault>
+) -> Result<IndexMap<&'v [u8], &'a [u8], TextSeed>, StimFault>
     ensures ok { IfOk result (λ scalars. AreScalars scalars (variables all.now)) }
     ensures err { IfErr result (λ e. e ≡ out_of_memory) }
 {
-    let mut scalars = IndexMap::new(alloc);
+    let mut scalars = IndexMap::with_hasher(alloc, seed);
     for variable in all {
         note_variable(&mut scalars, variable)?;
     }
@@ -120,18 +121,22 @@ fn cause_without(all: &[Variable], name: &[u8]) -> StimCause
 #[derive(Drop)]
 struct Given<'v, 'a> {
     all: &'v [Variable<'a>],
-    scalars: IndexMap<&'v [u8], &'a [u8]>,
+    scalars: IndexMap<&'v [u8], &'a [u8], TextSeed>,
     vectors: Vectors<'v, 'a>,
 }
 
 impl<'v, 'a> Given<'v, 'a> {
-    fn of(alloc: Global, all: &'v [Variable<'a>]) -> Result<Given<'v, 'a>, StimFault>
+    fn of(
+        alloc: Global,
+        seed: TextSeed,
+        all: &'v [Variable<'a>],
+    ) -> Result<Given<'v, 'a>, StimFault>
         ensures ok { IfOk result IsGiven }
         ensures all { IfOk result (λ given. given.all.now ≡ all.now) }
         ensures err { IfErr result (λ e. e ≡ out_of_memory) }
     {
-        let scalars = scalars_of(alloc, all)?;
-        let vectors = Vectors::of(alloc, all)?;
+        let scalars = scalars_of(alloc, seed, all)?;
+        let vectors = Vectors::of(alloc, seed, all)?;
         Ok(Given {
             all,
             scalars,
@@ -208,13 +213,14 @@ fn source_of_net<'a>(
 /// memory is an error of the function itself, since the faults of the changes come before those of the inputs.
 pub fn inputs_of<'a>(
     alloc: Global,
+    seed: TextSeed,
     circuit: &Circuit,
     all: &[Variable<'a>],
 ) -> Result<Result<Vec<Option<Source<'a>>>, StimFault>, StimFault>
     ensures ok { IfOk result (λ inputs. AreInputs inputs (sources_below circuit.now (variables all.now) (nets_of circuit.now))) }
     ensures err { IfErr result (λ e. e ≡ out_of_memory) }
 {
-    let given = Given::of(alloc, all)?;
+    let given = Given::of(alloc, seed, all)?;
     let mut sources = Vec::new(alloc);
     for net in 0..circuit.nets() {
         match source_of_net(circuit, net, &given) {
@@ -226,7 +232,7 @@ pub fn inputs_of<'a>(
 }
 
 /// The number of a source.
-fn number_of(used: &IndexSet<Source>, source: Option<Source>) -> Option<usize>
+fn number_of(used: &IndexSet<Source, TextSeed>, source: Option<Source>) -> Option<usize>
     ensures { result ≡ option_and_then (number_of used.now) (source_by source.entry) }
 {
     match source {
@@ -239,7 +245,7 @@ fn number_of(used: &IndexSet<Source>, source: Option<Source>) -> Option<usize>
 pub fn numbers_of(
     alloc: Global,
     nets: &[Option<Source>],
-    used: &IndexSet<Source>,
+    used: &IndexSet<Source, TextSeed>,
 ) -> Result<Vec<Option<usize>>, StimFault>
     ensures ok { IfOk result (λ numbers. numbers.items ≡ numbers_of used.now (sources_by nets.now)) }
     ensures err { IfErr result (λ e. e ≡ out_of_memory) }

@@ -1,5 +1,6 @@
 ghost use Rattle.std.specs.Prelude.{◌<◌, ◌≤◌, length, IfOk, IfSome};
 ghost use Rattle.gate_vcd.specs.Changes.{items, nothing, end_of, code_of};
+ghost use Rattle.gate_vcd.specs.Commands.{IsSkipped};
 ghost use Rattle.gate_vcd.specs.Items.{IsNext, IsPassed};
 ghost use Rattle.gate_vcd.specs.Words.{bytes_of, token_of};
 
@@ -23,8 +24,9 @@ pub enum Item<'a> {
 
 /// Passes over a command up to its `$end`.
 #[tactic(auto, unfolding(crate::specs::Changes::items))]
-fn skip_command<'a>(words: &mut Words<'a>, first: Word<'a>) -> Result<(), StimFault>
+pub fn skip_command<'a>(words: &mut Words<'a>, first: Word<'a>) -> Result<(), StimFault>
     ensures items { IsPassed words.new result (items (end_of (token_of first.entry)) words.old) }
+    ensures skipped { IsSkipped (token_of first.entry) words.old words.new result }
     ensures shorter { length words.new ≤ length words.old }
 {
     while let Some(word) = words.next() {

@@ -4,21 +4,24 @@ ghost use Rattle.std.specs.Str.{bytes_eq};
 ghost use Rattle.gate_vcd.specs.Changes.{Source as TextSource};
 ghost use Rattle.gate_vcd.specs.Commands.{variables};
 ghost use Rattle.gate_vcd.specs.Faults.{out_of_memory};
-ghost use Rattle.gate_vcd.specs.Known.{IsLinked, Takes, flat, found_in, is_used, is_taken, knows, source as source_of, source_by, sources_by, takes};
+ghost use Rattle.gate_vcd.specs.Table.{found_in};
+ghost use Rattle.gate_vcd.specs.Known.{IsLinked, Takes, flat, is_used, is_taken, knows, source as source_of, source_by, sources_by, takes};
 
 use crate::fault::StimFault;
 use crate::source::Source;
+use crate::table::CodeTable;
 use crate::variable::Variable;
-use indexmap::{IndexMap, IndexSet};
+use gate_netlist::TextSeed;
+use indexmap::IndexSet;
 use std::alloc::Global;
 
 /// The codes of a text, and the sources that inputs take.
 #[derive(Drop)]
 pub struct KnownCodes<'a> {
     /// The sources, each with a number.
-    pub used: IndexSet<Source<'a>>,
+    pub used: IndexSet<Source<'a>, TextSeed>,
     /// Of each code that a variable has the number of its last source.
-    pub last: IndexMap<&'a [u8], Option<usize>>,
+    pub last: CodeTable<'a>,
     /// Of each source the one before it of the same code.
     pub before: Vec<Option<usize>>,
 }
@@ -26,13 +29,14 @@ pub struct KnownCodes<'a> {
 /// The codes of variables, without sources.
 fn codes_of<'a>(
     alloc: Global,
+    seed: TextSeed,
     all: &[Variable<'a>],
-) -> Result<IndexMap<&'a [u8], Option<usize>>, StimFault>
+) -> Result<CodeTable<'a>, StimFault>
     ensures known { (code : List ℕ) → IfOk result (λ codes. is_some (found_in codes code) ≡ list_any (λ v. bytes_eq code v.code) (variables all.now)) }
     ensures none { (code : List ℕ) → IfOk result (λ codes. flat (found_in codes code) ≡ None) }
     ensures err { IfErr result (λ e. e ≡ out_of_memory) }
 {
-    let mut codes = IndexMap::new(alloc);
+    let mut codes = CodeTable::new(alloc, seed, all.len())?;
     for variable in all {
         codes.insert(variable.code, None)?;
     }
@@ -45,7 +49,7 @@ impl<'a> KnownCodes<'a> {
         ensures { result ≡ flat (found_in self.now.last code.now) }
     {
         match self.last.get(code) {
-            Some(last) => *last,
+            Some(last) => last,
             None => None,
         }
     }
@@ -84,6 +88,7 @@ impl<'a> KnownCodes<'a> {
     /// The codes of variables, and the sources that nets take.
     pub fn of(
         alloc: Global,
+        seed: TextSeed,
         all: &[Variable<'a>],
         nets: &[Option<Source<'a>>],
     ) -> Result<KnownCodes<'a>, StimFault>
@@ -93,8 +98,8 @@ impl<'a> KnownCodes<'a> {
         ensures err { IfErr result (λ e. e ≡ out_of_memory) }
     {
         let mut known = KnownCodes {
-            used: IndexSet::new(alloc),
-            last: codes_of(alloc, all)?,
+            used: IndexSet::with_hasher(alloc, seed),
+            last: codes_of(alloc, seed, all)?,
             before: Vec::new(alloc),
         };
         for taken in nets {

@@ -34,6 +34,7 @@ mod source;
 mod stimulus;
 #[cfg(test)]
 mod stimulus_tests;
+mod table;
 mod timescale;
 mod variable;
 #[cfg(test)]

@@ -9,7 +9,7 @@ use crate::known::KnownCodes;
 use crate::source::Source;
 use crate::stimulus::Stimulus;
 use crate::words::Words;
-use gate_netlist::Circuit;
+use gate_netlist::{Circuit, TextSeed};
 use std::alloc::Global;
 
 /// Reads a stimulus text, a value change dump, for a circuit.
@@ -22,8 +22,9 @@ pub fn read_stimulus(alloc: Global, text: &[u8], circuit: &Circuit) -> Result<St
     circuit.law();
     let mut words = Words::new(text);
     let declared = read_declarations(alloc, &mut words, asked_scope(circuit))?;
-    let inputs = inputs_of(alloc, circuit, &declared.variables)?;
-    let codes = KnownCodes::of(alloc, &declared.variables, found(&inputs))?;
+    let seed = TextSeed::of(words.passed(text));
+    let inputs = inputs_of(alloc, seed, circuit, &declared.variables)?;
+    let codes = KnownCodes::of(alloc, seed, &declared.variables, found(&inputs))?;
     let lists = read_changes(alloc, &mut words, &codes)?;
     let taken = inputs?;
     let list_of = numbers_of(alloc, &taken, &codes.used)?;

@@ -1,4 +1,4 @@
-ghost use Rattle.std.specs.Prelude.{◌≡◌, ◌≤◌, false, [], length, IfSome};
+ghost use Rattle.std.specs.Prelude.{◌≡◌, ◌≤◌, false, [], length, IfSome, Some};
 ghost use Rattle.gate_vcd.specs.Sink.{Held, after_put};
 
 use std::alloc::Global;
@@ -66,7 +66,12 @@ impl Sink for Grow {
         ensures held { self.new ≡ after_put self.old bytes.now result }
         // A `put` that doesn't fail takes all of the bytes.
         ensures whole { IfSome result (λ n. n ≡ length bytes.now) }
+        // One of no bytes doesn't fail.
+        ensures none { length bytes.now ≡ 0 → result ≡ Some 0 }
     {
+        if bytes.is_empty() {
+            return Some(0);
+        }
         match self.bytes.extend_from_slice(bytes) {
             Ok(()) => Some(bytes.len()),
             Err(_) => {

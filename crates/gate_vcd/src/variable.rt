@@ -39,7 +39,7 @@ pub fn joined(alloc: Global, parts: &[&[u8]]) -> Result<Vec<u8>, StimFault>
     Ok(text)
 }
 
-fn is_code(text: &[u8]) -> bool
+pub fn is_code(text: &[u8]) -> bool
     ensures { result ≡ is_code text.now }
 {
     text.iter().all(|byte| matches!(*byte, 33..=126))

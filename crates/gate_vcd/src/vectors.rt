@@ -13,6 +13,7 @@ use crate::keyword::{begins, is_word};
 use crate::numbers::{is_numeral, number_up_to};
 use crate::source::Source;
 use crate::variable::Variable;
+use gate_netlist::TextSeed;
 use indexmap::IndexMap;
 use std::alloc::Global;
 
@@ -183,7 +184,7 @@ pub struct Kept<'v, 'a> {
 /// The vectors of a text by their bases: of each base the first one.
 #[derive(Drop)]
 pub struct Vectors<'v, 'a> {
-    pub first: IndexMap<&'v [u8], usize>,
+    pub first: IndexMap<&'v [u8], usize, TextSeed>,
     pub kept: Vec<Kept<'v, 'a>>,
 }
 
@@ -211,12 +212,16 @@ impl<'v, 'a> Vectors<'v, 'a> {
     }
 
     /// The vectors among these variables.
-    pub fn of(alloc: Global, all: &'v [Variable<'a>]) -> Result<Vectors<'v, 'a>, StimFault>
+    pub fn of(
+        alloc: Global,
+        seed: TextSeed,
+        all: &'v [Variable<'a>],
+    ) -> Result<Vectors<'v, 'a>, StimFault>
         ensures ok { IfOk result (λ vectors. AreVectors vectors (variables all.now)) }
         ensures err { IfErr result (λ e. e ≡ out_of_memory) }
     {
         let mut vectors = Vectors {
-            first: IndexMap::new(alloc),
+            first: IndexMap::with_hasher(alloc, seed),
             kept: Vec::new(alloc),
         };
         let mut at = all.len();

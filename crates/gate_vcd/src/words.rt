@@ -1,4 +1,4 @@
-ghost use Rattle.std.specs.Prelude.{◌≡◌, ◌≤◌, [], ◌∷◌, length, not, position, MatchOption};
+ghost use Rattle.std.specs.Prelude.{◌≡◌, ◌≤◌, ℕ, take, [], ◌∷◌, length, not, position, MatchOption};
 ghost use Rattle.std.specs.List.{prefix_len};
 ghost use Rattle.gate_vcd.specs.Tokens.{tokens_of, is_space, fault_at};
 ghost use Rattle.gate_vcd.specs.Words.{token_of};
@@ -87,6 +87,17 @@ impl<'a> Words<'a> {
         ensures { result ≡ tokens_of text.now }
     {
         Words { rest: text, at: 0 }
+    }
+
+    /// The part of the text, from its beginning, that has been passed.
+    pub fn passed(&self, text: &'a [u8]) -> &'a [u8]
+        ensures { (len : ℕ) × (result.now ≡ take len text.now) }
+    {
+        if self.at < text.len() {
+            &text[..self.at]
+        } else {
+            text
+        }
     }
 
     /// The next word.

@@ -2,7 +2,8 @@ use Rattle.std.proofs.Common.{◌≡◌, ◌<◌, ◌∙◌, sym, ap, subst, suc
 use Rattle.std.proofs.lemmas.List.{length-map, get_or_default}
 use Rattle.gate_vcd.specs.Changes.{Source}
 use Rattle.gate_vcd.specs.Items.{settled}
-use Rattle.gate_vcd.specs.Known.{flat, found_in, source, sources_in}
+use Rattle.gate_vcd.specs.Known.{flat, source, sources_in}
+use Rattle.gate_vcd.specs.Table.{found_in}
 use Rattle.gate_vcd.specs.Lists.{lists_in}
 use Rattle.gate_vcd.proofs.Links.{rank, slice_get-is}
 use Rattle.gate_vcd.proofs.SettleLaws.{IsSettling, no_source, lists-length, settling-stands, settling-less, settling-end, vectors-step}

@@ -8,4 +8,4 @@ pub returns-in-Some-Some : goal.returns-in-Some-Some
 returns-in-Some-Some c es kept =
     rw c.in-Some-Some.is-1
     (takes-digits c.args.codes.now c.args.now (token_of c.args.first) c.args.code.now c.in-Some-Some.digits.now es (lists_in c.args.lists.now.items) (lists_in c.settle_code.new.lists.items) c.settle_code.result
-    (ap is_some (sym c.in-Some-Some.ensures.value)) kept c.settle_code.ensures.ok c.settle_code.ensures.err)
+    (ap is_some (sym c.in-Some-Some.ensures)) kept c.settle_code.ensures.ok c.settle_code.ensures.err)
