@@ -1,5 +1,5 @@
 -- The dump of a circuit's waves is that of its values, and that under the signals that the stimulus's text means.
-use Rattle.std.proofs.Common.{◌≡◌, ℕ, ◌+◌, ◌<◌, ◌≤◌, ◌⊎◌, inl, inr, List, [], length, ap, ◌∙◌, sym, arith}
+use Rattle.std.proofs.Common.{◌≡◌, ℕ, ◌+◌, ◌<◌, ◌≤◌, ◌⊎◌, inl, inr, List, [], ap, ◌∙◌, arith}
 use Rattle.std.proofs.lemmas.List.{get_or_past}
 use mathlib.Core.Path.{fun_ext}
 use Rattle.gate_values.specs.declared.logic.Logic.{Logic}

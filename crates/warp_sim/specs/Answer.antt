@@ -8,7 +8,7 @@ use Rattle.gate_netlist.specs.declared.fault.SettingsFault.TheVariants as settin
 use Rattle.gate_netlist.specs.Netlist.{Netlist}
 use Rattle.gate_netlist.specs.Bench.{bench_of}
 use Rattle.gate_netlist.specs.Meaning.{IsAnswer as IsSettled}
-use Rattle.gate_netlist.specs.Circuit.{Design, source_of}
+use Rattle.gate_netlist.specs.Circuit.{Design, nets_of, source_of}
 use Rattle.gate_netlist.specs.Counts.{counts_of}
 use Rattle.gate_vcd.specs.Stimulus.{Reading, reading_of, signal}
 use Rattle.gate_vcd.specs.Dump.{dump_text}
@@ -16,6 +16,7 @@ use Rattle.warp_block.specs.declared.fault.BlockFault.TheVariants as block
 use Rattle.warp_core.specs.declared.fault.GatherFault.TheVariants as gathering
 use Rattle.warp_rounds.specs.declared.fault.RunFault.{RunFault}
 use Rattle.warp_rounds.specs.declared.fault.RunFault.TheVariants as run
+use Rattle.warp_sim.specs.NetLines.{net_lines}
 use Rattle.warp_sim.specs.declared.fault.Fault.{Fault}
 use Rattle.warp_sim.specs.declared.fault.Fault.TheVariants as faults
 
@@ -40,6 +41,11 @@ IsCircuitAnswer bench text (Err fault) = IsNoCircuit bench text fault
 unfoldable pub IsCounted : (bench settings : List ℕ) → Result Counts Fault → Type 0
 IsCounted bench text (Ok counts) = (d : Design) × IsCircuitOf bench text d × (counts ≡ counts_of d)
 IsCounted bench text (Err fault) = IsNoCircuit bench text fault
+
+-- the lines of the circuit's nets
+unfoldable pub IsListed : (bench settings : List ℕ) → Result (Vec ℕ Global) Fault → Type 0
+IsListed bench text (Ok lines) = (d : Design) × IsCircuitOf bench text d × (lines.items ≡ net_lines d (nets_of d))
+IsListed bench text (Err fault) = IsNoCircuit bench text fault
 
 -- the value of a net of a circuit at a time, where the inputs have these signals: by the definition of gates,
 -- flip-flops and delays

@@ -4,6 +4,7 @@ pub mod Failures
 pub mod Joined
 pub mod Answer
 pub mod CountLines
+pub mod NetLines
 pub mod Replies
 pub mod Outside
 pub mod Line

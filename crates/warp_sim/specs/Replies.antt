@@ -2,7 +2,7 @@
 use Rattle.std.specs.Prelude.{◌≡◌, ℕ, List, [], Option, None, Some, Result, Ok, Err, Vec, codes, string_bytes, IsOkAnd}
 use Rattle.std.specs.Borrow.{Bor}
 use Rattle.std.specs.declared.alloc.Global.{Global}
-use Rattle.warp_sim.specs.Answer.{IsAnswer, IsCounted}
+use Rattle.warp_sim.specs.Answer.{IsAnswer, IsCounted, IsListed}
 use Rattle.warp_sim.specs.CountLines.{count_lines}
 use Rattle.warp_sim.specs.Joined.{lines, before_parting, after_parting}
 use Rattle.gate_netlist.specs.declared.counts.Counts.{Counts}
@@ -13,6 +13,7 @@ use Rattle.warp_sim.specs.declared.request.Request.{Request}
 use Rattle.warp_sim.specs.declared.request.Request.TheVariants as requests
 use Rattle.warp_sim.specs.declared.request.Run.{Run}
 use Rattle.warp_sim.specs.declared.request.Check.{Check}
+use Rattle.warp_sim.specs.declared.request.Listing.{Listing}
 use Rattle.warp_sim.specs.declared.request.Sources.{Sources}
 use Rattle.warp_sim.specs.declared.request.Sources.TheVariants as sources
 use Rattle.warp_sim.specs.declared.texts.FetchFault.{FetchFault}
@@ -95,8 +96,21 @@ Checks gives check =
     Then (Fetches gives check.bench.now) (λ bench.
     Ends (IsCountReply bench.items settings.items)))
 
+-- the nets are listed
+abbrev pub IsNetsReply : (bench settings : List ℕ) → Reply → Type 0
+IsNetsReply bench settings (Ok text) = IsListed bench settings (Ok text)
+IsNetsReply bench settings (Err (failures.Fault fault)) = IsListed bench settings (Err fault)
+IsNetsReply bench settings (Err _) = ⊥
+
+abbrev pub Lists : {T : Type 0} → Gives T → Listing → Step T
+Lists gives listing =
+    Then (FetchesSettings gives listing.settings) (λ settings.
+    Then (Fetches gives listing.bench.now) (λ bench.
+    Ends (IsNetsReply bench.items settings.items)))
+
 -- what a request is answered
 abbrev pub Replies : {T : Type 0} → Gives T → Request → Step T
 Replies gives (requests.Help text) = Ends (λ result. IsOkAnd result (λ shown. shown.items ≡ string_bytes text))
 Replies gives (requests.Run run) = Runs gives run
 Replies gives (requests.Check check) = Checks gives check
+Replies gives (requests.Nets listing) = Lists gives listing

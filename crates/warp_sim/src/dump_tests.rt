@@ -141,6 +141,32 @@ fn circuits_are_counted(rt: HostRuntime) -> Result<(), Fail> {
     Ok(())
 }
 
+/// Bench and settings, and a line for each net.
+const LISTED: [(&str, &str, &str); 3] = [
+    (
+        INVERTER,
+        "",
+        "0 ! A = INPUT\n1 \" Y = NOT(A) delay 1 block 0\n",
+    ),
+    (
+        "E = NAND(D, Q)\nQ = DFF(E)\nINPUT(D)\nb = BUF(D)\n",
+        "default = 3\n[net]\nE = 20\n[block]\nQ = 10\n",
+        "0 ! E = NAND(D, Q) delay 20 block 0\n1 \" Q = DFF(E) clock CK delay 3 block 10\n2 # D = INPUT\n3 $ b = BUFF(D) delay 3 block 0\n4 % CK = INPUT\n",
+    ),
+    ("# none\n", "", ""),
+];
+
+#[test]
+fn nets_are_listed(rt: HostRuntime) -> Result<(), Fail> {
+    for (bench, settings, want) in LISTED {
+        let texts = [("b", bench.as_bytes()), ("s", settings.as_bytes())];
+        let told = tell(&rt, rt.alloc(), "warp_sim nets --settings s b", &texts)?;
+        assert_eq!(rt; told.status, 0, "{bench}");
+        assert_eq!(rt; told.out.as_slice(), want.as_bytes(), "{bench}");
+    }
+    Ok(())
+}
+
 /// Bench, settings and stimulus, and the line that tells the refusal.
 const REFUSED: [(&str, &str, &str, &str); 9] = [
     (

@@ -5,12 +5,15 @@ ghost use Rattle.std.specs.Prelude.{◌≡◌};
 use crate::failure::Failure;
 use crate::fault::Fault;
 use crate::options::{MOST_BLOCKS, MOST_WINDOW, MOST_WORKERS, Options};
-use crate::request::{Check, Request, Run, Sources};
+use crate::request::{Check, Listing, Request, Run, Sources};
 use clap::error::ErrorKind;
 use clap::{Arg, ArgAction, ArgMatches, Command, Error, value_parser};
 use std::alloc::{AllocError, Global};
 use std::convert::AsStr;
 use warp_block::MOST_HORIZON;
+
+/// The version of the program, which `--version` prints behind its name.
+pub const VERSION: &str = "0.1.0";
 
 fn settings_option<'a>(alloc: Global) -> Arg<'a> {
     Arg::new(alloc, "settings")
@@ -83,13 +86,22 @@ fn check_command<'a>(alloc: Global) -> Result<Command<'a>, AllocError> {
         .arg(bench_argument(alloc, "The circuit; - for standard input"))
 }
 
+fn nets_command<'a>(alloc: Global) -> Result<Command<'a>, AllocError> {
+    Command::new(alloc, "nets")
+        .about("Says of each net its number, code and name, what sets it, its delay and its block")
+        .arg(settings_option(alloc))?
+        .arg(bench_argument(alloc, "The circuit; - for standard input"))
+}
+
 fn whole_command<'a>(alloc: Global) -> Result<Command<'a>, AllocError> {
     Command::new(alloc, "warp_sim")
         .about("A simulator of gate-level circuits")
+        .version(VERSION)
         .subcommand_required(true)
         .arg_required_else_help(true)
         .subcommand(run_command(alloc)?)?
-        .subcommand(check_command(alloc)?)
+        .subcommand(check_command(alloc)?)?
+        .subcommand(nets_command(alloc)?)
 }
 
 /// Where the texts of a run stand: `-` is standard input with both, and then none is named.
@@ -148,7 +160,15 @@ fn check_request<'a>(alloc: Global, found: &ArgMatches<'a>) -> Result<Request<'a
     Ok(Request::Check(Check { settings, bench }))
 }
 
-/// What `clap` says to a line: a request for help, or why the line is refused.
+fn nets_request<'a>(alloc: Global, found: &ArgMatches<'a>) -> Result<Request<'a>, Failure<'a>> {
+    let Some(bench) = found.get_str("BENCH") else {
+        return Err(incomplete(alloc));
+    };
+    let settings = found.get_str("settings");
+    Ok(Request::Nets(Listing { settings, bench }))
+}
+
+/// What `clap` says to a line: a request for help or the version, or why the line is refused.
 fn told<'a>(alloc: Global, error: &Error) -> Result<Request<'a>, Failure<'a>> {
     if error.kind() == ErrorKind::OutOfMemory {
         return Err(Failure::Fault(Fault::Memory));
@@ -171,6 +191,7 @@ pub fn read_line<'a, S: AsStr>(alloc: Global, words: &'a [S]) -> Result<Request<
     match matches.subcommand() {
         Some(("run", found)) => run_request(alloc, found),
         Some(("check", found)) => check_request(alloc, found),
+        Some(("nets", found)) => nets_request(alloc, found),
         _ => Err(incomplete(alloc)),
     }
 }

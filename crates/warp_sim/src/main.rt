@@ -2,8 +2,9 @@
 //!
 //! [`simulate_text`] answers the dump of a circuit's values for a bench text (ISCAS'89), a settings text (TOML) and
 //! a stimulus text (IEEE 1364-2005, section 18), or the first fault among them, or that of the run of its blocks;
-//! [`counts_of_texts`] answers what a circuit has. [`program`] reads a command line and the texts that it names, and
-//! says the status with which the process ends. What is promised stands in `specs/`: `Answer` for the dump, `Replies` and `Endings` for the program.
+//! [`counts_of_texts`] answers what a circuit has, and [`nets_of_texts`] what each of its nets is. [`program`] reads a
+//! command line and the texts that it names, and says the status with which the process ends. What is promised stands
+//! in `specs/`: `Answer` for the dump, `Replies` and `Endings` for the program.
 #![tactic(auto)]
 
 mod counts;
@@ -17,6 +18,7 @@ mod joined;
 mod line;
 #[cfg(test)]
 mod meeting_tests;
+mod nets;
 mod options;
 mod outside;
 #[cfg(test)]
@@ -37,13 +39,14 @@ pub use delivery::{Delivery, put, tell};
 pub use failure::Failure;
 pub use fault::Fault;
 pub use joined::split_joined;
-pub use line::read_line;
+pub use line::{VERSION, read_line};
+pub use nets::nets_text;
 pub use options::{MOST_BLOCKS, MOST_WINDOW, MOST_WORKERS, Options};
 pub use outside::{Outside, read_all};
 pub use program::{Ending, answer, execute, program, show};
 pub use reply::reply_to;
-pub use request::{Check, Request, Run, Sources};
-pub use simulate::{counts_of_texts, simulate_text};
+pub use request::{Check, Listing, Request, Run, Sources};
+pub use simulate::{counts_of_texts, nets_of_texts, simulate_text};
 use std::alloc::Global;
 use std::env;
 use std::io::ErrorKind;

@@ -10,6 +10,8 @@ ghost use Rattle.warp_sim.specs.Replies.{
   Runs,
   IsCountReply,
   Checks,
+  IsNetsReply,
+  Lists,
   Replies,
 };
 
@@ -18,8 +20,8 @@ use crate::failure::Failure;
 use crate::fault::Fault;
 use crate::joined::split_joined;
 use crate::options::Options;
-use crate::request::{Check, Request, Run, Sources};
-use crate::simulate::{counts_of_texts, simulate_text};
+use crate::request::{Check, Listing, Request, Run, Sources};
+use crate::simulate::{counts_of_texts, nets_of_texts, simulate_text};
 use crate::texts::{FetchFault, Texts};
 use std::alloc::Global;
 use std::sync::Wait;
@@ -156,6 +158,24 @@ fn reply_to_check<'a, T: Texts>(
     counted(alloc, bench.as_slice(), settings.as_slice())
 }
 
+fn listed<'a>(alloc: Global, bench: &[u8], settings: &[u8]) -> Result<Vec<u8>, Failure<'a>>
+    ensures { IsNetsReply bench.now settings.now result }
+{
+    Ok(nets_of_texts(alloc, bench, settings)?)
+}
+
+fn reply_to_nets<'a, T: Texts>(
+    alloc: Global,
+    listing: Listing<'a>,
+    texts: &mut T,
+) -> Result<Vec<u8>, Failure<'a>>
+    ensures { Lists T.gives listing.entry texts.old result texts.new }
+{
+    let settings = fetch_settings(alloc, listing.settings, texts)?;
+    let bench = fetch(alloc, listing.bench, texts)?;
+    listed(alloc, bench.as_slice(), settings.as_slice())
+}
+
 /// What a request is answered: the text to show, or why there is none. The texts that it names
 /// are fetched first, the settings before the bench before the stimulus.
 pub fn reply_to<'a, R: Threads + Wait + Sync, T: Texts>(
@@ -170,5 +190,6 @@ pub fn reply_to<'a, R: Threads + Wait + Sync, T: Texts>(
         Request::Help(text) => Ok(text.into_bytes()),
         Request::Run(run) => reply_to_run(rt, alloc, run, texts),
         Request::Check(check) => reply_to_check(alloc, check, texts),
+        Request::Nets(listing) => reply_to_nets(alloc, listing, texts),
     }
 }

@@ -8,6 +8,7 @@ pub enum Request<'a> {
     Help(String),
     Run(Run<'a>),
     Check(Check<'a>),
+    Nets(Listing<'a>),
 }
 
 /// To be shown the dump of a circuit.
@@ -28,6 +29,13 @@ pub enum Sources<'a> {
 /// To be shown how many parts a circuit has.
 #[derive(Clone, Copy, Debug)]
 pub struct Check<'a> {
+    pub settings: Option<&'a str>,
+    pub bench: &'a str,
+}
+
+/// To be shown what each net of a circuit is.
+#[derive(Clone, Copy, Debug)]
+pub struct Listing<'a> {
     pub settings: Option<&'a str>,
     pub bench: &'a str,
 }

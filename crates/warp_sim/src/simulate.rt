@@ -3,10 +3,11 @@ ghost use Rattle.std.specs.Prelude.{◌≡◌, IfOk, IfSome};
 ghost use Rattle.gate_netlist.specs.Circuit.{CutFits};
 ghost use Rattle.gate_vcd.specs.Given.{Fits};
 ghost use Rattle.warp_core.specs.Values.{AreCircuitWaves};
-ghost use Rattle.warp_sim.specs.Answer.{IsCircuitAnswer, IsAnswer, IsCounted};
+ghost use Rattle.warp_sim.specs.Answer.{IsCircuitAnswer, IsAnswer, IsCounted, IsListed};
 
 use crate::dump::dump_of;
 use crate::fault::Fault;
+use crate::nets::nets_text;
 use crate::options::Options;
 use gate_netlist::{Circuit, Counts, Cut, read_bench};
 use gate_vcd::{Stimulus, Waves, read_stimulus};
@@ -111,4 +112,13 @@ pub fn counts_of_texts(alloc: Global, bench: &[u8], settings: &[u8]) -> Result<C
 {
     let circuit = circuit_of(alloc, bench, settings)?;
     Ok(circuit.counts())
+}
+
+/// What each net of a circuit is, a line each.
+#[tactic(auto, unfolding(crate::specs::Answer::IsListed))]
+pub fn nets_of_texts(alloc: Global, bench: &[u8], settings: &[u8]) -> Result<Vec<u8>, Fault>
+    ensures { IsListed bench.now settings.now result }
+{
+    let circuit = circuit_of(alloc, bench, settings)?;
+    Ok(nets_text(alloc, &circuit)?)
 }

@@ -114,6 +114,9 @@ fn lines_are_read_before_any_text(rt: HostRuntime) -> Result<(), Fail> {
         ("warp_sim check b", 4, "cannot read b\n"),
         ("warp_sim check --settings s b", 4, "cannot read s\n"),
         ("warp_sim check -", 4, "cannot read -\n"),
+        ("warp_sim nets b", 4, "cannot read b\n"),
+        ("warp_sim nets --settings s b", 4, "cannot read s\n"),
+        ("warp_sim nets full", 3, "memory\n"),
     ] {
         let told = tell(&rt, rt.alloc(), line, &[])?;
         assert_eq!(rt; told.status, status, "{line}");
@@ -146,6 +149,9 @@ fn refused_lines_end_with_2(rt: HostRuntime) -> Result<(), Fail> {
         "warp_sim check",
         "warp_sim check b v",
         "warp_sim check --until 5 b",
+        "warp_sim nets",
+        "warp_sim nets b v",
+        "warp_sim nets --workers 1 b",
     ] {
         let told = tell(&rt, rt.alloc(), line, &[])?;
         assert_eq!(rt; told.status, 2, "{line}");
@@ -162,6 +168,7 @@ fn help_is_shown_on_standard_output(rt: HostRuntime) -> Result<(), Fail> {
         "warp_sim --help",
         "warp_sim run --help",
         "warp_sim check --help",
+        "warp_sim nets --help",
     ] {
         let told = tell(&rt, alloc, line, &[])?;
         assert_eq!(rt; told.status, 0, "{line}");
@@ -183,6 +190,20 @@ fn help_is_shown_on_standard_output(rt: HostRuntime) -> Result<(), Fail> {
     );
     assert_eq!(rt; status, 4);
     assert_eq!(rt; err.as_slice(), b"cannot write\n".as_slice());
+    Ok(())
+}
+
+#[test]
+fn the_version_is_shown_on_standard_output(rt: HostRuntime) -> Result<(), Fail> {
+    for line in ["warp_sim --version", "warp_sim -V"] {
+        let told = tell(&rt, rt.alloc(), line, &[])?;
+        assert_eq!(rt; told.status, 0, "{line}");
+        assert_eq!(rt;
+            told.out.as_slice(),
+            b"warp_sim 0.1.0\n".as_slice(),
+            "{line}"
+        );
+    }
     Ok(())
 }
 

@@ -5,3 +5,6 @@ returns-in-Run g c = rw c.in-Run.is c.reply_to_run.ensures
 
 pub returns-in-Check : goal.returns-in-Check
 returns-in-Check g c = rw c.in-Check.is c.reply_to_check.ensures
+
+pub returns-in-Nets : goal.returns-in-Nets
+returns-in-Nets g c = rw c.in-Nets.is c.reply_to_nets.ensures

@@ -1,4 +1,4 @@
-use Rattle.std.proofs.Common.{◌≡◌, ℕ, Option, Some, None, IfSome, subst, sym}
+use Rattle.std.proofs.Common.{◌≡◌, Option, Some, None, IfSome, sym}
 use Rattle.std.specs.Option.{option_map}
 use Rattle.std.specs.Borrow.{Bor}
 use Rattle.warp_sim.proofs.simulate.settled_cut.Goals as goal
