@@ -4,13 +4,13 @@ use gate_netlist::{Circuit, read_bench};
 use std::alloc::Global;
 use std::test::Fail;
 
-const BENCH: &[u8] = b"INPUT(A)\nOUTPUT(Y)\nY = NOT(A)\n";
+pub const BENCH: &[u8] = b"INPUT(A)\nOUTPUT(Y)\nY = NOT(A)\n";
 
-const STIMULUS: &[u8] =
+pub const STIMULUS: &[u8] =
     b"$timescale 1ns $end $var wire 1 ! A $end $enddefinitions $end #0 0! #5 1!";
 
 /// The dump of the inverter until 10.
-const DUMP: &str =
+pub const DUMP: &str =
     "$timescale 1 ns $end\n$scope module top $end\n$var wire 1 ! A $end\n$var wire 1 \" Y $end\n$upscope $end\n$enddefinitions $end\n#0\n$dumpvars\n0!\nx\"\n$end\n#1\n1\"\n#5\n1!\n#6\n0\"\n#10\n";
 
 /// The dump of no net until 3.
@@ -18,7 +18,7 @@ const EMPTY_DUMP: &str =
     "$timescale 1 ns $end\n$scope module top $end\n$upscope $end\n$enddefinitions $end\n#0\n$dumpvars\n$end\n#3\n";
 
 /// The circuit of a bench text, and its stimulus.
-fn read(alloc: Global, bench: &[u8], stimulus: &[u8]) -> Result<(Circuit, Stimulus), Fail> {
+pub fn read(alloc: Global, bench: &[u8], stimulus: &[u8]) -> Result<(Circuit, Stimulus), Fail> {
     let circuit = Circuit::of(alloc, read_bench(alloc, bench)?, b"")?;
     let stimulus = read_stimulus(alloc, stimulus, &circuit)?;
     Ok((circuit, stimulus))

@@ -13,6 +13,8 @@ mod digits;
 mod dump;
 #[cfg(test)]
 mod dump_tests;
+#[cfg(test)]
+mod failing_tests;
 mod fault;
 mod form;
 mod inputs;
@@ -21,6 +23,8 @@ mod keyword;
 mod known;
 mod laws;
 mod lines;
+#[cfg(test)]
+mod memory_tests;
 mod numbers;
 mod put;
 mod reading;
