@@ -35,6 +35,10 @@ pub use state::SAVE_EVERY;
 #[cfg(test)]
 mod commit_tests;
 #[cfg(test)]
+mod forged_tests;
+#[cfg(test)]
+mod memory_tests;
+#[cfg(test)]
 mod opening_tests;
 #[cfg(test)]
 mod part_tests;

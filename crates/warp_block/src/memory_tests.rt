@@ -1,0 +1,69 @@
+use super::tests::{A, Y, pair, to, told};
+use super::*;
+use Sign::{Minus, Plus};
+use gate_values::Logic::{One, Zero};
+use std::test::Fail;
+
+const B: u32 = 3;
+
+/// Whether two looks at the block of Y show the same.
+fn are_alike(before: &Look, after: &Look) -> bool {
+    for time in 0..=10 {
+        if before.entry(A, time) != after.entry(A, time)
+            || before.entry(B, time) != after.entry(B, time)
+        {
+            return false;
+        }
+    }
+    before.log(Y) == after.log(Y)
+        && before.mark() == after.mark()
+        && before.floor() == after.floor()
+        && before.next_time() == after.next_time()
+}
+
+/// Receives a message. Where memory ends, the block and `out` are as before, and that is the end.
+fn receive(message: Message, block: &mut Block, out: &mut Vec<Message>) -> Result<(), Fail> {
+    let before = block.look()?;
+    let sent = out.len();
+    if let Err(fault) = block.receive(message, out) {
+        if out.len() != sent || !are_alike(&before, &block.look()?) {
+            return Err(Fail::from("a refused message has changed something"));
+        }
+        return Err(fault.into());
+    }
+    Ok(())
+}
+
+/// Finishes the event times 1 and 2. Where memory ends, the same call is made again, and finishes what was left.
+fn finish(block: &mut Block, out: &mut Vec<Message>) -> Result<(), Fail> {
+    let mut left = 2;
+    let mut finished = block.advance(2, out);
+    if finished == Err(BlockFault::Memory) {
+        left = if block.mark() < 2 { 2 } else { 1 };
+        finished = block.advance(2, out);
+    }
+    if finished? != left {
+        return Err(Fail::from("another number of steps"));
+    }
+    Ok(())
+}
+
+#[test]
+fn a_rollback_or_no_memory(rt: HostRuntime) -> Result<(), Fail> {
+    let mut out = Vec::new(rt.alloc());
+    let mut block = pair(rt.alloc(), &mut out)?;
+    receive(told(A, 1, One), &mut block, &mut out)?;
+    receive(told(B, 2, One), &mut block, &mut out)?;
+    finish(&mut block, &mut out)?;
+    receive(told(B, 1, Zero), &mut block, &mut out)?;
+    finish(&mut block, &mut out)?;
+    assert_eq!(rt; block.advance(1, &mut out)?, 0);
+    let want = [
+        to(2, Plus, Y, 3, One),
+        to(2, Minus, Y, 3, One),
+        to(2, Plus, Y, 2, Zero),
+        to(2, Plus, Y, 3, One),
+    ];
+    assert_eq!(rt; out.as_slice(), want.as_slice());
+    Ok(())
+}
