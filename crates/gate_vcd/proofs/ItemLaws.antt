@@ -12,10 +12,11 @@ use Rattle.gate_vcd.specs.Tokens.{Token, fault_at}
 use Rattle.gate_vcd.specs.Numbers.{number}
 use Rattle.gate_vcd.specs.Reading.{◌>>=◌, Fails, Gives}
 use Rattle.gate_vcd.specs.Changes.{Item, stamp, change, wrong, Event, events_from, event_at, stamped, last_stamp}
-use Rattle.gate_vcd.specs.Items.{AreKept, IsTaken, TakesItem, fault_of}
+use Rattle.gate_vcd.specs.Items.{AreHeld, AreKept, IsTaken, Taken, TakesItem, fault_of}
 use Rattle.gate_vcd.specs.Known.{knows, source, sources_in}
 use Rattle.gate_vcd.proofs.DeclarationLaws.{fails_then}
-use Rattle.gate_vcd.proofs.Keeping.{past-later, kept-none}
+use Rattle.gate_vcd.proofs.Keeping.{past-later}
+use Rattle.gate_vcd.proofs.Holding.{held-none}
 
 events-nil : (es : List Event) → es ++ [] ≡ es
 events-nil es = grind (arith, common_steps)
@@ -44,45 +45,51 @@ bind-more es more (Ok x) = ap (λ ys. Ok ys) (sym (append_assoc es more x))
 bind-more es more (Err e) = refl
 
 -- a stamp
-pub takes-stamp : (known : KnownCodes) (now : ℕ) (t : Token) (others : List Item) (es : List Event) (lists : List (List Change)) (r : Result ℕ StimFault) → Gives (λ n. n) r (stamped t now) → AreKept (sources_in known) now es lists → TakesItem known now (stamp t) others es lists r
+pub takes-stamp : (known : KnownCodes) (now : ℕ) (t : Token) (others : List Item) (es : List Event) (taken : Taken) (r : Result ℕ StimFault) → Gives (λ n. n) r (stamped t now) → AreHeld (sources_in known) now es taken → TakesItem known now (stamp t) others es taken r
 unfolding events_from
-takes-stamp known now t others es lists (Ok next) g kept =
-    let after = stamp_after (number (drop 1 t.text)) now next (fault_at t causes.StampTooLarge) (fault_at t causes.StampFalls) g in
-    ([], record { count = kept.count; past = rw (events-nil es) (past-later now next es after.0 kept.past); within = after.1; changes = rw (events-nil es) kept.changes }, rw g (bind-unit (events_from (knows known) next others)))
-takes-stamp known now t others es lists (Err e) g kept = fails_then e (stamped t now) (λ next. events_from (knows known) next others) g
+takes-stamp known now t others es taken (Ok next) g kept =
+    let after = stamp_after (number (drop 1 t.text)) now next (fault_at t causes.StampTooLarge) (fault_at t causes.StampFalls) g in (
+      [],
+      record {
+        lists = record { count = kept.lists.count; past = rw (events-nil es) (past-later now next es after.0 kept.lists.past); within = after.1; changes = rw (events-nil es) kept.lists.changes };
+        given = rw (events-nil es) kept.given;
+      },
+      rw g (bind-unit (events_from (knows known) next others)),
+    )
+takes-stamp known now t others es taken (Err e) g kept = fails_then e (stamped t now) (λ next. events_from (knows known) next others) g
 
 -- a change
-pub takes-change : (known : KnownCodes) (now : ℕ) (t : Token) (code : List ℕ) (digits : Option (List ℕ)) (others : List Item) (es : List Event) (lists : List (List Change)) → IsTaken known now t code digits es lists (Ok tt)
-    → TakesItem known now (change t code digits) others es lists (Ok now)
+pub takes-change : (known : KnownCodes) (now : ℕ) (t : Token) (code : List ℕ) (digits : Option (List ℕ)) (others : List Item) (es : List Event) (taken : Taken) → IsTaken known now t code digits es taken (Ok tt)
+    → TakesItem known now (change t code digits) others es taken (Ok now)
 unfolding events_from
-takes-change known now t code digits others es lists (has, kept) = (event_at now code digits, kept, rw has refl)
+takes-change known now t code digits others es taken (has, kept) = (event_at now code digits, kept, rw has refl)
 
-pub refuses-change : (known : KnownCodes) (now : ℕ) (t : Token) (code : List ℕ) (digits : Option (List ℕ)) (others : List Item) (es : List Event) (lists : List (List Change)) (e : StimFault) → IsTaken known now t code digits es lists (Err e)
-    → TakesItem known now (change t code digits) others es lists (Err e)
+pub refuses-change : (known : KnownCodes) (now : ℕ) (t : Token) (code : List ℕ) (digits : Option (List ℕ)) (others : List Item) (es : List Event) (taken : Taken) (e : StimFault) → IsTaken known now t code digits es taken (Err e)
+    → TakesItem known now (change t code digits) others es taken (Err e)
 unfolding events_from
-refuses-change known now t code digits others es lists e (inl m) = inl m
-refuses-change known now t code digits others es lists e (inr (unknown, is)) = inr (rw (unknown, is) refl)
+refuses-change known now t code digits others es taken e (inl m) = inl m
+refuses-change known now t code digits others es taken e (inr (unknown, is)) = inr (rw (unknown, is) refl)
 
 -- The changes so far are kept, and the others are those of these items.
-abbrev pub GoesOn : KnownCodes → ℕ → List (List Change) → List Item → Result (List Event) StimFault → Type 0
-GoesOn known now lists is reading = (es : List Event) × AreKept (sources_in known) now es lists × (reading ≡ (events_from (knows known) now is >>= λ later. Ok (es ++ later)))
+abbrev pub GoesOn : KnownCodes → ℕ → Taken → List Item → Result (List Event) StimFault → Type 0
+GoesOn known now taken is reading = (es : List Event) × AreHeld (sources_in known) now es taken × (reading ≡ (events_from (knows known) now is >>= λ later. Ok (es ++ later)))
 
-pub goes-start : (known : KnownCodes) (n : ℕ) (lists : List (List Change)) (is : List Item) → n ≡ length known.used.keys → lists ≡ replicate {A = List Change} n [] → GoesOn known 0 lists is (events_from (knows known) 0 is)
-goes-start known n lists is e el = ([], rw el (kept-none (sources_in known) n (e ∙ sym (length-map known.used.keys source))), bind-unit (events_from (knows known) 0 is))
+pub goes-start : (known : KnownCodes) (n : ℕ) (taken : Taken) (is : List Item) → n ≡ length known.used.keys → taken.lists ≡ replicate {A = List Change} n [] → taken.given ≡ replicate {A = List ℕ} n [] → GoesOn known 0 taken is (events_from (knows known) 0 is)
+goes-start known n taken is e el eg = ([], held-none (sources_in known) n taken (e ∙ sym (length-map known.used.keys source)) el eg, bind-unit (events_from (knows known) 0 is))
 
-pub goes-on : (known : KnownCodes) (now next : ℕ) (lists new : List (List Change)) (item : Item) (is others : List Item) (reading : Result (List Event) StimFault) → is ≡ item ∷ others
-    → GoesOn known now lists is reading → ((es : List Event) → AreKept (sources_in known) now es lists → TakesItem known now item others es new (Ok next)) → GoesOn known next new others reading
-goes-on known now next lists new item is others reading e (es, kept, read) take =
+pub goes-on : (known : KnownCodes) (now next : ℕ) (taken new : Taken) (item : Item) (is others : List Item) (reading : Result (List Event) StimFault) → is ≡ item ∷ others
+    → GoesOn known now taken is reading → ((es : List Event) → AreHeld (sources_in known) now es taken → TakesItem known now item others es new (Ok next)) → GoesOn known next new others reading
+goes-on known now next taken new item is others reading e (es, kept, read) take =
     let (more, now_kept, makes) = take es kept in
     (es ++ more, now_kept, read ∙ rw (e, makes) (bind-more es more (events_from (knows known) next others)))
 
-pub goes-wrong : (known : KnownCodes) (now : ℕ) (lists : List (List Change)) (is : List Item) (e : StimFault) (reading : Result (List Event) StimFault) → fault_of is ≡ Some e → GoesOn known now lists is reading → Fails e reading
+pub goes-wrong : (known : KnownCodes) (now : ℕ) (taken : Taken) (is : List Item) (e : StimFault) (reading : Result (List Event) StimFault) → fault_of is ≡ Some e → GoesOn known now taken is reading → Fails e reading
 unfolding events_from
-goes-wrong known now lists [] e reading h g = cc
-goes-wrong known now lists (stamp t ∷ is) e reading h g = cc
-goes-wrong known now lists (change t code digits ∷ is) e reading h g = cc
-goes-wrong known now lists (wrong t cause ∷ is) e reading h (es, kept, read) = let is_e : fault_at t cause ≡ e = same_Some _ _ h in inr (read ∙ ap Err is_e)
+goes-wrong known now taken [] e reading h g = cc
+goes-wrong known now taken (stamp t ∷ is) e reading h g = cc
+goes-wrong known now taken (change t code digits ∷ is) e reading h g = cc
+goes-wrong known now taken (wrong t cause ∷ is) e reading h (es, kept, read) = let is_e : fault_at t cause ≡ e = same_Some _ _ h in inr (read ∙ ap Err is_e)
 
-pub goes-out : (known : KnownCodes) (now : ℕ) (lists : List (List Change)) (is : List Item) (reading : Result (List Event) StimFault) → is ≡ [] → GoesOn known now lists is reading → (es : List Event) × (last : ℕ) × (reading ≡ Ok es) × AreKept (sources_in known) last es lists
+pub goes-out : (known : KnownCodes) (now : ℕ) (taken : Taken) (is : List Item) (reading : Result (List Event) StimFault) → is ≡ [] → GoesOn known now taken is reading → (es : List Event) × (last : ℕ) × (reading ≡ Ok es) × AreKept (sources_in known) last es taken.lists
 unfolding events_from
-goes-out known now lists is reading e (es, kept, read) = (es, now, read ∙ rw (e, events-nil es) refl, kept)
+goes-out known now taken is reading e (es, kept, read) = (es, now, read ∙ rw (e, events-nil es) refl, kept.lists)

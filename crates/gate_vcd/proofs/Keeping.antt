@@ -13,18 +13,18 @@ use Rattle.gate_values.specs.declared.logic.Logic.TheVariants.{X}
 use Rattle.gate_values.specs.declared.logic.Change.{Change}
 use Rattle.gate_values.specs.Changes.{changes, latest}
 use Rattle.gate_vcd.specs.Changes.{Event, Source, changes_with, change_of, value_at_place, value_with, last_stamp}
-use Rattle.gate_vcd.specs.Items.{AreKept, AreSettled, settled}
+use Rattle.gate_vcd.specs.Items.{AreKept}
 use Rattle.gate_vcd.specs.Lists.{lists_in}
 use Rattle.gate_vcd.proofs.Links.{slice_get-within}
 use Rattle.gate_vcd.proofs.Settling.{AreUpTo, settled-changes}
 
-events-none : (es : List Event) → es ++ [] ≡ es
+pub events-none : (es : List Event) → es ++ [] ≡ es
 events-none es = grind (arith, common_steps)
 
-append-nil : (xs : List Change) → xs ++ [] ≡ xs
+pub append-nil : (xs : List Change) → xs ++ [] ≡ xs
 append-nil xs = grind (arith, common_steps)
 
-one_more : {A : Type 0} (n : ℕ) (x : A) → replicate n x ++ x ∷ [] ≡ replicate (suc n) x
+pub one_more : {A : Type 0} (n : ℕ) (x : A) → replicate n x ++ x ∷ [] ≡ replicate (suc n) x
 one_more zero x = refl
 one_more (suc n) x = ap (λ xs. x ∷ xs) (one_more n x)
 
@@ -56,7 +56,7 @@ pub same_bytes : (a b : List ℕ) → bytes_eq a b ≡ true → a ≡ b
 same_bytes a b h = (bytes_eq-Decides a b).0 h
 
 -- the changes of a source with one more change
-more_changes : (source : Source) (es : List Event) (e : Event) → changes_with source (es ++ e ∷ []) ≡ changes_with source es ++ cond (bytes_eq source.code e.code) (change_of source.place e ∷ []) []
+pub more_changes : (source : Source) (es : List Event) (e : Event) → changes_with source (es ++ e ∷ []) ≡ changes_with source es ++ cond (bytes_eq source.code e.code) (change_of source.place e ∷ []) []
 more_changes source es e = rw (filter-append (λ (x : Event). bytes_eq source.code x.code) es (e ∷ []), map-append (change_of source.place) (filter (λ (x : Event). bytes_eq source.code x.code) es) (filter (λ (x : Event). bytes_eq source.code x.code) (e ∷ [])))
     (ap (λ cs. changes_with source es ++ cs) (elim (bytes_eq source.code e.code) as (λ b. map (change_of source.place) (cond b (e ∷ []) []) ≡ cond b (change_of source.place e ∷ []) []) [ true ↦ refl | false ↦ refl ]))
 
@@ -66,47 +66,13 @@ up_to_with now source (e ∷ es) h =
     elim (bytes_eq source.code e.code) as (λ b. AreUpTo now (map (change_of source.place) (cond b (e ∷ filter (λ (x : Event). bytes_eq source.code x.code) es) (filter (λ (x : Event). bytes_eq source.code x.code) es))))
     [ true ↦ (h.0, up_to_with now source es h.1) | false ↦ up_to_with now source es h.1 ]
 
-past-more : (now : ℕ) (es : List Event) (e : Event) → e.time ≤ now → AllByRecursion (λ (x : Event). x.time ≤ now) es → AllByRecursion (λ (x : Event). x.time ≤ now) (es ++ e ∷ [])
+pub past-more : (now : ℕ) (es : List Event) (e : Event) → e.time ≤ now → AllByRecursion (λ (x : Event). x.time ≤ now) es → AllByRecursion (λ (x : Event). x.time ≤ now) (es ++ e ∷ [])
 past-more now [] e h all = (h, tt)
 past-more now (x ∷ es) e h all = (all.0, past-more now es e h all.1)
 
 pub past-later : (now next : ℕ) (es : List Event) → now ≤ next → AllByRecursion (λ (x : Event). x.time ≤ now) es → AllByRecursion (λ (x : Event). x.time ≤ next) es
 past-later now next [] h all = tt
 past-later now next (x ∷ es) h all = (omega (arith, all.0), past-later now next es h all.1)
-
--- the lists with a change of digits more
-kept_at : (sources : List Source) (now : ℕ) (code digits : List ℕ) (es : List Event) (old new : List (List Change)) → AreKept sources now es old → AreSettled sources now code digits old new
-    → (k : ℕ) (source : Source) → slice_get sources k ≡ Some source → get_or new k [] ≡ changes (value_with source (es ++ record { time = now; code = code; digits = digits } ∷ [])) (last_stamp + 1)
-kept_at sources now code digits es old new kept settle k source at = go (bytes_eq source.code code) refl
-  where
-    go : (b : Bool) → bytes_eq source.code code ≡ b → get_or new k [] ≡ changes (value_with source (es ++ record { time = now; code = code; digits = digits } ∷ [])) (last_stamp + 1)
-    go true t =
-        let c : Change = record { time = now; value = value_at_place source.place digits } in
-        let ev : Event = record { time = now; code = code; digits = digits } in
-        let listed : changes_with source (es ++ ev ∷ []) ≡ changes_with source es ++ c ∷ [] = more_changes source es ev ∙ rw t refl in
-        let now_is : get_or new k [] ≡ settled (get_or old k []) c = settle.changes k source at ∙ rw t refl in
-        rw (now_is, kept.changes k source at)
-        (settled-changes (changes_with source es) c (last_stamp + 1) (up_to_with now source es kept.past) (omega (arith, kept.within)) ∙ ap (λ cs. changes (λ t. latest X cs t) (last_stamp + 1)) (sym listed))
-    go false t =
-        let ev : Event = record { time = now; code = code; digits = digits } in
-        let listed : changes_with source (es ++ ev ∷ []) ≡ changes_with source es = more_changes source es ev ∙ rw t (append-nil (changes_with source es)) in
-        let now_is : get_or new k [] ≡ get_or old k [] = settle.changes k source at ∙ rw t refl in
-        now_is ∙ kept.changes k source at ∙ ap (λ cs. changes (λ t. latest X cs t) (last_stamp + 1)) (sym listed)
-
--- digits of a code are taken in
-pub kept-digits : (sources : List Source) (now : ℕ) (code digits : List ℕ) (es : List Event) (old new : List (List Change)) → AreKept sources now es old → AreSettled sources now code digits old new
-    → AreKept sources now (es ++ record { time = now; code = code; digits = digits } ∷ []) new
-kept-digits sources now code digits es old new kept settle =
-    record {
-      count = settle.count ∙ kept.count;
-      past = past-more now es (record { time = now; code = code; digits = digits }) (omega arith) kept.past;
-      within = kept.within;
-      changes = kept_at sources now code digits es old new kept settle;
-    }
-
--- a change that is read over
-pub kept-over : (sources : List Source) (now : ℕ) (es : List Event) (lists : List (List Change)) → AreKept sources now es lists → AreKept sources now (es ++ []) lists
-kept-over sources now es lists kept = rw (events-none es) kept
 
 pub latest-none : (t : ℕ) → latest X [] t ≡ X
 unfolding latest

@@ -1,28 +1,33 @@
 -- The sources that are kept, one more at a time.
-use Rattle.std.proofs.Common.{◌≡◌, ℕ, suc, ◌+◌, ◌<◌, Bool, true, false, cond, ◌&&◌, ◌||◌, nat_eq, List, [], ◌∷◌, ◌++◌, length, map, take, get_or, slice_get, Option, Some, None, is_some, refl, ap, sym, ◌∙◌, arith, length-append, inl, inr}
-use Rattle.std.proofs.Math.Seq.{get_or-append_seam}
+use Rattle.std.proofs.Common.{◌≡◌, ℕ, suc, ◌+◌, ◌-◌, ◌<◌, ◌≤◌, ◌⊎◌, Bool, true, false, cond, ◌&&◌, ◌||◌, nat_eq, List, [], ◌∷◌, ◌++◌, length, map, take, reverse, get_or, slice_get, Option, Some, None, is_some, refl, ap, sym, ◌∙◌, arith, length-append, inl, inr}
+use Rattle.std.proofs.Math.Seq.{get_or-append_seam, take-append_seam}
 use Rattle.std.proofs.Math.ListN.{get_or-append}
-use Rattle.std.proofs.lemmas.List.{length-map, map-append}
+use Rattle.std.proofs.lemmas.List.{length-map, map-append, get_or-map, get_or-reverse, length-reverse}
+use Rattle.std.proofs.lemmas.List.Sorted.{IsPermutation-map, list_any-IsPermutation}
+use Rattle.std.specs.List.Sorted.{IsNonDecreasingBy, IsPermutation}
+use Rattle.std.specs.Option.{option_map_or}
 use Rattle.std.specs.Str.{bytes_eq}
 use Rattle.std.specs.List.{list_any}
 use Rattle.gate_vcd.specs.Changes.{Source}
 use Rattle.gate_vcd.specs.Table.{found_in}
 use Rattle.gate_vcd.specs.declared.known.KnownCodes.{KnownCodes}
 use Rattle.gate_vcd.specs.declared.source.Source.{Source as Held}
-use Rattle.gate_vcd.specs.Known.{AreLinked, IsLinked, Takes, flat, is_of, is_taken, knows, last_below, same_source, source, source_by, sources_by, sources_in}
+use Rattle.gate_vcd.specs.Known.{AreFallingNets, AreLinked, IsLeast, IsLinked, Takes, flat, is_of, is_taken, knows, last_below, same_source, source, source_by, sources_by, sources_in}
 use Rattle.gate_vcd.proofs.Compared.{cases_eq}
 use Rattle.gate_vcd.proofs.Keeping.{same_bytes}
 use Rattle.gate_vcd.proofs.InputLaws.{any-more, more_taken, one_code, same_sources, turned}
-use Rattle.gate_vcd.proofs.Links.{slice_get-front, slice_get-end, slice_get-within, last_below-front, last_below-last}
+use Rattle.gate_vcd.proofs.Links.{slice_get-front, slice_get-end, slice_get-is, slice_get-within, last_below-front, last_below-last}
 use Rattle.std.proofs.lemmas.Option.{same_Some}
 
 -- one source more is linked behind the last one of its code
 pub linked-more : (old new : List ℕ → Option (Option ℕ)) (before more : List (Option ℕ)) (sources all : List Source) (s : Source) → AreLinked (λ code. flat (old code)) before sources
     → all ≡ sources ++ s ∷ [] → more ≡ before ++ flat (old s.code) ∷ []
+    → ((k : ℕ) (a : Source) → slice_get sources k ≡ Some a → s.place ≤ a.place)
     → ((code : List ℕ) → new code ≡ cond (bytes_eq s.code code) (Some (Some (length sources))) (old code)) → AreLinked (λ code. flat (new code)) more all
-linked-more old new before more sources all s law ea em found = rw (ea, em) (record {
+linked-more old new before more sources all s law ea em least found = rw (ea, em) (record {
   count = length-append before (flat (old s.code) ∷ []) ∙ ap (λ n. n + 1) law.count ∙ sym (length-append sources (s ∷ []));
   ends = ends;
+  falls = falls;
   links = links;
 })
   where
@@ -35,6 +40,20 @@ linked-more old new before more sources all s law ea em found = rw (ea, em) (rec
         go : (b : Bool) → flat (cond b (Some (Some (length sources))) (old code)) ≡ cond b (Some (length sources)) (last_below (is_of code) (sources ++ s ∷ []) (length sources))
         go true = refl
         go false = law.ends code ∙ sym (last_below-front (is_of code) sources s (length sources) (omega arith))
+
+    falls : (i j : ℕ) (a b : Source) → i ≤ j → slice_get (sources ++ s ∷ []) i ≡ Some a → slice_get (sources ++ s ∷ []) j ≡ Some b → b.place ≤ a.place
+    falls i j a b h ia jb =
+        let ends_before : j < length (sources ++ s ∷ []) = slice_get-within (sources ++ s ∷ []) j b jb in
+        elim (cases_eq j (length sources)) [
+          | inl e ↦ (
+              let own : s ≡ b = same_Some s b (sym (slice_get-end sources s) ∙ ap (slice_get (sources ++ s ∷ [])) (sym e) ∙ jb) in
+              rw (← own) (elim (cases_eq i (length sources)) [
+                | inl f ↦ (let also : s ≡ a = same_Some s a (sym (slice_get-end sources s) ∙ ap (slice_get (sources ++ s ∷ [])) (sym f) ∙ ia) in rw (← also) (omega arith))
+                | inr n ↦ (let l : i < length sources = omega (arith, one) in least i a (sym (slice_get-front sources s i l) ∙ ia))
+              ]))
+          | inr n ↦ (let l : j < length sources = omega (arith, one) in let li : i < length sources = omega arith in
+              law.falls i j a b h (sym (slice_get-front sources s i li) ∙ ia) (sym (slice_get-front sources s j l) ∙ jb))
+        ]
 
     links : (k : ℕ) (x : Source) → slice_get (sources ++ s ∷ []) k ≡ Some x → get_or (before ++ flat (old s.code) ∷ []) k None ≡ last_below (is_of x.code) (sources ++ s ∷ []) k
     links k x at = elim (cases_eq k (length sources)) [
@@ -93,6 +112,7 @@ same_codes s k e = go (bytes_eq s.code k.code) refl e
 -- a source that is kept already
 pub takes-same : (known : KnownCodes) (s : Source) → IsLinked known → is_taken known.used s ≡ true → Takes known known (Some s)
 takes-same known s law taken = record {
+  kept = λ k a at. inl at;
   linked = law;
   codes = λ code. already (knows known code) (is_of code s) (of_code code);
   used = λ q. already (is_taken known.used q) (same_source q s) (λ e. rw (same_sources q s e) taken);
@@ -106,13 +126,39 @@ takes-same known s law taken = record {
 
 -- one that is kept now
 pub takes-more : (old new : KnownCodes) (s : Held) → IsLinked old → new.used.keys ≡ old.used.keys ++ s ∷ [] → new.before.items ≡ old.before.items ++ flat (found_in old.last s.code.now) ∷ []
-    → ((code : List ℕ) → found_in new.last code ≡ cond (bytes_eq s.code.now code) (Some (Some (length old.used.keys))) (found_in old.last code)) → Takes old new (Some (source s))
-takes-more old new s law ek eb found = record {
-  linked = linked-more (found_in old.last) (found_in new.last) old.before.items new.before.items (sources_in old) (sources_in new) (source s) law (ap (map source) ek ∙ map-append source old.used.keys (s ∷ [])) eb
+    → IsLeast old (Some (source s)) → ((code : List ℕ) → found_in new.last code ≡ cond (bytes_eq s.code.now code) (Some (Some (length old.used.keys))) (found_in old.last code)) → Takes old new (Some (source s))
+takes-more old new s law ek eb least found = record {
+  kept = kept;
+  linked = linked-more (found_in old.last) (found_in new.last) old.before.items new.before.items (sources_in old) (sources_in new) (source s) law (ap (map source) ek ∙ map-append source old.used.keys (s ∷ [])) eb (least (source s) refl)
       (λ code. rw (length-map old.used.keys source) (found code));
   codes = λ code. rw (found code) (one_code s.code.now code (Some (length old.used.keys)) (found_in old.last code));
   used = λ q. ap (list_any (λ k. same_source q (source k))) ek ∙ any-more (λ k. same_source q (source k)) old.used.keys s;
 }
+  where
+    all : sources_in new ≡ sources_in old ++ source s ∷ []
+    all = ap (map source) ek ∙ map-append source old.used.keys (s ∷ [])
+
+    kept : (k : ℕ) (a : Source) → slice_get (sources_in new) k ≡ Some a → (slice_get (sources_in old) k ≡ Some a) ⊎ (Some (source s) ≡ Some a)
+    kept k a at =
+        let there : slice_get (sources_in old ++ source s ∷ []) k ≡ Some a = ap (λ xs. slice_get xs k) (sym all) ∙ at in
+        let within : k < length (sources_in old ++ source s ∷ []) = slice_get-within (sources_in old ++ source s ∷ []) k a there in
+        elim (cases_eq k (length (sources_in old))) [
+          | inl e ↦ inr (sym (slice_get-end (sources_in old) (source s)) ∙ ap (slice_get (sources_in old ++ source s ∷ [])) (sym e) ∙ there)
+          | inr n ↦ (let l : k < length (sources_in old) = omega (arith, length-append (sources_in old) (source s ∷ [])) in inl (sym (slice_get-front (sources_in old) (source s) k l) ∙ there))
+        ]
+
+-- sources that are kept stand at places at least those of the nets to come
+abbrev pub AreAbove : KnownCodes → ℕ → List (Option Source) → Type 0
+AreAbove known i nets = (k : ℕ) (a : Source) → slice_get (sources_in known) k ≡ Some a → (j : ℕ) (b : Source) → i ≤ j → slice_get nets j ≡ Some (Some b) → b.place ≤ a.place
+
+pub above-next : (old new : KnownCodes) (i : ℕ) (nets : List (Option Source)) (taken : Option Source) → AreFallingNets nets → slice_get nets i ≡ Some taken → Takes old new taken → AreAbove old i nets → AreAbove new (i + 1) nets
+above-next old new i nets taken falls here takes above k a at j b h there = elim (takes.kept k a at) [
+  | inl was ↦ above k a was j b (omega arith) there
+  | inr own ↦ falls i j a b (omega arith) (here ∙ ap (λ o. Some o) own) there
+]
+
+pub above-least : (known : KnownCodes) (i : ℕ) (nets : List (Option Source)) (taken : Option Source) → slice_get nets i ≡ Some taken → AreAbove known i nets → IsLeast known taken
+above-least known i nets taken here above s is k a at = above k a at i s (omega arith) (here ∙ ap (λ o. Some o) is)
 
 or_none : (b : Bool) → b ≡ (b || false)
 or_none true = refl
@@ -120,7 +166,7 @@ or_none false = refl
 
 -- a net that takes none
 pub takes-none : (known : KnownCodes) → IsLinked known → Takes known known None
-takes-none known law = record { linked = law; codes = λ code. or_none (knows known code); used = λ q. or_none (is_taken known.used q) }
+takes-none known law = record { kept = λ k a at. inl at; linked = law; codes = λ code. or_none (knows known code); used = λ q. or_none (is_taken known.used q) }
 
 or_assoc : (a b c : Bool) → ((a || b) || c) ≡ (a || (b || c))
 or_assoc true b c = refl
@@ -134,3 +180,38 @@ codes-next l p nets i old new h eo en = rw (more_taken p nets i h, en, eo) (or_a
 pub sources-next : (p : Option Source → Bool) (nets : List (Option Held)) (i : ℕ) (old new : Bool) → i < length nets → old ≡ list_any p (sources_by (take i nets)) → new ≡ (old || p (source_by (get_or nets i None)))
     → new ≡ list_any p (sources_by (take (i + 1) nets))
 sources-next p nets i old new h eo en = rw (more_taken p nets i h, en, eo) refl
+
+pub sourced-at : (nets : List (Option Held)) (i : ℕ) → i < length nets → slice_get (sources_by nets) i ≡ Some (source_by (get_or nets i None))
+sourced-at nets i l = slice_get-is (sources_by nets) i None (omega (arith, length-map nets source_by)) ∙ ap (λ o. Some o) (get_or-map source_by nets i None None l)
+
+-- sources sorted by their places and turned around
+abbrev pub place_key : Option Held → ℕ
+place_key taken = option_map_or (λ (s : Source). s.place) (source_by taken) 0
+
+-- what stands at a place of what is turned around stood before
+pub falls-turned : (sorted : List (Option Held)) → IsNonDecreasingBy place_key sorted → AreFallingNets (sources_by (reverse sorted))
+falls-turned sorted up i j a b h ia jb =
+    let long : length (reverse sorted) ≡ length sorted = length-reverse sorted in
+    let li : i < length (sources_by (reverse sorted)) = slice_get-within (sources_by (reverse sorted)) i (Some a) ia in
+    let lj : j < length (sources_by (reverse sorted)) = slice_get-within (sources_by (reverse sorted)) j (Some b) jb in
+    let mi : i < length sorted = omega (arith, length-map (reverse sorted) source_by) in
+    let mj : j < length sorted = omega (arith, length-map (reverse sorted) source_by) in
+    let ka : place_key (get_or sorted (length sorted - 1 - i) None) ≡ a.place = key-at i a mi ia in
+    let kb : place_key (get_or sorted (length sorted - 1 - j) None) ≡ b.place = key-at j b mj jb in
+    let low : place_key (get_or sorted (length sorted - 1 - j) None) ≤ place_key (get_or sorted (length sorted - 1 - i) None) = up (length sorted - 1 - j) (length sorted - 1 - i) None (omega arith) (omega arith) in
+    omega arith
+  where
+    key-at : (k : ℕ) (s : Source) → k < length sorted → slice_get (sources_by (reverse sorted)) k ≡ Some (Some s) → place_key (get_or sorted (length sorted - 1 - k) None) ≡ s.place
+    key-at k s l at =
+        let there : slice_get (sources_by (reverse sorted)) k ≡ Some (source_by (get_or (reverse sorted) k None)) = sourced-at (reverse sorted) k (omega (arith, length-reverse sorted)) in
+        let is : source_by (get_or (reverse sorted) k None) ≡ Some s = same_Some _ (Some s) (sym there ∙ at) in
+        let turned : get_or (reverse sorted) k None ≡ get_or sorted (length sorted - 1 - k) None = get_or-reverse sorted k None l in
+        ap (λ (o : Option Source). option_map_or (λ (x : Source). x.place) o 0) (ap source_by (sym turned) ∙ is)
+
+-- the nets in another order pass a test alike
+pub any-permuted : (p : Option Source → Bool) (xs ys : List (Option Held)) → IsPermutation xs ys → list_any p (sources_by xs) ≡ list_any p (sources_by ys)
+any-permuted p xs ys h = list_any-IsPermutation p (sources_by xs) (sources_by ys) (IsPermutation-map source_by xs ys h)
+
+-- a list written over the whole of another
+pub written-over : (n : ℕ) (new items : List (Option Held)) → n ≡ length new → take n (new ++ items) ≡ new
+written-over n new items e = rw e (take-append_seam new items)

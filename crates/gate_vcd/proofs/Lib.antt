@@ -20,6 +20,8 @@ pub mod DeclarationLaws
 pub mod Settling
 pub mod Links
 pub mod Keeping
+pub mod Reaching
+pub mod Holding
 pub mod SettleLaws
 pub mod ItemLaws
 pub mod InputLaws

@@ -1,5 +1,5 @@
 -- The lists of the sources of a code, settled one after another from the last one on.
-use Rattle.std.proofs.Common.{◌≡◌, ◌≢◌, ℕ, suc, ◌<◌, ◌≤◌, Bool, true, false, cond, ◌&&◌, nat_le, List, [], length, map, set, get_or, slice_get, Option, Some, None, Result, Ok, Err, IfErr, OnOk, Vec, Global, refl, ap, sym, ◌∙◌, arith, inl, inr, get_or-set_same, get_or-set_other, length-set}
+use Rattle.std.proofs.Common.{◌≡◌, ◌≢◌, ℕ, suc, ◌<◌, ◌≤◌, Bool, true, false, cond, ◌&&◌, nat_le, List, [], ◌∷◌, ◌++◌, length, map, set, get_or, slice_get, Option, Some, None, Result, Ok, Err, IfErr, OnOk, Vec, Global, refl, ap, sym, ◌∙◌, arith, inl, inr, get_or-set_same, get_or-set_other, length-set}
 use Rattle.std.proofs.lemmas.List.{length-map, map-set, get_or-map}
 use Rattle.std.proofs.lemmas.Option.{same_Some}
 use Rattle.gate_values.specs.declared.logic.Change.{Change}
@@ -9,28 +9,33 @@ use Rattle.gate_vcd.specs.declared.source.Source.{Source as Held}
 use Rattle.gate_vcd.specs.Faults.{out_of_memory}
 use Rattle.gate_vcd.specs.Tokens.{Token}
 use Rattle.gate_vcd.specs.Changes.{Event, Source, value_at_place}
-use Rattle.gate_vcd.specs.Items.{AreKept, AreSettled, IsTaken, settled}
-use Rattle.gate_vcd.specs.Known.{AreLinked, is_of, knows, last_below, source, sources_in}
+use Rattle.gate_vcd.specs.Items.{AreHeld, AreSettled, IsTaken, Taken, moves, reaches, settled}
+use Rattle.gate_vcd.specs.Known.{AreFalling, AreLinked, is_of, knows, last_below, source, sources_in}
 use Rattle.gate_vcd.specs.Lists.{lists_in}
 use Rattle.gate_vcd.proofs.Compared.{cases_eq, cases_lt, le_true, le_false}
-use Rattle.gate_vcd.proofs.Keeping.{kept-digits, same_bytes}
+use Rattle.gate_vcd.proofs.Keeping.{same_bytes}
+use Rattle.gate_vcd.proofs.Reaching.{reaches-less}
 use Rattle.gate_vcd.proofs.Links.{rank, slice_get-within, slice_get-is, last_below-less, last_below-passes, last_below-stands, last_below-last}
+
+and_false : (b : Bool) → (b && false) ≡ false
+and_false true = refl
+and_false false = refl
 
 -- the change that digits make at a time for a source
 abbrev pub change_for : ℕ → List ℕ → Source → Change
 change_for now digits source = record { time = now; value = value_at_place source.place digits }
 
 -- From a bound on the lists of the sources of the code are settled; the next source is the last one before it.
-pub record IsSettling (sources : List Source) (now : ℕ) (code digits : List ℕ) (old lists : List (List Change)) (next : Option ℕ) : Type 0 where
+pub record IsSettling (sources : List Source) (now : ℕ) (code had digits : List ℕ) (old lists : List (List Change)) (next : Option ℕ) : Type 0 where
   pub bound : ℕ
   pub within : bound ≤ length sources
   pub last : next ≡ last_below (is_of code) sources bound
   pub count : length lists ≡ length old
   pub changes : (k : ℕ) (source : Source) → slice_get sources k ≡ Some source
-      → get_or lists k [] ≡ cond (nat_le bound k && is_of code source) (settled (get_or old k []) (change_for now digits source)) (get_or old k [])
+      → get_or lists k [] ≡ cond (nat_le bound k && moves code had digits source) (settled (get_or old k []) (change_for now digits source)) (get_or old k [])
 
-module _ (sources : List Source) (now : ℕ) (code digits : List ℕ) (old : List (List Change)) where
-  pub settling-start : (next : Option ℕ) → next ≡ last_below (is_of code) sources (length sources) → IsSettling sources now code digits old old next
+module _ (sources : List Source) (now : ℕ) (code had digits : List ℕ) (old : List (List Change)) where
+  pub settling-start : (next : Option ℕ) → next ≡ last_below (is_of code) sources (length sources) → IsSettling sources now code had digits old old next
   settling-start next e = record {
     bound = length sources;
     within = omega arith;
@@ -39,13 +44,13 @@ module _ (sources : List Source) (now : ℕ) (code digits : List ℕ) (old : Lis
     changes = λ k source at. rw (le_false (length sources) k (slice_get-within sources k source at)) refl;
   }
 
-  pub settling-stands : (lists : List (List Change)) (j : ℕ) → IsSettling sources now code digits old lists (Some j) → j < length sources
+  pub settling-stands : (lists : List (List Change)) (j : ℕ) → IsSettling sources now code had digits old lists (Some j) → j < length sources
   settling-stands lists j s = last_below-stands (is_of code) sources s.bound j (sym s.last)
 
   -- the list of the next source is settled
-  pub settling-step : (last : List ℕ → Option ℕ) (before : List (Option ℕ)) (lists : List (List Change)) (j : ℕ) (source : Source) → AreLinked last before sources → slice_get sources j ≡ Some source → length old ≡ length sources
-      → IsSettling sources now code digits old lists (Some j) → IsSettling sources now code digits old (set lists j (settled (get_or lists j []) (change_for now digits source))) (get_or before j None)
-  settling-step last before lists j source linked at long s = record {
+  pub settling-step : (last : List ℕ → Option ℕ) (before : List (Option ℕ)) (lists : List (List Change)) (j : ℕ) (source : Source) → AreLinked last before sources → slice_get sources j ≡ Some source → reaches had digits source.place ≡ true → length old ≡ length sources
+      → IsSettling sources now code had digits old lists (Some j) → IsSettling sources now code had digits old (set lists j (settled (get_or lists j []) (change_for now digits source))) (get_or before j None)
+  settling-step last before lists j source linked at reach long s = record {
     bound = j;
     within = omega (arith, s.within, less);
     last = linked.links j source at ∙ ap (λ c. last_below (is_of c) sources j) (same_bytes source.code code passes);
@@ -60,18 +65,18 @@ module _ (sources : List Source) (now : ℕ) (code digits : List ℕ) (old : Lis
       passes = last_below-passes (is_of code) sources s.bound j source (sym s.last) at
 
       changes : (k : ℕ) (x : Source) → slice_get sources k ≡ Some x
-          → get_or (set lists j (settled (get_or lists j []) (change_for now digits source))) k [] ≡ cond (nat_le j k && is_of code x) (settled (get_or old k []) (change_for now digits x)) (get_or old k [])
+          → get_or (set lists j (settled (get_or lists j []) (change_for now digits source))) k [] ≡ cond (nat_le j k && moves code had digits x) (settled (get_or old k []) (change_for now digits x)) (get_or old k [])
       changes k x there = elim (cases_eq k j) [
         | inl e ↦ (
             let own : source ≡ x = same_Some source x (sym at ∙ ap (slice_get sources) (sym e) ∙ there) in
             let stands : j < length lists = omega (arith, s.count, long, slice_get-within sources j source at) in
             let mine : get_or lists j [] ≡ get_or old j [] = s.changes j source at ∙ rw (le_false s.bound j less) refl in
-            rw (e, ← own, get_or-set_same lists j (settled (get_or lists j []) (change_for now digits source)) [] stands, le_true j j (omega arith), passes, mine) refl)
+            rw (e, ← own, get_or-set_same lists j (settled (get_or lists j []) (change_for now digits source)) [] stands, le_true j j (omega arith), passes, reach, mine) refl)
         | inr n ↦ get_or-set_other lists j k (settled (get_or lists j []) (change_for now digits source)) [] n ∙ s.changes k x there ∙ others k x there n
       ]
         where
           others : (k : ℕ) (x : Source) → slice_get sources k ≡ Some x → k ≢ j
-              → cond (nat_le s.bound k && is_of code x) (settled (get_or old k []) (change_for now digits x)) (get_or old k []) ≡ cond (nat_le j k && is_of code x) (settled (get_or old k []) (change_for now digits x)) (get_or old k [])
+              → cond (nat_le s.bound k && moves code had digits x) (settled (get_or old k []) (change_for now digits x)) (get_or old k []) ≡ cond (nat_le j k && moves code had digits x) (settled (get_or old k []) (change_for now digits x)) (get_or old k [])
           others k x there n = elim (cases_lt k j) [
             | inl l ↦ rw (le_false j k l, le_false s.bound k (omega (arith, less))) refl
             | inr g ↦ elim (cases_lt k s.bound) [
@@ -94,26 +99,43 @@ module _ (sources : List Source) (now : ℕ) (code digits : List ℕ) (old : Lis
       go None e = omega arith
       go (Some i) e = let l : i < j = last_below-less (is_of source.code) sources j i (sym e) in omega arith
 
-  pub settling-end : (lists : List (List Change)) (next : Option ℕ) → next ≡ None → IsSettling sources now code digits old lists next → AreSettled sources now code digits old lists
-  settling-end lists next none s = record {
+  -- none before the bound is reached
+  settling-over : (lists : List (List Change)) (next : Option ℕ) (s : IsSettling sources now code had digits old lists next)
+      → ((k : ℕ) (source : Source) → k < s.bound → slice_get sources k ≡ Some source → moves code had digits source ≡ false) → AreSettled sources now code had digits old lists
+  settling-over lists next s none = record {
     count = s.count;
     changes = λ k source at. s.changes k source at ∙ by k source at;
   }
     where
       by : (k : ℕ) (source : Source) → slice_get sources k ≡ Some source
-          → cond (nat_le s.bound k && is_of code source) (settled (get_or old k []) (change_for now digits source)) (get_or old k []) ≡ cond (is_of code source) (settled (get_or old k []) (change_for now digits source)) (get_or old k [])
+          → cond (nat_le s.bound k && moves code had digits source) (settled (get_or old k []) (change_for now digits source)) (get_or old k []) ≡ cond (moves code had digits source) (settled (get_or old k []) (change_for now digits source)) (get_or old k [])
       by k source at = elim (cases_lt k s.bound) [
-        | inl low ↦ (let no : is_of code source ≡ false = last_below-last (is_of code) sources s.bound None k source (sym s.last ∙ none) (omega arith) low at in rw (no, le_false s.bound k low) refl)
+        | inl low ↦ rw (none k source low at, le_false s.bound k low) refl
         | inr high ↦ rw (le_true s.bound k high) refl
       ]
 
+  pub settling-end : (lists : List (List Change)) (next : Option ℕ) → next ≡ None → IsSettling sources now code had digits old lists next → AreSettled sources now code had digits old lists
+  settling-end lists next none s = settling-over lists next s
+      (λ k source low at. (let no : is_of code source ≡ false = last_below-last (is_of code) sources s.bound None k source (sym s.last ∙ none) (omega arith) low at in rw no refl))
+
+  -- the digits don't reach the next one, nor any before it
+  pub settling-stops : (lists : List (List Change)) (j : ℕ) (source : Source) → AreFalling sources → slice_get sources j ≡ Some source → reaches had digits source.place ≡ false
+      → IsSettling sources now code had digits old lists (Some j) → AreSettled sources now code had digits old lists
+  settling-stops lists j source falls at stops s = settling-over lists (Some j) s none
+    where
+      none : (k : ℕ) (x : Source) → k < s.bound → slice_get sources k ≡ Some x → moves code had digits x ≡ false
+      none k x low there = elim (cases_lt j k) [
+        | inl past ↦ (let no : is_of code x ≡ false = last_below-last (is_of code) sources s.bound (Some j) k x (sym s.last) (omega arith) low there in rw no refl)
+        | inr before ↦ rw (reaches-less had digits source.place x.place (falls k j x source before there at) stops) (and_false (is_of code x))
+      ]
+
 -- the same of the vectors that hold the lists
-pub vectors-step : (sources : List Source) (now : ℕ) (code digits : List ℕ) (first : List (List Change)) (last : List ℕ → Option ℕ) (before : List (Option ℕ)) (vs : List (Vec Change Global)) (old new : Vec Change Global) (j : ℕ) (source : Source)
-    → AreLinked last before sources → slice_get sources j ≡ Some source → length first ≡ length sources → j < length vs → old ≡ get_or vs j old → new.items ≡ settled old.items (change_for now digits source)
-    → IsSettling sources now code digits first (lists_in vs) (Some j) → IsSettling sources now code digits first (lists_in (set vs j new)) (get_or before j None)
-vectors-step sources now code digits first last before vs old new j source linked at long within eo en s =
+pub vectors-step : (sources : List Source) (now : ℕ) (code had digits : List ℕ) (first : List (List Change)) (last : List ℕ → Option ℕ) (before : List (Option ℕ)) (vs : List (Vec Change Global)) (old new : Vec Change Global) (j : ℕ) (source : Source)
+    → AreLinked last before sources → slice_get sources j ≡ Some source → reaches had digits source.place ≡ true → length first ≡ length sources → j < length vs → old ≡ get_or vs j old → new.items ≡ settled old.items (change_for now digits source)
+    → IsSettling sources now code had digits first (lists_in vs) (Some j) → IsSettling sources now code had digits first (lists_in (set vs j new)) (get_or before j None)
+vectors-step sources now code had digits first last before vs old new j source linked at reach long within eo en s =
     let read : old.items ≡ get_or (lists_in vs) j [] = ap (λ (w : Vec Change Global). w.items) eo ∙ sym (get_or-map (λ (w : Vec Change Global). w.items) vs j old [] within) in
-    rw (map-set (λ (w : Vec Change Global). w.items) vs j new, en, read) (settling-step sources now code digits first last before (lists_in vs) j source linked at long s)
+    rw (map-set (λ (w : Vec Change Global). w.items) vs j new, en, read) (settling-step sources now code had digits first last before (lists_in vs) j source linked at reach long s)
 
 pub no_source : Held
 no_source = record { code = record { now = []; ref_ptr = (0, 0) }; place = 0 }
@@ -129,7 +151,7 @@ place-of sources number s d l at =
     ap (λ (x : Source). x.place) (same_Some (source (get_or sources number d)) s (sym own ∙ at))
 
 -- digits of a code whose lists are settled
-pub takes-digits : (known : KnownCodes) (now : ℕ) (t : Token) (code digits : List ℕ) (es : List Event) (old new : List (List Change)) (r : Result (Unit {0}) StimFault) → knows known code ≡ true → AreKept (sources_in known) now es old
-    → OnOk r (AreSettled (sources_in known) now code digits old new) → IfErr r (λ e. e ≡ out_of_memory) → IsTaken known now t code (Some digits) es new r
-takes-digits known now t code digits es old new (Ok x) has kept settled err = (has, kept-digits (sources_in known) now code digits es old new kept settled)
-takes-digits known now t code digits es old new (Err e) has kept settled err = inl err
+pub takes-digits : (known : KnownCodes) (now : ℕ) (t : Token) (code digits : List ℕ) (es : List Event) (new : Taken) (r : Result (Unit {0}) StimFault) → knows known code ≡ true
+    → OnOk r (AreHeld (sources_in known) now (es ++ record { time = now; code = code; digits = digits } ∷ []) new) → IfErr r (λ e. e ≡ out_of_memory) → IsTaken known now t code (Some digits) es new r
+takes-digits known now t code digits es new (Ok x) has held err = (has, held)
+takes-digits known now t code digits es new (Err e) has held err = inl err

@@ -123,12 +123,16 @@ extension logic.One = logic.Zero
 extension logic.X = logic.X
 extension logic.Z = logic.Z
 
+-- the value of all places past the end of digits
+abbrev pub past_end : List ℕ → Logic
+past_end digits = extension (digit (get_or digits 0 0))
+
 -- The value at a place of digits, counted from the right and from 0: that of the digit there, or, where the
 -- digits end before it, what they are extended by.
 abbrev pub value_at_place : ℕ → List ℕ → Logic
 value_at_place place digits =
     if nat_lt place (length digits) then digit (get_or digits (length digits - 1 - place) 0)
-    else extension (digit (get_or digits 0 0))
+    else past_end digits
 
 -- Where a net takes its values from: the changes of a code, and in their digits a place, counted from the
 -- right and from 0.

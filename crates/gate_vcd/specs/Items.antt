@@ -1,7 +1,8 @@
 -- What a reader of changes answers, and what it keeps.
-use Rattle.std.specs.Prelude.{◌≡◌, ◌⊎◌, ℕ, ◌+◌, ◌-◌, ◌≤◌, Bool, true, false, nat_eq, if◌then◌else◌, List, [], ◌∷◌, ◌++◌, length, take, get_or, slice_get, Option, Some, None, Result, Ok, Err}
+use Rattle.std.specs.Prelude.{◌≡◌, ◌⊎◌, ℕ, ◌+◌, ◌-◌, ◌≤◌, Bool, true, false, not, ◌&&◌, ◌||◌, nat_lt, nat_eq, if◌then◌else◌, List, [], ◌∷◌, ◌++◌, length, take, get_or, slice_get, Option, Some, None, Result, Ok, Err}
 use Rattle.std.specs.Option.{option_map_or}
 use Rattle.std.specs.List.{AllByRecursion}
+use Rattle.std.specs.Str.{bytes_eq}
 use Rattle.gate_values.specs.declared.logic.Logic.{Logic}
 use Rattle.gate_values.specs.declared.logic.Logic.TheVariants as logic
 use Rattle.gate_values.specs.declared.logic.Change.{Change}
@@ -14,9 +15,11 @@ use Rattle.gate_vcd.specs.declared.known.KnownCodes.{KnownCodes}
 use Rattle.gate_vcd.specs.declared.items.Item.{Item as Read}
 use Rattle.gate_vcd.specs.declared.items.Item.TheVariants as read
 use Rattle.gate_vcd.specs.Tokens.{Token, fault_at}
-use Rattle.gate_vcd.specs.Words.{token_of, bytes_of}
-use Rattle.gate_vcd.specs.Changes.{Item, stamp, change, wrong, nothing, items, Event, Source, event_at, events_from, value_with, value_at_place, last_stamp}
-use Rattle.gate_vcd.specs.Known.{is_of, knows, sources_in}
+use Rattle.gate_vcd.specs.Words.{token_of, bytes_of, texts}
+use Rattle.gate_vcd.specs.Changes.{Item, stamp, change, wrong, nothing, items, Event, Source, event_at, events_from, value_with, past_end, value_at_place, last_stamp}
+use Rattle.gate_vcd.specs.Known.{is_of, knows, last_below, sources_in}
+use Rattle.gate_vcd.specs.Lists.{lists_in}
+use Rattle.gate_vcd.specs.declared.changes.Taken.{Taken as Held}
 
 -- an item, without where it lies in memory
 abbrev pub item_of : Read → Item
@@ -62,15 +65,51 @@ pub record AreKept (sources : List Source) (now : ℕ) (es : List Event) (lists 
   pub within : now ≤ last_stamp
   pub changes : (k : ℕ) (source : Source) → slice_get sources k ≡ Some source → get_or lists k [] ≡ changes (value_with source es) (last_stamp + 1)
 
--- the same lists, each with a change of the digits where its source is of the code
-pub record AreSettled (sources : List Source) (now : ℕ) (code digits : List ℕ) (old new : List (List Change)) : Type 0 where
+-- A place may have another value under new digits than under those before: it stands in one of them, or what
+-- they are extended by differs.
+unfoldable pub reaches : List ℕ → List ℕ → ℕ → Bool
+reaches had digits place = (nat_lt place (length had) || nat_lt place (length digits)) || not (same (past_end had) (past_end digits))
+
+-- a source of the code that digits reach, after those that it had
+abbrev pub moves : List ℕ → List ℕ → List ℕ → Source → Bool
+moves code had digits source = is_of code source && reaches had digits source.place
+
+-- the same lists, each with a change of the digits where they reach its source
+pub record AreSettled (sources : List Source) (now : ℕ) (code had digits : List ℕ) (old new : List (List Change)) : Type 0 where
   pub count : length new ≡ length old
   pub changes : (k : ℕ) (source : Source) → slice_get sources k ≡ Some source
-      → get_or new k [] ≡ (if is_of code source then settled (get_or old k []) (record { time = now; value = value_at_place source.place digits }) else get_or old k [])
+      → get_or new k [] ≡ (if moves code had digits source then settled (get_or old k []) (record { time = now; value = value_at_place source.place digits }) else get_or old k [])
+
+-- the digits that a code has after events, from those before
+abbrev pub given_after : List ℕ → List ℕ → List Event → List ℕ
+given_after code had [] = had
+given_after code had (e ∷ es) = given_after code (if bytes_eq code e.code then e.digits else had) es
+
+-- the last source of a code
+abbrev pub last_of : List Source → List ℕ → Option ℕ
+last_of sources code = last_below (is_of code) sources (length sources)
+
+-- At the last source of each code the digits are kept that the code has.
+pub record AreGiven (sources : List Source) (es : List Event) (given : List (List ℕ)) : Type 0 where
+  pub count : length given ≡ length sources
+  pub digits : (code : List ℕ) (k : ℕ) → last_of sources code ≡ Some k → get_or given k [] ≡ given_after code [] es
+
+-- what is kept of the changes, without where it lies in memory
+pub record Taken : Type 0 where
+  pub lists : List (List Change)
+  pub given : List (List ℕ)
+
+abbrev pub taken_in : Held → Taken
+taken_in taken = record { lists = lists_in taken.lists.items; given = texts taken.given.items }
+
+-- what is kept is that of these events
+pub record AreHeld (sources : List Source) (now : ℕ) (es : List Event) (taken : Taken) : Type 0 where
+  pub lists : AreKept sources now es taken.lists
+  pub given : AreGiven sources es taken.given
 
 -- a change of a code is taken in, or its code isn't known
-abbrev pub IsTaken : KnownCodes → ℕ → Token → List ℕ → Option (List ℕ) → List Event → List (List Change) → Result (Unit {0}) StimFault → Type 0
-IsTaken known now first code digits es new (Ok _) = (knows known code ≡ true) × AreKept (sources_in known) now (es ++ event_at now code digits) new
+abbrev pub IsTaken : KnownCodes → ℕ → Token → List ℕ → Option (List ℕ) → List Event → Taken → Result (Unit {0}) StimFault → Type 0
+IsTaken known now first code digits es new (Ok _) = (knows known code ≡ true) × AreHeld (sources_in known) now (es ++ event_at now code digits) new
 IsTaken known now first code digits es new (Err e) = (e ≡ out_of_memory) ⊎ ((knows known code ≡ false) × (e ≡ fault_at first causes.UnknownCode))
 
 -- the changes that were read are kept
@@ -78,8 +117,8 @@ abbrev pub AreTaken : List Source → List (List Change) → Result (List Event)
 AreTaken sources lists reading = (es : List Event) × (now : ℕ) × (reading ≡ Ok es) × AreKept sources now es lists
 
 -- An item is taken in: the changes that it makes, and the time after it, from which the other items go on.
-abbrev pub TakesItem : KnownCodes → ℕ → Item → List Item → List Event → List (List Change) → Result ℕ StimFault → Type 0
+abbrev pub TakesItem : KnownCodes → ℕ → Item → List Item → List Event → Taken → Result ℕ StimFault → Type 0
 TakesItem known now item others es new (Ok next) =
-    (more : List Event) × AreKept (sources_in known) next (es ++ more) new
+    (more : List Event) × AreHeld (sources_in known) next (es ++ more) new
     × (events_from (knows known) now (item ∷ others) ≡ (events_from (knows known) next others >>= λ later. Ok (more ++ later)))
 TakesItem known now item others es new (Err e) = Fails e (events_from (knows known) now (item ∷ others))

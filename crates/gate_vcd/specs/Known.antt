@@ -1,5 +1,5 @@
 -- What a reader of changes keeps of the codes of a text.
-use Rattle.std.specs.Prelude.{◌≡◌, ℕ, zero, suc, Bool, false, ◌&&◌, ◌||◌, nat_eq, if◌then◌else◌, List, length, map, get_or, slice_get, position, Option, Some, None, is_some, option_map, option_and_then}
+use Rattle.std.specs.Prelude.{◌≡◌, ◌⊎◌, ◌≤◌, ℕ, zero, suc, Bool, false, ◌&&◌, ◌||◌, nat_eq, if◌then◌else◌, List, length, map, get_or, slice_get, position, Option, Some, None, is_some, option_map, option_and_then}
 use Rattle.std.specs.Option.{option_map_or}
 use Rattle.std.specs.List.{list_any}
 use Rattle.std.specs.Str.{bytes_eq}
@@ -38,10 +38,20 @@ last_below p xs (suc n) = if option_map_or p (slice_get xs n) false then Some n 
 abbrev pub is_of : List ℕ → Source → Bool
 is_of code s = bytes_eq s.code code
 
--- Each code refers to its last source, and each source to the one before it of the same code.
+-- the places of the sources fall
+abbrev pub AreFalling : List Source → Type 0
+AreFalling sources = (i j : ℕ) (a b : Source) → i ≤ j → slice_get sources i ≡ Some a → slice_get sources j ≡ Some b → b.place ≤ a.place
+
+-- the same of the nets that have a source
+abbrev pub AreFallingNets : List (Option Source) → Type 0
+AreFallingNets nets = (i j : ℕ) (a b : Source) → i ≤ j → slice_get nets i ≡ Some (Some a) → slice_get nets j ≡ Some (Some b) → b.place ≤ a.place
+
+-- Each code refers to its last source, and each source to the one before it of the same code; the places fall,
+-- so that those of a code rise from its last source on.
 pub record AreLinked (last : List ℕ → Option ℕ) (before : List (Option ℕ)) (sources : List Source) : Type 0 where
   pub count : length before ≡ length sources
   pub ends : (code : List ℕ) → last code ≡ last_below (is_of code) sources (length sources)
+  pub falls : AreFalling sources
   pub links : (k : ℕ) (s : Source) → slice_get sources k ≡ Some s → get_or before k None ≡ last_below (is_of s.code) sources k
 
 -- no code is joined with its absence
@@ -70,8 +80,13 @@ takes nets s = list_any (λ taken. option_map_or (same_source s) taken false) ne
 abbrev pub sources_by : List (Option Held) → List (Option Source)
 sources_by nets = map source_by nets
 
+-- no source that is kept stands at a place below that of this one
+abbrev pub IsLeast : KnownCodes → Option Source → Type 0
+IsLeast known taken = (s : Source) → taken ≡ Some s → (k : ℕ) (a : Source) → slice_get (sources_in known) k ≡ Some a → s.place ≤ a.place
+
 -- what is kept, with the source of one net more
 pub record Takes (old new : KnownCodes) (taken : Option Source) : Type 0 where
+  pub kept : (k : ℕ) (a : Source) → slice_get (sources_in new) k ≡ Some a → (slice_get (sources_in old) k ≡ Some a) ⊎ (taken ≡ Some a)
   pub linked : IsLinked new
   pub codes : (code : List ℕ) → knows new code ≡ (knows old code || option_map_or (is_of code) taken false)
   pub used : (s : Source) → is_taken new.used s ≡ (is_taken old.used s || option_map_or (same_source s) taken false)

@@ -1,13 +1,14 @@
-ghost use Rattle.std.specs.Prelude.{◌≡◌, ◌<◌, ◌-◌, List, [], Some, length, map, slice_get, replicate, IfErr, IfOk, MatchResult, OnOk};
-ghost use Rattle.gate_vcd.specs.Changes.{Event, Source as TextSource, value_at_place, Item as TextItem, events_from, items, nothing, stamped};
+ghost use Rattle.std.specs.Prelude.{◌≡◌, ◌<◌, ◌-◌, ◌++◌, ◌∷◌, List, [], Some, length, map, slice_get, replicate, not, IfErr, IfOk, MatchResult, OnOk};
+ghost use Rattle.gate_values.specs.Changes.{same};
+ghost use Rattle.gate_vcd.specs.Changes.{Event, Source as TextSource, Item as TextItem, events_from, items, nothing, stamped};
 ghost use Rattle.gate_vcd.specs.Faults.{out_of_memory};
-ghost use Rattle.gate_vcd.specs.Items.{AreKept, AreSettled, AreTaken, IsTaken, TakesItem, ends_at, item_of, settled, undone, value_after};
-ghost use Rattle.gate_vcd.specs.Known.{IsLinked, is_of, knows, last_below, source, sources_in};
+ghost use Rattle.gate_vcd.specs.Items.{AreHeld, AreSettled, AreTaken, IsTaken, TakesItem, ends_at, item_of, last_of, reaches, settled, taken_in, undone, value_after};
+ghost use Rattle.gate_vcd.specs.Known.{IsLinked, knows, source, sources_in};
 ghost use Rattle.gate_vcd.specs.Lists.{lists_in};
 ghost use Rattle.gate_vcd.specs.Reading.{Fails, Gives};
-ghost use Rattle.gate_vcd.specs.Words.{bytes_of, token_of};
+ghost use Rattle.gate_vcd.specs.Words.{bytes_of, texts, token_of};
 
-use crate::digits::value_at_place;
+use crate::digits::{past_end, value_at_place};
 use crate::fault::{StimCause, StimFault};
 use crate::form::after_first;
 use crate::items::{Item, next_item};
@@ -20,6 +21,15 @@ use std::alloc::Global;
 
 /// The greatest time of a stimulus.
 const LAST_STAMP: u64 = 1_000_000_000_000_000_000;
+
+/// What is kept of the changes so far.
+#[derive(Drop)]
+struct Taken<'a> {
+    /// Of each source the list of its changes.
+    lists: Vec<Vec<Change>>,
+    /// Of each code, at its last source, the digits that it has.
+    given: Vec<&'a [u8]>,
+}
 
 /// The value that changes leave.
 fn value_after(list: &[Change]) -> Logic
@@ -85,71 +95,158 @@ fn empty_lists(alloc: Global, count: usize) -> Result<Vec<Vec<Change>>, StimFaul
     Ok(lists)
 }
 
-/// The value that digits give the source of a number.
-fn value_for(sources: &[Source], number: usize, digits: &[u8]) -> Logic
-    requires { number < length sources.now }
-    ensures { (s : TextSource) → slice_get (map source sources.now) number ≡ Some s → result ≡ value_at_place s.place digits.now }
+/// So many times no digits.
+fn no_digits<'a>(alloc: Global, count: usize) -> Result<Vec<&'a [u8]>, StimFault>
+    ensures ok { IfOk result (λ given. texts given.items ≡ replicate count []) }
+    ensures err { IfErr result (λ e. e ≡ out_of_memory) }
 {
-    value_at_place(sources[number].place, digits)
+    let mut given: Vec<&'a [u8]> = Vec::new(alloc);
+    for _ in 0..count {
+        given.push(&[])?;
+    }
+    Ok(given)
+}
+
+/// No change of so many sources.
+fn nothing_taken<'a>(alloc: Global, count: usize) -> Result<Taken<'a>, StimFault>
+    ensures lists { IfOk result (λ taken. lists_in taken.lists.items ≡ replicate count []) }
+    ensures given { IfOk result (λ taken. texts taken.given.items ≡ replicate count []) }
+    ensures err { IfErr result (λ e. e ≡ out_of_memory) }
+{
+    Ok(Taken {
+        lists: empty_lists(alloc, count)?,
+        given: no_digits(alloc, count)?,
+    })
+}
+
+/// The place of the source of a number.
+fn place_of(sources: &[Source], number: usize) -> u64
+    requires { number < length sources.now }
+    ensures { (s : TextSource) → slice_get (map source sources.now) number ≡ Some s → result ≡ s.place }
+{
+    sources[number].place
+}
+
+fn differ(value: Logic, other: Logic) -> bool
+    ensures { result ≡ not (same value other) }
+{
+    value != other
+}
+
+/// Whether a place may have another value under new digits than under those before.
+#[tactic(auto, unfolding(crate::specs::Items::reaches))]
+fn reaches(had: &[u8], digits: &[u8], place: u64) -> bool
+    ensures { result ≡ reaches had.now digits.now place }
+{
+    place < had.len() as u64
+        || place < digits.len() as u64
+        || differ(past_end(had), past_end(digits))
 }
 
 /// Takes in the digits of a change at a time, for the source of this number and those before it of the same
-/// code.
+/// code, as far as the digits reach.
 fn settle_code(
     codes: &KnownCodes,
     lists: &mut Vec<Vec<Change>>,
     now: u64,
     code: &[u8],
-    last: Option<usize>,
+    last: usize,
+    had: &[u8],
     digits: &[u8],
 ) -> Result<(), StimFault>
     requires linked { IsLinked codes.now }
     requires count { length lists.old.items ≡ length codes.now.used.keys }
-    requires last { last ≡ last_below (is_of code.now) (sources_in codes.now) (length codes.now.used.keys) }
-    ensures ok { OnOk result (AreSettled (sources_in codes.now) now code.now digits.now (lists_in lists.old.items) (lists_in lists.new.items)) }
+    requires last { last_of (sources_in codes.now) code.now ≡ Some last }
+    ensures ok { OnOk result (AreSettled (sources_in codes.now) now code.now had.now digits.now (lists_in lists.old.items) (lists_in lists.new.items)) }
     ensures err { IfErr result (λ e. e ≡ out_of_memory) }
 {
     let sources = codes.used.as_slice();
-    let mut next = last;
+    let mut next = Some(last);
     while let Some(number) = next {
-        let value = value_for(sources, number, digits);
+        let place = place_of(sources, number);
+        if !reaches(had, digits, place) {
+            return Ok(());
+        }
+        let value = value_at_place(place, digits);
         settle(&mut lists[number], Change { time: now, value })?;
         next = codes.before[number];
     }
     Ok(())
 }
 
+/// Takes in the digits of a change at a time, and keeps them.
+fn take_digits<'a>(
+    codes: &KnownCodes,
+    taken: &mut Taken<'a>,
+    now: u64,
+    code: &[u8],
+    last: usize,
+    digits: &'a [u8],
+) -> Result<(), StimFault>
+    requires linked { IsLinked codes.now }
+    requires last { last_of (sources_in codes.now) code.now ≡ Some last }
+    requires held { (es : List Event) × AreHeld (sources_in codes.now) now es (taken_in taken.old) }
+    ensures ok { (es : List Event) → AreHeld (sources_in codes.now) now es (taken_in taken.old) → OnOk result (AreHeld (sources_in codes.now) now (es ++ record { time = now; code = code.now; digits = digits.now } ∷ []) (taken_in taken.new)) }
+    ensures err { IfErr result (λ e. e ≡ out_of_memory) }
+{
+    let had = taken.given[last];
+    settle_code(codes, &mut taken.lists, now, code, last, had, digits)?;
+    taken.given[last] = digits;
+    Ok(())
+}
+
+/// The same, where the code has a last source; else no input takes the change.
+fn take_known<'a>(
+    codes: &KnownCodes,
+    taken: &mut Taken<'a>,
+    now: u64,
+    code: &[u8],
+    last: Option<usize>,
+    digits: &'a [u8],
+) -> Result<(), StimFault>
+    requires linked { IsLinked codes.now }
+    requires last { last_of (sources_in codes.now) code.now ≡ last }
+    requires held { (es : List Event) × AreHeld (sources_in codes.now) now es (taken_in taken.old) }
+    ensures ok { (es : List Event) → AreHeld (sources_in codes.now) now es (taken_in taken.old) → OnOk result (AreHeld (sources_in codes.now) now (es ++ record { time = now; code = code.now; digits = digits.now } ∷ []) (taken_in taken.new)) }
+    ensures err { IfErr result (λ e. e ≡ out_of_memory) }
+{
+    match last {
+        Some(last) => take_digits(codes, taken, now, code, last, digits),
+        None => Ok(()),
+    }
+}
+
 /// Takes in a change of a code at a time. The code must be known; a change that is read over has no digits, and
 /// one of a code that no input takes leaves the lists as they are.
-fn take_change(
+fn take_change<'a>(
     codes: &KnownCodes,
-    lists: &mut Vec<Vec<Change>>,
+    taken: &mut Taken<'a>,
     now: u64,
     first: Word,
     code: &[u8],
-    digits: Option<&[u8]>,
+    digits: Option<&'a [u8]>,
 ) -> Result<(), StimFault>
     requires linked { IsLinked codes.now }
-    requires count { length lists.old.items ≡ length codes.now.used.keys }
-    ensures { (es : List Event) → AreKept (sources_in codes.now) now es (lists_in lists.old.items) → IsTaken codes.now now (token_of first.entry) code.now (bytes_of digits.entry) es (lists_in lists.new.items) result }
+    requires held { (es : List Event) × AreHeld (sources_in codes.now) now es (taken_in taken.old) }
+    ensures { (es : List Event) → AreHeld (sources_in codes.now) now es (taken_in taken.old) → IsTaken codes.now now (token_of first.entry) code.now (bytes_of digits.entry) es (taken_in taken.new) result }
 {
     match (codes.last.get(code), digits) {
         (None, _) => Err(first.fault(StimCause::UnknownCode)),
         (Some(_), None) => Ok(()),
-        (Some(last), Some(digits)) => settle_code(codes, lists, now, code, last, digits),
+        (Some(last), Some(digits)) => take_known(codes, taken, now, code, last, digits),
     }
 }
 
 /// Takes in an item after a time, and answers the time after it.
-fn take_item(
+fn take_item<'a>(
     codes: &KnownCodes,
-    lists: &mut Vec<Vec<Change>>,
+    taken: &mut Taken<'a>,
     now: u64,
-    item: Item,
+    item: Item<'a>,
 ) -> Result<u64, StimFault>
     requires linked { IsLinked codes.now }
-    requires count { length lists.old.items ≡ length codes.now.used.keys }
-    ensures { (es : List Event) (others : List TextItem) → AreKept (sources_in codes.now) now es (lists_in lists.old.items) → TakesItem codes.now now (item_of item.entry) others es (lists_in lists.new.items) result }
+    requires held { (es : List Event) × AreHeld (sources_in codes.now) now es (taken_in taken.old) }
+    ensures { (es : List Event) (others : List TextItem) → AreHeld (sources_in codes.now) now es (taken_in taken.old) → TakesItem codes.now now (item_of item.entry) others es (taken_in taken.new) result }
 {
     match item {
         Item::Stamp(word) => next_stamp(now, word),
@@ -158,7 +255,7 @@ fn take_item(
             code,
             digits,
         } => {
-            take_change(codes, lists, now, first, code, digits)?;
+            take_change(codes, taken, now, first, code, digits)?;
             Ok(now)
         }
     }
@@ -173,10 +270,10 @@ pub fn read_changes<'a>(
     requires { IsLinked codes.now }
     ensures { MatchResult result (λ lists. AreTaken (sources_in codes.now) (lists_in lists.items) (events_from (knows codes.now) 0 (items nothing words.old))) (λ e. Fails e (events_from (knows codes.now) 0 (items nothing words.old))) }
 {
-    let mut lists = empty_lists(alloc, codes.used.len())?;
+    let mut taken = nothing_taken(alloc, codes.used.len())?;
     let mut now = 0;
     while let Some(item) = next_item(words)? {
-        now = take_item(codes, &mut lists, now, item)?;
+        now = take_item(codes, &mut taken, now, item)?;
     }
-    Ok(lists)
+    Ok(taken.lists)
 }

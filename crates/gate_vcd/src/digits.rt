@@ -1,6 +1,6 @@
 ghost use Rattle.std.specs.Prelude.{◌≡◌, is_some};
 ghost use Rattle.std.specs.List.{list_all};
-ghost use Rattle.gate_vcd.specs.Changes.{value_of, are_values, digit, extension, value_at_place};
+ghost use Rattle.gate_vcd.specs.Changes.{value_of, are_values, digit, extension, past_end, value_at_place};
 
 use gate_values::Logic;
 
@@ -48,15 +48,23 @@ fn extension(leftmost: Logic) -> Logic
     }
 }
 
+/// The value of all places past the end of digits.
+pub fn past_end(digits: &[u8]) -> Logic
+    ensures { result ≡ past_end digits.now }
+{
+    match digits {
+        [first, ..] => extension(digit(*first)),
+        [] => Logic::X,
+    }
+}
+
 /// The value at a place of digits, counted from the right and from 0.
 pub fn value_at_place(place: u64, digits: &[u8]) -> Logic
     ensures { result ≡ value_at_place place digits.now }
 {
     if place < digits.len() as u64 {
         digit(digits[digits.len() - 1 - place as usize])
-    } else if digits.is_empty() {
-        Logic::X
     } else {
-        extension(digit(digits[0]))
+        past_end(digits)
     }
 }

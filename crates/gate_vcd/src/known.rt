@@ -1,11 +1,12 @@
-ghost use Rattle.std.specs.Prelude.{◌≡◌, ◌||◌, ℕ, List, None, Some, false, is_some, IfErr, IfOk, OnOk};
+ghost use Rattle.std.specs.Prelude.{◌≡◌, ◌||◌, ℕ, Bool, Option, List, None, Some, false, is_some, IfErr, IfOk, OnOk};
 ghost use Rattle.std.specs.List.{list_any};
+ghost use Rattle.std.specs.Option.{option_map_or};
 ghost use Rattle.std.specs.Str.{bytes_eq};
 ghost use Rattle.gate_vcd.specs.Changes.{Source as TextSource};
 ghost use Rattle.gate_vcd.specs.Commands.{variables};
 ghost use Rattle.gate_vcd.specs.Faults.{out_of_memory};
 ghost use Rattle.gate_vcd.specs.Table.{found_in};
-ghost use Rattle.gate_vcd.specs.Known.{IsLinked, Takes, flat, is_used, is_taken, knows, source as source_of, source_by, sources_by, takes};
+ghost use Rattle.gate_vcd.specs.Known.{AreFallingNets, IsLeast, IsLinked, Takes, flat, is_used, is_taken, knows, source as source_of, source_by, sources_by, takes};
 
 use crate::fault::StimFault;
 use crate::source::Source;
@@ -43,6 +44,30 @@ fn codes_of<'a>(
     Ok(codes)
 }
 
+fn place_of(taken: Option<Source>) -> u64
+    ensures { result ≡ option_map_or (λ s. s.place) (source_by taken.entry) 0 }
+{
+    match taken {
+        Some(source) => source.place,
+        None => 0,
+    }
+}
+
+/// The sources of nets, those at greater places first.
+fn by_place<'a>(
+    alloc: Global,
+    nets: &[Option<Source<'a>>],
+) -> Result<Vec<Option<Source<'a>>>, StimFault>
+    ensures same { (p : Option TextSource → Bool) → IfOk result (λ sorted. list_any p (sources_by sorted.items) ≡ list_any p (sources_by nets.now)) }
+    ensures falls { IfOk result (λ sorted. AreFallingNets (sources_by sorted.items)) }
+    ensures err { IfErr result (λ e. e ≡ out_of_memory) }
+{
+    let mut sorted = Vec::from_slice(alloc, nets)?;
+    sorted.sort_by_key(|taken| place_of(*taken))?;
+    sorted.as_mut_slice().reverse();
+    Ok(sorted)
+}
+
 impl<'a> KnownCodes<'a> {
     /// The last source of a code.
     fn last_of(&self, code: &[u8]) -> Option<usize>
@@ -58,6 +83,7 @@ impl<'a> KnownCodes<'a> {
     fn add(&mut self, source: Source<'a>) -> Result<(), StimFault>
         requires linked { IsLinked self.old }
         requires new { is_taken self.old.used (source_of source) ≡ false }
+        requires least { IsLeast self.old (Some (source_of source)) }
         ensures ok { OnOk result (Takes self.old self.new (Some (source_of source.entry))) }
         ensures err { IfErr result (λ e. e ≡ out_of_memory) }
     {
@@ -70,7 +96,8 @@ impl<'a> KnownCodes<'a> {
 
     /// Keeps the source of a net, if it has one and it isn't kept already.
     fn put(&mut self, taken: Option<Source<'a>>) -> Result<(), StimFault>
-        requires { IsLinked self.old }
+        requires linked { IsLinked self.old }
+        requires least { IsLeast self.old (source_by taken) }
         ensures ok { OnOk result (Takes self.old self.new (source_by taken.entry)) }
         ensures err { IfErr result (λ e. e ≡ out_of_memory) }
     {
@@ -85,13 +112,14 @@ impl<'a> KnownCodes<'a> {
         }
     }
 
-    /// The codes of variables, and the sources that nets take.
-    pub fn of(
+    /// The codes of variables, and the sources that nets take, the nets with greater places first.
+    fn of_sorted(
         alloc: Global,
         seed: TextSeed,
         all: &[Variable<'a>],
         nets: &[Option<Source<'a>>],
     ) -> Result<KnownCodes<'a>, StimFault>
+        requires { AreFallingNets (sources_by nets.now) }
         ensures linked { IfOk result IsLinked }
         ensures all { (code : List ℕ) → IfOk result (λ known. knows known code ≡ (list_any (λ v. bytes_eq code v.code) (variables all.now) || is_used (sources_by nets.now) code)) }
         ensures used { (s : TextSource) → IfOk result (λ known. is_taken known.used s ≡ takes (sources_by nets.now) s) }
@@ -106,5 +134,21 @@ impl<'a> KnownCodes<'a> {
             known.put(*taken)?;
         }
         Ok(known)
+    }
+
+    /// The codes of variables, and the sources that nets take.
+    pub fn of(
+        alloc: Global,
+        seed: TextSeed,
+        all: &[Variable<'a>],
+        nets: &[Option<Source<'a>>],
+    ) -> Result<KnownCodes<'a>, StimFault>
+        ensures linked { IfOk result IsLinked }
+        ensures all { (code : List ℕ) → IfOk result (λ known. knows known code ≡ (list_any (λ v. bytes_eq code v.code) (variables all.now) || is_used (sources_by nets.now) code)) }
+        ensures used { (s : TextSource) → IfOk result (λ known. is_taken known.used s ≡ takes (sources_by nets.now) s) }
+        ensures err { IfErr result (λ e. e ≡ out_of_memory) }
+    {
+        let nets = by_place(alloc, nets)?;
+        KnownCodes::of_sorted(alloc, seed, all, nets.as_slice())
     }
 }

@@ -138,3 +138,19 @@ fn takes_bits_of_the_scope_alone(rt: HostRuntime) -> Result<(), Fail> {
     }
     Ok(())
 }
+
+#[test]
+fn takes_short_changes_one_after_another(rt: HostRuntime) -> Result<(), Fail> {
+    let text =
+        b"$var wire 4 v A [3:0] $end $enddefinitions $end #0 b1010 v #1 b1 v #2 bx1 v #2 b0 v #3 bz v #4 0v #5 b11 v #5 b100000 v";
+    let stimulus = stimulus(
+        rt.alloc(),
+        b"INPUT(A[3])\nINPUT(A[0])\nINPUT(A[1])\nINPUT(A[2])\n",
+        text,
+    )?;
+    assert!(rt; has_values(&stimulus, 0, b"100z00"));
+    assert!(rt; has_values(&stimulus, 1, b"010z00"));
+    assert!(rt; has_values(&stimulus, 2, b"100z00"));
+    assert!(rt; has_values(&stimulus, 3, b"000z00"));
+    Ok(())
+}

@@ -4,12 +4,14 @@ use Rattle.std.specs.Str.{bytes_eq}
 use Rattle.gate_vcd.specs.Changes.{Source}
 use Rattle.gate_vcd.specs.Commands.{variables}
 use Rattle.gate_vcd.specs.Known.{IsLinked, is_used, is_taken, knows, sources_by, takes}
-use Rattle.gate_vcd.proofs.known.KnownCodes.of.Given as goal
+use Rattle.gate_vcd.proofs.KnownLaws.{AreAbove}
+use Rattle.gate_vcd.proofs.known.KnownCodes.of_sorted.Given as goal
 
 -- the sources of the nets so far are kept
 abbrev pub invariant-loop-taken : goal.invariant-loop-taken
 invariant-loop-taken l = record {
   linked : IsLinked l.known;
+  above : AreAbove l.known l.taken-index (sources_by l.nets);
   all : (code : List ℕ) → knows l.known code ≡ (list_any (λ v. bytes_eq code v.code) (variables l.all) || is_used (sources_by (take l.taken-index l.nets)) code);
   used : (s : Source) → is_taken l.known.used s ≡ takes (sources_by (take l.taken-index l.nets)) s;
 }
