@@ -1,4 +1,4 @@
-"""A dozen small circuits with a stimulus each, made from a seed: the same seed gives the same texts."""
+"""Small circuits with a stimulus each, made from a seed: the same seed gives the same texts."""
 import random
 from dataclasses import dataclass, field
 
@@ -13,6 +13,8 @@ class Circuit:
     inputs: list = field(default_factory=list)
     gates: list = field(default_factory=list)
     delays: dict = field(default_factory=dict)
+    clocks: dict = field(default_factory=dict)
+    contents: dict = field(default_factory=dict)
     changes: list = field(default_factory=list)
 
     def input(self, name, *changes):
@@ -38,9 +40,10 @@ class Circuit:
         return ("\n".join(lines) + "\n").encode()
 
     def settings(self):
-        if not self.delays:
-            return b""
-        return ("[net]\n" + "".join(f"{name} = {delay}\n" for name, delay in self.delays.items())).encode()
+        lines = ["[net]"] + [f"{name} = {delay}" for name, delay in self.delays.items()]
+        lines += ["[clocks]"] + [f'{name} = "{clock}"' for name, clock in self.clocks.items()]
+        lines += ["[init]"] + [f'{name} = "{content}"' for name, content in self.contents.items()]
+        return ("\n".join(lines) + "\n").encode()
 
     def stimulus(self):
         codes = {name: f"i{i}" for i, name in enumerate(self.inputs)}
@@ -138,7 +141,10 @@ def tangle(rng):
     nets = [made.input(f"A{i}", *moving(rng, 100, 12)) for i in range(5)] + ["CK"] + [f"N{i}" for i in range(50)]
     for i in range(50):
         if rng.random() < 0.3:
-            made.gate(f"N{i}", "DFF", rng.choice(nets), delay=rng.randint(1, 3))
+            flop = made.gate(f"N{i}", "DFF", rng.choice(nets), delay=rng.randint(1, 3))
+            made.contents[flop] = rng.choice("01x")
+            if rng.random() < 0.5:
+                made.clocks[flop] = rng.choice(nets)
         else:
             made.gate(f"N{i}", rng.choice(GATES), *rng.choices(nets, k=rng.randint(1, 3)), delay=rng.randint(1, 7))
     return made
@@ -176,6 +182,16 @@ def slow(rng):
     return made
 
 
+def ripple(rng):
+    made = Circuit("ripple", 300)
+    clock = made.clock(rng.randint(2, 5))
+    for i in range(7):
+        made.gate(f"Q{i}", "DFF", f"N{i}", delay=rng.randint(1, 2))
+        made.contents[f"Q{i}"], made.clocks[f"Q{i}"] = rng.choice("01"), clock
+        clock = made.gate(f"N{i}", "NOT", f"Q{i}", delay=rng.randint(1, 2))
+    return made
+
+
 def nothing(rng):
     made = Circuit("nothing", rng.randint(0, 9))
     made.input("A")
@@ -183,7 +199,7 @@ def nothing(rng):
     return made
 
 
-KINDS = (loop, chain, counter, register, adder, product, cloud, tangle, islands, parity, slow, nothing)
+KINDS = (loop, chain, counter, register, adder, product, cloud, tangle, islands, parity, slow, ripple, nothing)
 
 
 def all_circuits(seed):

@@ -16,7 +16,7 @@ TELLING = {
     "schedule": b"# \n\r\t09ad-\xff\x00",
 }
 BENCH_CAUSES = "BadLine|BadName|UnknownGate|InputCount|DrivenTwice|Undriven|TooManyNets"
-SETTINGS_CAUSES = "Toml|UnknownKey|UnknownNet|BadDelay|BadCut|ClockNotInput|BadClock|BadInit"
+SETTINGS_CAUSES = "Toml|UnknownKey|UnknownNet|BadDelay|BadCut|BadClock|BadInit"
 TOKEN_CAUSES = "BadToken|UnclosedCommand|BadVar|BadTimescale|StampFalls|StampTooLarge|UnknownCode"
 LINE = re.compile(
     rf"(bench line \d+: ({BENCH_CAUSES})|settings: ({SETTINGS_CAUSES})|stimulus at \d+: ({TOKEN_CAUSES})"
@@ -106,6 +106,7 @@ WORKED = [
     ("nand_loop.bench", None, "nand_loop.vcd", 8, "nand_loop.dump.vcd"),
     ("nand_loop.bench", "nand_loop_slow.toml", "nand_loop.vcd", 12, "nand_loop_slow.dump.vcd"),
     ("s27.bench", None, "s27.vcd", 20, "s27.dump.vcd"),
+    ("s27.bench", "s27_keys.toml", "s27.vcd", 30, "s27_keys.dump.vcd"),
     ("adder.bench", "adder.toml", "adder.vcd", 70, "adder.dump.vcd"),
 ]
 

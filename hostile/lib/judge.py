@@ -1,8 +1,7 @@
 """A plain evaluator, and what the program has to answer.
 
-`judged` gives the answer to a run: status, standard output and standard error. It knows the keys `default`, `scope`,
-`[gate]`, `[net]` and `[block]` of the settings; a text with another key that there is gives None. `replay_fault` tells
-what is wrong with an answer to a replay: it reads the schedule, but plays no event.
+`judged` gives the answer to a run: status, standard output and standard error. `replay_fault` tells what is wrong with an
+answer to a replay: it reads the schedule, but plays no event.
 """
 import re
 
@@ -32,27 +31,27 @@ def flip(content, before, now, data):
     return content
 
 
-def values_of(nets, delays, signals, until):
+def values_of(nets, settings, signals, until):
     """For each time the values of all nets."""
     given = {name: dict(changes) for name, changes in signals.items()}
     index = {name: i for i, (name, _, _) in enumerate(nets)}
     found, contents = [], {}
     at = lambda time, i: found[time][i] if time >= 0 else "x"
-    content = lambda name, time: contents[name][time] if time >= 0 else "x"
+    content = lambda name, time: contents[name][time] if time >= 0 else settings.contents[name]
     for time in range(until + 1):
         row = []
         for i, (name, kind, inputs) in enumerate(nets):
             if kind == "INPUT":
                 row.append(given[name].get(time, at(time - 1, i)))
             elif kind == "DFF":
-                row.append(content(name, time - delays[name]))
+                row.append(content(name, time - settings.delays[name]))
             else:
-                past = time - delays[name]
+                past = time - settings.delays[name]
                 row.append(table(kind, [at(past, index[used]) for used in inputs]) if past >= 0 else "x")
         found.append(row)
         for name, kind, inputs in nets:
             if kind == "DFF":
-                clock = index[b"CK"]
+                clock = index[settings.clocks[name]]
                 states = contents.setdefault(name, [])
                 states.append(flip(content(name, time - 1), at(time - 1, clock), row[clock], at(time - 1, index[inputs[0]])))
     return found
@@ -75,20 +74,18 @@ def dump(nets, unit, found):
 
 
 def judged(bench, settings, stimulus, until):
-    """What a run answers, as status, output and fault line; None where this reader doesn't know."""
+    """What a run answers, as status, output and fault line."""
     try:
         nets = read_bench(bench)
-        set_so = read_settings(settings, nets)
-        if set_so is None:
-            return None
-        if any(kind == "DFF" for _, kind, _ in nets) and all(name != b"CK" for name, _, _ in nets):
-            nets.append((b"CK", "INPUT", []))
+        settings = read_settings(settings, nets)
+        if settings.added is not None:
+            nets.append((settings.added, "INPUT", []))
         inputs = [(i, name) for i, (name, kind, _) in enumerate(nets) if kind == "INPUT"]
-        signals, unit = read_stimulus(stimulus, inputs, set_so[1])
+        signals, unit = read_stimulus(stimulus, inputs, settings.scope)
     except Refused as refusal:
         status, line = refusal.args
         return status, b"", (line + "\n").encode()
-    return 0, dump(nets, unit, values_of(nets, set_so[0], signals, until)), b""
+    return 0, dump(nets, unit, values_of(nets, settings, signals, until)), b""
 
 
 def replay_fault(bench, settings, stimulus, schedule, until, blocks, answer):

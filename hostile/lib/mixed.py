@@ -29,6 +29,9 @@ SETTINGS = [
     b"default = -1\n", b"default = \"3\"\n", b"speed = 1\n", b"scope = \"tb\"\n", b"scope = \"\"\n", b"scope = 1\n", b"gate = 1\n", b"net = []\n",
     b"block = {}\n", b"[gate]\n", b"[net]\n", b"[block]\n", b"[[net]]\n", b"[other]\n", b"[gate.more]\n", b"DFF = 3\n", b"dff = 3\n", b"NOT = 2\n", b"Q = 4\n",
     b"D = 4\n", b"Q = 0\n", b"Q = 1023\n", b"Q = 1024\n", b"Q = 'a'\n", b"CK = 1\n", b"# said\n", b"\n", b"\"Q\" = 5\n", b"Q.a = 1\n", b"=\n", b"\xff\n", b"Q = 2 # so\n",
+    b"clock = \"D\"\n", b"clock = \"Q\"\n", b"clock = \"R\"\n", b"clock = \"\"\n", b"clock = \"a b\"\n", b"clock = 1\n", b"clocks = 1\n", b"init = \"1\"\n",
+    b"[clocks]\n", b"[init]\n", b"[clocks]\nQ = \"D\"\n", b"[clocks]\nQ = \"CK\"\n", b"[clocks]\nQ = \"R\"\n", b"[clocks]\nQ = 1\n", b"[clocks]\nD = \"CK\"\n",
+    b"[init]\nQ = \"1\"\n", b"[init]\nQ = \"0\"\n", b"[init]\nQ = \"x\"\n", b"[init]\nQ = \"z\"\n", b"[init]\nQ = 1\n", b"[init]\nD = \"1\"\n",
 ]
 
 
@@ -79,7 +82,7 @@ def tasks(program, rng, number):
     for _ in range(number):
         yield program, "bench", {"bench": mixed_bench(rng), "settings": b"", "stimulus": every + b" #0 0k b0101 v 1i #2 1k #3 0k b1xz0 v #5 1k"}, 9
         yield program, "stimulus", {"bench": BITS, "settings": rng.choice((b"", b"", b"scope = \"top\"")), "stimulus": mixed_stimulus(rng)}, 12
-        yield program, "settings", {"bench": FLOP, "settings": mixed_settings(rng), "stimulus": FLOP_STIMULUS}, 12
+        yield program, "settings", {"bench": FLOP, "settings": mixed_settings(rng), "stimulus": b"$var wire 1 r R $end " + FLOP_STIMULUS}, 12
         if plays:
             yield program, "schedule", pair | {"schedule": mixed_schedule(rng)}, 10
 

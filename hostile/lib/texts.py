@@ -1,6 +1,7 @@
 """A second reader of the texts, written from docs/FORMATS.md alone."""
 import re
 import tomllib
+from dataclasses import dataclass
 
 MANY, ONE = ("AND", "NAND", "OR", "NOR", "XOR", "XNOR"), ("NOT", "BUFF", "DFF")
 
@@ -71,41 +72,76 @@ def read_bench(text):
 
 
 # ---------------------------------------------------------------- settings
+TABLES = ("gate", "net", "block", "clocks", "init")
+# The causes in the order of their numbers.
+CAUSES = ("UnknownKey", "UnknownNet", "BadDelay", "BadCut", "BadClock", "BadInit")
+
+
+@dataclass
+class Settings:
+    """What settings mean for a circuit: delays, clocks and contents by net, an added clock, a scope."""
+    delays: dict
+    clocks: dict
+    contents: dict
+    added: bytes | None
+    scope: str | None
+
+
+def is_whole(value, least, most):
+    return type(value) is int and least <= value <= most
+
+
+def key_causes(table, parts):
+    """What is wrong with the keys, and with the types of what stands at the top."""
+    if table.keys() - {"default", "clock", "scope", *TABLES} or parts["gate"].keys() - {*MANY, *ONE}:
+        yield "UnknownKey"
+    if any(type(table.get(key, "")) is not str for key in ("clock", "scope")) or any(type(table.get(key, {})) is not dict for key in TABLES):
+        yield "UnknownKey"
+
+
+def value_causes(table, parts):
+    """What is wrong with delays, blocks and contents."""
+    if not all(is_whole(delay, 1, 1_000_000) for delay in [table.get("default", 1), *parts["gate"].values(), *parts["net"].values()]):
+        yield "BadDelay"
+    if not all(is_whole(block, 0, 1023) for block in parts["block"].values()):
+        yield "BadCut"
+    if not all(content in ("0", "1", "x") for content in parts["init"].values()):
+        yield "BadInit"
+
+
+def is_name(name):
+    return bool(re.fullmatch(r"[!-~]+", name)) and not re.search(r"[(),=#]", name) and name != "$end"
+
+
 def read_settings(text, nets):
-    """Each net's delay, and the scope; None for what this reader doesn't know."""
+    """What the settings mean for these nets."""
     try:
         table = tomllib.loads(text.decode())
     except (tomllib.TOMLDecodeError, UnicodeDecodeError):
         raise Refused(1, "settings: Toml")
-    if {"clock", "clocks", "init"} & table.keys():
-        return None
-    causes = set()
-    is_whole = lambda value, least, most: type(value) is int and least <= value <= most
-    parts = {}
-    for key in ("gate", "net", "block"):
-        part = table.get(key, {})
-        if type(part) is not dict:
-            causes.add("2UnknownKey")
-            part = {}
-        parts[key] = part
-    if table.keys() - {"default", "scope", "gate", "net", "block"} or parts["gate"].keys() - {*MANY, *ONE}:
-        causes.add("2UnknownKey")
-    if "scope" in table and type(table["scope"]) is not str:
-        causes.add("2UnknownKey")
-    driven = {name.decode() for name, kind, _ in nets if kind != "INPUT"}
-    if (parts["net"].keys() | parts["block"].keys()) - driven:
-        causes.add("3UnknownNet")
-    delays = [table.get("default", 1), *parts["gate"].values(), *parts["net"].values()]
-    if not all(is_whole(delay, 1, 1_000_000) for delay in delays):
-        causes.add("4BadDelay")
-    if any(kind == "DFF" for _, kind, _ in nets) and any(name == b"CK" and kind != "INPUT" for name, kind, _ in nets):
-        return None
-    if not all(is_whole(block, 0, 1023) for block in parts["block"].values()):
-        causes.add("6BadCut")
+    parts = {key: table.get(key) if type(table.get(key)) is dict else {} for key in TABLES}
+    causes = {*key_causes(table, parts), *value_causes(table, parts)}
+    kinds = {name.decode(): kind for name, kind, _ in nets}
+    flops = [name for name, kind in kinds.items() if kind == "DFF"]
+    driven = {name for name, kind in kinds.items() if kind != "INPUT"}
+    if (parts["net"].keys() | parts["block"].keys()) - driven or (parts["clocks"].keys() | parts["init"].keys()) - {*flops}:
+        causes.add("UnknownNet")
+    usual = table.get("clock", "CK")
+    clocks = {name: parts["clocks"].get(name, usual) for name in flops}
+    for name in clocks.values():
+        if type(name) is not str or name not in kinds and not (name == usual and is_name(name)):
+            causes.add("BadClock")
+    if any(type(name) is not str for name in parts["clocks"].values()):
+        causes.add("BadClock")
     if causes:
-        raise Refused(1, f"settings: {min(causes)[1:]}")
+        raise Refused(1, f"settings: {min(causes, key=CAUSES.index)}")
     fallback = lambda kind: parts["gate"].get(kind, table.get("default", 1))
-    return {name: parts["net"].get(name.decode(), fallback(kind)) for name, kind, _ in nets if kind != "INPUT"}, table.get("scope")
+    return Settings(
+        {name.encode(): parts["net"].get(name, fallback(kind)) for name, kind in kinds.items() if kind != "INPUT"},
+        {name.encode(): clock.encode() for name, clock in clocks.items()},
+        {name.encode(): parts["init"].get(name, "x") for name in flops},
+        usual.encode() if usual in clocks.values() and usual not in kinds else None,
+        table.get("scope"))
 
 
 # ---------------------------------------------------------------- stimulus
