@@ -1,4 +1,5 @@
 pub mod Faults
+pub mod Fit
 pub mod Inside
 pub mod Rule
 pub mod Seats

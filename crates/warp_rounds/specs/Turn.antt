@@ -1,5 +1,5 @@
 -- What a turn does to a block: it receives messages one after another, commits at a floor, and finishes event times.
-use Rattle.std.specs.Prelude.{◌≡◌, ℕ, ◌+◌, ◌<◌, ◌≤◌, ◌⊎◌, ℤ, pos, ◌+ℤ◌, if◌then◌else◌, Option, None, unwrap_or, List, [], ◌∷◌, ◌++◌, drop, length}
+use Rattle.std.specs.Prelude.{◌≡◌, ◌↔◌, Bool, IsTrue, ℕ, ◌+◌, ◌<◌, ◌≤◌, ◌⊎◌, ℤ, pos, ◌+ℤ◌, if◌then◌else◌, Option, None, unwrap_or, List, [], ◌∷◌, ◌++◌, drop, length}
 use Rattle.std.specs.List.{Any}
 use Rattle.gate_values.specs.declared.logic.Logic.{Logic}
 use Rattle.warp_block.specs.declared.message.Message.{Message}
@@ -25,6 +25,10 @@ pub record IsReceived (old new : View) (m : Message) : Type 0 where
 abbrev pub AreReceived : View → View → List Message → Type 0
 AreReceived old new [] = new ≡ old
 AreReceived old new (m ∷ ms) = (next : View) × IsReceived old next m × AreReceived next new ms
+
+-- whether the messages, received one after another, take finished event times back: the mark falls
+abbrev pub AreFelt : View → List Message → Bool → Type 0
+AreFelt old ms felt = (heard : View) × AreReceived old heard ms × (IsTrue felt ↔ (heard.mark < old.mark))
 
 -- what a message counts for a value at a time of a net
 abbrev pub weight_at : Message → ℕ → ℕ → Logic → ℤ

@@ -5,10 +5,11 @@ ghost use Rattle.gate_vcd.specs.Given.{Fits};
 ghost use Rattle.warp_block.specs.Limits.{most_horizon};
 ghost use Rattle.warp_core.specs.Values.{AreCircuitWaves};
 
+use crate::desk::Desk;
 use crate::fault::RunFault;
 use crate::gate::Gate;
 use crate::site::Site;
-use crate::work::{deliver, play_round};
+use crate::work::play_round;
 use gate_netlist::{Circuit, Cut};
 use gate_vcd::{Stimulus, Waves};
 use std::alloc::{AllocError, Global};
@@ -17,10 +18,13 @@ use std::thread::Threads;
 use warp_block::{Block, Part};
 use warp_core::gather;
 
+// A round with fewer event times and messages isn't worth other threads than the caller's.
+const LITTLE: u64 = 256;
+
 /// The waves of a circuit under a stimulus, from time 0 to the horizon, which is at most 10^12. The blocks of the cut
-/// run ahead on their own in rounds. In each, `workers` threads (1 to 64) draw the blocks, and a block that is drawn takes a turn
-/// of up to `window` event times (1 to 1,000,000), at the round's floor. The gate is lent each block before its turn and
-/// after it.
+/// run ahead on their own in rounds. In each, up to `workers` workers (1 to 64) draw the blocks, and a block that is drawn takes a
+/// turn at the round's floor, of as many event times as fit it and at most `window` (1 to 1,000,000), as [`Site::visit`] says. One
+/// worker is the caller's thread, each other one has a thread of its own. The gate is lent each block before its turn and after it.
 ///
 /// The floor starts at 0, and each round's least time becomes the next one's. When it is past the horizon the blocks are
 /// gathered. The answer of a run that ends without a fault is the waves of the circuit's values, whatever the threads
@@ -64,17 +68,17 @@ fn sites_of<R: Wait>(
     ensures few { IfOk result (λ sites. vec_len sites ≤ 1024) }
 {
     let mut sites = Vec::new(alloc);
-    let mut sent = Vec::new(alloc);
+    let mut desk = Desk::new(alloc, cut.blocks() as usize)?;
     for number in 0..cut.blocks() {
         let part = Part::of(alloc, circuit, cut, number)?;
-        let block = Block::new(alloc, part, stimulus, horizon, &mut sent)?;
+        let block = Block::new(alloc, part, stimulus, horizon, &mut desk.sent)?;
         sites.push(Site::new(alloc, block))?;
     }
-    deliver(rt, alloc, sites.as_slice(), sent.as_mut_slice())?;
+    desk.deliver(rt, sites.as_slice())?;
     Ok(sites)
 }
 
-// Plays rounds until the floor is past the horizon.
+// Plays rounds until the floor is past the horizon: by all workers, but by one where the round before did little.
 fn play_rounds<G: Gate + Sync, R: Threads + Wait + Sync>(
     rt: &R,
     alloc: Global,
@@ -86,13 +90,18 @@ fn play_rounds<G: Gate + Sync, R: Threads + Wait + Sync>(
 ) -> Result<(), RunFault>
     requires { length sites.now < 2 ^ 32 }
 {
+    let all = workers.min(sites.len() as u32).max(1);
+    let mut desks = Vec::new(alloc);
     let mut floor = 0;
+    let mut load = u64::MAX;
     while floor <= horizon {
-        let least = play_round(rt, alloc, sites, workers, floor, window, gate)?;
-        if least <= floor {
+        let seats = if load < LITTLE { 1 } else { all };
+        let played = play_round(rt, alloc, sites, &mut desks, seats, floor, window, gate)?;
+        if played.least <= floor {
             return Err(RunFault::Stalled { time: floor });
         }
-        floor = least;
+        floor = played.least;
+        load = played.load;
     }
     Ok(())
 }

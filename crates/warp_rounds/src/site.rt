@@ -1,9 +1,10 @@
-ghost use Rattle.std.specs.Prelude.{IfOk};
+ghost use Rattle.std.specs.Prelude.{◌≡◌, IfOk, OnOk, []};
 ghost use Rattle.warp_block.specs.Lawful.{IsLawful, IsLawfulProcess};
-ghost use Rattle.warp_rounds.specs.Turn.{StaysInFront};
+ghost use Rattle.warp_rounds.specs.Turn.{IsTurn, StaysInFront};
+ghost use Rattle.warp_rounds.specs.Fit.{fitted, refitted};
 
 use crate::gate::Gate;
-use crate::turns::{TurnReport, turn};
+use crate::turns::{TurnReport, Turned, turn_through};
 use std::alloc::{AllocError, Global};
 use std::mem;
 use std::sync::{Mutex, Wait};
@@ -16,9 +17,58 @@ use warp_block::{Block, BlockFault, Look, Message};
 /// turn ended with a fault.
 #[derive(Drop)]
 pub struct Site {
-    alloc: Global,
-    block: Mutex<Block>,
+    held: Mutex<Held>,
     inbox: Mutex<Vec<Message>>,
+}
+
+/// What a site's lock keeps: the block, and what its visits leave to one another.
+#[derive(Drop)]
+struct Held {
+    block: Block,
+    /// The window that fits the next turn, once there was one.
+    window: Option<u32>,
+    /// The messages of a turn, which are swapped for the inbox's. It is empty between visits, and keeps its memory.
+    messages: Vec<Message>,
+}
+
+impl Held {
+    /// A turn of the block with the messages that were taken, by the window that fits it and is at most `most`.
+    fn turn(&mut self, floor: u64, most: u32, out: &mut Vec<Message>) -> Result<Turned, BlockFault>
+        ensures turn { OnOk result (IsTurn self.old.block self.new.block self.old.messages.items floor (fitted self.old.window most)) }
+        ensures window { IfOk result (λ turned. self.new.window ≡ Some (refitted (fitted self.old.window most) most turned.undone)) }
+        ensures taken { self.new.messages.items ≡ [] }
+        ensures front { StaysInFront out.old.items out.new.items }
+    {
+        let window = window_of(self.window, most);
+        let messages = self.messages.as_slice();
+        let turned = turn_through(&mut self.block, messages, floor, window, out);
+        self.messages.clear();
+        if let Ok(turned) = turned {
+            self.window = Some(next_window(window, most, turned.undone));
+        }
+        turned
+    }
+}
+
+/// The window of a block's turn that is at most `most`.
+fn window_of(own: Option<u32>, most: u32) -> u32
+    ensures { result ≡ fitted own most }
+{
+    match own {
+        Some(own) => own.min(most),
+        None => most,
+    }
+}
+
+/// The window of the turn after one by `window`.
+fn next_window(window: u32, most: u32, undone: bool) -> u32
+    ensures { result ≡ refitted window most undone }
+{
+    if undone {
+        (window / 2).max(1)
+    } else {
+        window.saturating_add(1).min(most)
+    }
 }
 
 impl Site {
@@ -26,8 +76,11 @@ impl Site {
     /// allocator later.
     pub fn new(alloc: Global, block: Block) -> Site {
         Site {
-            alloc,
-            block: Mutex::new(block),
+            held: Mutex::new(Held {
+                block,
+                window: None,
+                messages: Vec::new(alloc),
+            }),
             inbox: Mutex::new(Vec::new(alloc)),
         }
     }
@@ -45,8 +98,11 @@ impl Site {
         Ok(())
     }
 
-    /// A turn of the block with what the inbox holds, at a floor, of up to so many event times, under one hold of the
-    /// block's lock. The gate is lent the block before it and after it. What is sent goes behind `out`.
+    /// A turn of the block with what the inbox holds, at a floor, under one hold of the block's lock. The gate is lent the
+    /// block before it and after it. What is sent goes behind `out`.
+    ///
+    /// The turn finishes up to `window` event times, and fewer where the site's visits had to take some back: after each
+    /// that did the block's own window is half of it, after each other one is one more. The first visit's is `window`.
     ///
     /// After a fault the messages that were taken out of the inbox are gone, and what the turn did before stands.
     pub fn visit<R: Wait, G: Gate>(
@@ -59,27 +115,36 @@ impl Site {
     ) -> Result<TurnReport, BlockFault>
         ensures { StaysInFront out.old.items out.new.items }
     {
-        let mut guard = self.block.lock(rt);
-        let block = &mut *guard;
-        gate.entered(block);
-        let messages = self.taken(rt);
-        let report = turn(block, messages.as_slice(), floor, window, out);
-        gate.leaving(block);
-        report
+        let turned = self.visit_through(rt, floor, window, gate, out)?;
+        Ok(turned.report)
     }
 
-    /// The messages of the inbox, which is empty then.
-    fn taken<R: Wait>(&self, rt: &R) -> Vec<Message> {
-        let mut inbox = self.inbox.lock(rt);
-        mem::replace(&mut *inbox, Vec::new(self.alloc))
+    /// A visit, with what its turn did beside what it reports.
+    pub(crate) fn visit_through<R: Wait, G: Gate>(
+        &self,
+        rt: &R,
+        floor: u64,
+        window: u32,
+        gate: &G,
+        out: &mut Vec<Message>,
+    ) -> Result<Turned, BlockFault>
+        ensures { StaysInFront out.old.items out.new.items }
+    {
+        let mut guard = self.held.lock(rt);
+        let held = &mut *guard;
+        gate.entered(&held.block);
+        mem::swap(&mut held.messages, &mut *self.inbox.lock(rt));
+        let turned = held.turn(floor, window, out);
+        gate.leaving(&held.block);
+        turned
     }
 
     /// What the block holds, its saved states and the inbox aside. The error is a refused growth.
     pub fn look<R: Wait>(&self, rt: &R) -> Result<Look, AllocError>
         ensures { IfOk result (λ look. IsLawful look) }
     {
-        let guard = self.block.lock(rt);
-        let look = guard.look()?;
+        let guard = self.held.lock(rt);
+        let look = guard.block.look()?;
         look.law();
         Ok(look)
     }
@@ -88,12 +153,12 @@ impl Site {
     pub fn into_block(self) -> Block
         ensures { IsLawfulProcess result }
     {
-        let Site {
-            alloc: _,
+        let Site { held, inbox: _ } = self;
+        let Held {
             block,
-            inbox: _,
-        } = self;
-        let block = block.into_inner();
+            window: _,
+            messages: _,
+        } = held.into_inner();
         block.law();
         block
     }

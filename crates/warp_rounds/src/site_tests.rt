@@ -98,3 +98,26 @@ fn a_refused_message_ends_the_visit(rt: HostRuntime) -> Result<(), Fail> {
     assert_eq!(rt; report, Ok(TurnReport { least: 11 }));
     Ok(())
 }
+
+#[test]
+fn a_window_fits_what_was_taken_back(rt: HostRuntime) -> Result<(), Fail> {
+    let site = Site::new(rt.alloc(), block_of_and(rt.alloc())?);
+    let mut out = Vec::new(rt.alloc());
+    // What a visit of up to four event times takes, and the mark after it: by windows of 4, 4, 2, 1, 1 and 2.
+    let visits = [
+        (Some((A, 5)), 6),
+        (Some((B, 4)), 6),
+        (Some((B, 3)), 5),
+        (Some((B, 2)), 3),
+        (None, 4),
+        (None, 6),
+    ];
+    for (told, mark) in visits {
+        if let Some((net, time)) = told {
+            site.put(&rt, rises(1, net, time))?;
+        }
+        assert!(rt; site.visit(&rt, 0, 4, &NoGate, &mut out).is_ok());
+        assert_eq!(rt; site.look(&rt)?.mark(), mark);
+    }
+    Ok(())
+}

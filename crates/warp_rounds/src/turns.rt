@@ -1,7 +1,7 @@
 ghost use Rattle.std.specs.Prelude.{◌≡◌, ◌⊎◌, ℕ, IfOk, IfErr, OnOk};
 ghost use Rattle.warp_block.specs.View.{IsEventTime, IsLeast, earlier_of};
 ghost use Rattle.warp_block.specs.Sends.{Sends};
-ghost use Rattle.warp_rounds.specs.Turn.{AreReceived, AddsUp, IsPending, IsFromPending, IsAfterPending, IsLeastPending, IsRefusedAt, IsTurn, IsFaultyTurn, put_behind};
+ghost use Rattle.warp_rounds.specs.Turn.{AreReceived, AddsUp, IsPending, IsFromPending, IsAfterPending, IsLeastPending, IsRefusedAt, IsTurn, IsFaultyTurn, AreFelt, put_behind};
 
 use warp_block::{Block, BlockFault, Message};
 
@@ -11,6 +11,16 @@ pub struct TurnReport {
     /// The least of the block's next time and the times of what the turn sent; the horizon and one, where there is
     /// none.
     pub least: u64,
+}
+
+/// What a turn did, beside what it reports.
+#[derive(Clone, Copy)]
+pub(crate) struct Turned {
+    pub report: TurnReport,
+    /// Whether its messages took event times back that were finished.
+    pub undone: bool,
+    /// How many event times it finished.
+    pub finished: u32,
 }
 
 /// What a block does at one go: it receives the messages in order, commits what is below the floor, and finishes up to
@@ -34,14 +44,42 @@ pub fn turn(
     ensures fault { IfErr result (IsFaultyTurn block.old block.new messages.now floor window) }
     ensures sends { Sends block.old.seen block.new.seen (IsAfterPending block.old.seen messages.now) out.old.items out.new.items }
 {
+    let turned = turn_through(block, messages, floor, window, out)?;
+    Ok(turned.report)
+}
+
+/// A turn, with what it did beside what it reports.
+pub(crate) fn turn_through(
+    block: &mut Block,
+    messages: &[Message],
+    floor: u64,
+    window: u32,
+    out: &mut Vec<Message>,
+) -> Result<Turned, BlockFault>
+    ensures part { block.new.seen.part ≡ block.old.seen.part }
+    ensures horizon { block.new.seen.horizon ≡ block.old.seen.horizon }
+    ensures floor { OnOk result (block.new.seen.floor ≡ floor) }
+    ensures numbers { OnOk result (AddsUp block.old.seen block.new.seen messages.now) }
+    ensures turn { OnOk result (IsTurn block.old block.new messages.now floor window) }
+    ensures least { IfOk result (λ turned. IsLeastPending block.new.seen (put_behind out.old.items out.new.items) turned.report.least) }
+    ensures undone { IfOk result (λ turned. AreFelt block.old.seen messages.now turned.undone) }
+    ensures fault { IfErr result (IsFaultyTurn block.old block.new messages.now floor window) }
+    ensures sends { Sends block.old.seen block.new.seen (IsAfterPending block.old.seen messages.now) out.old.items out.new.items }
+{
     let start = out.len();
+    let mark = block.mark();
     receive_all(block, messages, out)?;
+    let undone = block.mark() < mark;
     block.commit(floor)?;
     block.law();
-    block.advance(window, out)?;
+    let finished = block.advance(window, out)?;
     let least = least_pending(block, &out[start..]);
-    Ok(TurnReport {
-        least: least.unwrap_or(block.horizon() + 1),
+    Ok(Turned {
+        report: TurnReport {
+            least: least.unwrap_or(block.horizon() + 1),
+        },
+        undone,
+        finished,
     })
 }
 

@@ -1,7 +1,8 @@
 //! One round of workers: each draws blocks until none is left, and lets each block that it drew take a turn.
 ghost use Rattle.std.specs.Prelude.{◌≡◌, ◌<◌, ◌^◌, IfOk, All, length};
-ghost use Rattle.warp_rounds.specs.Work.{IsOfRound, AreSeatsOfRound};
+ghost use Rattle.warp_rounds.specs.Work.{IsOfRound, AreOfRound, AreSeatsOfRound};
 
+use crate::desk::Desk;
 use crate::fault::RunFault;
 use crate::gate::Gate;
 use crate::round::{Round, RoundSeat};
@@ -10,114 +11,171 @@ use std::alloc::{AllocError, Global};
 use std::sync::Wait;
 use std::thread;
 use std::thread::{Promise, PromisedHandle, Threads};
-use warp_block::Message;
 
-/// What a worker gives back: its seat, and the fault that ended its work before no block was left.
+/// A worker of a round.
 #[derive(Drop)]
-pub struct Worked {
+pub struct Worker {
     pub seat: RoundSeat,
+    pub desk: Desk,
+    /// How many event times it let blocks finish, and how many messages they sent.
+    pub load: u64,
+    /// The fault that ended its work before no block was left.
     pub fault: Option<RunFault>,
 }
 
-/// A worker's promise that the seat that it gives back is of the round that it was started for.
+/// A worker's promise that its seat stays one of the round that it was started for.
 #[derive(Clone, Copy)]
 struct OfRound<'a>(&'a Round);
 
-impl<'a> Promise<Worked> for OfRound<'a> {
+impl<'a> Promise<Worker> for OfRound<'a> {
     ghost use Rattle.warp_rounds.specs.Work.{IsOfRound};
 
-    ghost kept_by = { λ promise worked. IsOfRound promise.0.now.round worked };
+    ghost kept_by = { λ promise worker. IsOfRound promise.0.now.round worker };
 }
 
-/// Plays a round: every block takes a turn at the floor, of up to `window` event times, in the threads of so many
-/// workers. The answer is the least time that the turns report.
+/// What a round tells.
+#[derive(Clone, Copy)]
+pub struct Played {
+    /// The least time that the turns report.
+    pub least: u64,
+    /// How many event times were finished, and how many messages were sent.
+    pub load: u64,
+}
+
+/// Plays a round: every block takes a turn at the floor, of up to `window` event times. So many workers let them, the
+/// first in the caller's thread and each other in one of its own. Their desks are taken from `desks`, as far as there
+/// are any, and put back.
 ///
-/// The fault is that of a worker, if one met one, or else that a thread didn't start. Every thread has ended by then.
+/// The fault is that of a worker, or that a thread didn't start. Every thread has ended by then.
 pub fn play_round<G: Gate + Sync, R: Threads + Wait + Sync>(
     rt: &R,
     alloc: Global,
     sites: &[Site],
+    desks: &mut Vec<Desk>,
     workers: u32,
     floor: u64,
     window: u32,
     gate: &G,
-) -> Result<u64, RunFault>
+) -> Result<Played, RunFault>
     requires { length sites.now < 2 ^ 32 }
 {
     let (round, seats) = Round::new(alloc, sites.len() as u32, workers)?;
-    let worked = work_all(rt, alloc, &round, sites, seats, floor, window, gate)?;
-    let seats = seats_of(alloc, worked)?;
+    let workers = seated(alloc, seats, desks, sites.len())?;
+    let workers = work_all(rt, alloc, &round, sites, workers, floor, window, gate)?;
+    let load = load_of(workers.as_slice());
+    let seats = unseated(alloc, workers, desks)?;
     match round.end(seats) {
-        Ok(least) => Ok(least),
+        Ok(least) => Ok(Played { least, load }),
         Err(_) => Err(RunFault::Stalled { time: floor }),
     }
 }
 
-/// Puts messages into the inboxes of the blocks that they are for, in the order of the list for each block, and holds
-/// each inbox's lock once.
-pub fn deliver<R: Wait>(
-    rt: &R,
+// A worker for each seat.
+fn seated(
     alloc: Global,
-    sites: &[Site],
-    messages: &mut [Message],
-) -> Result<(), AllocError> {
-    messages.sort_by_key(alloc, |message| message.block)?;
-    for group in messages.chunk_by(|message, next| message.block == next.block) {
-        put_group(rt, sites, group)?;
+    seats: Vec<RoundSeat>,
+    desks: &mut Vec<Desk>,
+    blocks: usize,
+) -> Result<Vec<Worker>, AllocError>
+    ensures { IfOk result (λ workers. (r : _) → AreSeatsOfRound r seats.items → AreOfRound r workers.items) }
+{
+    let mut workers = Vec::new(alloc);
+    for seat in seats {
+        let desk = match desks.pop() {
+            Some(desk) => desk,
+            None => Desk::new(alloc, blocks)?,
+        };
+        workers.reserve(1)?;
+        workers.push_reserved(Worker {
+            seat,
+            desk,
+            load: 0,
+            fault: None,
+        });
     }
-    Ok(())
+    Ok(workers)
 }
 
-// Puts messages for one block into its inbox.
-fn put_group<R: Wait>(rt: &R, sites: &[Site], group: &[Message]) -> Result<(), AllocError> {
-    let Some(first) = group.first() else {
-        return Ok(());
-    };
-    match sites.get(first.block as usize) {
-        Some(site) => site.put_all(rt, group),
-        None => Ok(()),
+// How much all workers did.
+fn load_of(workers: &[Worker]) -> u64 {
+    let mut load = 0u64;
+    for worker in workers {
+        load = load.saturating_add(worker.load);
     }
+    load
 }
 
-// What the workers give back, each of whom has a seat and a thread.
+// The seats of workers, or a fault of one. Their desks are put back.
+fn unseated(
+    alloc: Global,
+    workers: Vec<Worker>,
+    desks: &mut Vec<Desk>,
+) -> Result<Vec<RoundSeat>, RunFault>
+    ensures { IfOk result (λ seats. (r : _) → AreOfRound r workers.items → AreSeatsOfRound r seats.items) }
+{
+    let mut seats = Vec::new(alloc);
+    for worker in workers {
+        let Worker {
+            seat,
+            desk,
+            load: _,
+            fault,
+        } = worker;
+        if let Some(fault) = fault {
+            return Err(fault);
+        }
+        desks.push(desk)?;
+        seats.reserve(1)?;
+        seats.push_reserved(seat);
+    }
+    Ok(seats)
+}
+
+// What the workers have done.
 fn work_all<G: Gate + Sync, R: Threads + Wait + Sync>(
     rt: &R,
     alloc: Global,
     round: &Round,
     sites: &[Site],
-    seats: Vec<RoundSeat>,
+    workers: Vec<Worker>,
     floor: u64,
     window: u32,
     gate: &G,
-) -> Result<Vec<Worked>, RunFault>
-    requires seats { AreSeatsOfRound round.now.round seats.items }
+) -> Result<Vec<Worker>, RunFault>
+    requires workers { AreOfRound round.now.round workers.items }
     requires blocks { round.now.round.blocks ≡ length sites.now }
-    ensures { IfOk result (λ worked. All (IsOfRound round.now.round) worked.items) }
+    ensures { IfOk result (λ done. AreOfRound round.now.round done.items) }
 {
+    let mut others = workers;
+    let Some(own) = others.pop() else {
+        return Ok(others);
+    };
     thread::scope(
         thread::scope_env(),
         rt,
-        |scope| -> Result<Vec<Worked>, RunFault>
-            requires { AreSeatsOfRound round.now.round seats.items × (round.now.round.blocks ≡ length sites.now) }
-            ensures { IfOk result (λ worked. All (IsOfRound round.entry.now.round) worked.items) }
+        |scope| -> Result<Vec<Worker>, RunFault>
+            requires { AreOfRound round.now.round others.items × IsOfRound round.now.round own × (round.now.round.blocks ≡ length sites.now) }
+            ensures { IfOk result (λ done. AreOfRound round.entry.now.round done.items) }
         {
             let mut handles = Vec::new(alloc);
-            for seat in seats {
+            for worker in others {
                 handles.reserve(1)?;
                 let started = scope.spawn_with(
                     OfRound(round),
-                    move || -> Worked
-                        requires { (seat.round ≡ round.now.round) × (round.now.round.blocks ≡ length sites.now) }
+                    move || -> Worker
+                        requires { IsOfRound round.now.round worker × (round.now.round.blocks ≡ length sites.now) }
                         ensures { IsOfRound round.entry.now.round result }
-                    { work(rt, alloc, round, sites, seat, floor, window, gate) },
+                    { work(rt, round, sites, worker, floor, window, gate) },
                 );
                 match started {
                     Ok(handle) => handles.push_reserved(handle),
                     Err(_) => return Err(RunFault::NoThread),
                 }
             }
-            let worked = joined(rt, handles)?;
-            Ok(worked)
+            let own = work(rt, round, sites, own, floor, window, gate);
+            let mut done = joined(rt, handles)?;
+            done.push(own)?;
+            Ok(done)
         },
     )
 }
@@ -125,78 +183,65 @@ fn work_all<G: Gate + Sync, R: Threads + Wait + Sync>(
 // What the threads give back.
 fn joined<'a, R: Threads>(
     rt: &R,
-    handles: Vec<PromisedHandle<Worked, OfRound<'a>>>,
-) -> Result<Vec<Worked>, RunFault>
-    ensures { IfOk result (λ worked. (r : _) → All (λ handle. handle.promise.0.now.round ≡ r) handles.entry.items → All (IsOfRound r) worked.items) }
+    handles: Vec<PromisedHandle<Worker, OfRound<'a>>>,
+) -> Result<Vec<Worker>, RunFault>
+    ensures { IfOk result (λ done. (r : _) → All (λ handle. handle.promise.0.now.round ≡ r) handles.entry.items → AreOfRound r done.items) }
 {
     match thread::join_promised(rt, handles) {
-        Ok(worked) => Ok(worked),
+        Ok(done) => Ok(done),
         Err(_) => Err(RunFault::Memory),
     }
 }
 
-// A worker: it draws blocks until none is left, or until a fault.
+// A worker's round: it draws blocks until none is left, or until a fault.
 fn work<G: Gate, R: Wait>(
     rt: &R,
-    alloc: Global,
     round: &Round,
     sites: &[Site],
-    mut seat: RoundSeat,
+    mut worker: Worker,
     floor: u64,
     window: u32,
     gate: &G,
-) -> Worked
-    requires seat { seat.round ≡ round.now.round }
+) -> Worker
+    requires seat { IsOfRound round.now.round worker }
     requires blocks { round.now.round.blocks ≡ length sites.now }
     ensures { IsOfRound round.now.round result }
 {
     for _ in rt.forever() {
-        let Some(block) = round.draw(&mut seat) else {
+        let Some(block) = round.draw(&mut worker.seat) else {
             break;
         };
-        match play(rt, alloc, sites, block, floor, window, gate) {
-            Ok(least) => round.report(&mut seat, least),
+        match play(rt, sites, block, &mut worker.desk, floor, window, gate) {
+            Ok(played) => {
+                round.report(&mut worker.seat, played.least);
+                worker.load = worker.load.saturating_add(played.load);
+            }
             Err(fault) => {
-                return Worked {
-                    seat,
-                    fault: Some(fault),
-                };
+                worker.fault = Some(fault);
+                break;
             }
         }
     }
-    Worked { seat, fault: None }
+    worker
 }
 
-// Lets a block take a turn, and delivers what it sent. The answer is the least time that the turn reports.
+// Lets a block take a turn, and delivers what it sent.
 fn play<G: Gate, R: Wait>(
     rt: &R,
-    alloc: Global,
     sites: &[Site],
     block: u32,
+    desk: &mut Desk,
     floor: u64,
     window: u32,
     gate: &G,
-) -> Result<u64, RunFault>
+) -> Result<Played, RunFault>
     requires { block < length sites.now }
 {
-    let mut sent = Vec::new(alloc);
-    let report = sites[block as usize].visit(rt, floor, window, gate, &mut sent)?;
-    deliver(rt, alloc, sites, sent.as_mut_slice())?;
-    Ok(report.least)
-}
-
-// The seats that the workers give back, or a fault of one.
-fn seats_of(alloc: Global, worked: Vec<Worked>) -> Result<Vec<RoundSeat>, RunFault>
-    ensures { IfOk result (λ seats. (r : _) → All (IsOfRound r) worked.items → AreSeatsOfRound r seats.items) }
-{
-    let mut seats = Vec::new(alloc);
-    for worker in worked {
-        let Worked { seat, fault } = worker;
-        if let Some(fault) = fault {
-            return Err(fault);
-        }
-        seats.reserve(1)?;
-        seats.push_reserved(seat);
-    }
-    Ok(seats)
+    let turned = sites[block as usize].visit_through(rt, floor, window, gate, &mut desk.sent)?;
+    let load = u64::from(turned.finished).saturating_add(desk.sent.len() as u64);
+    desk.deliver(rt, sites)?;
+    Ok(Played {
+        least: turned.report.least,
+        load,
+    })
 }

@@ -1,22 +1,22 @@
 use Rattle.std.proofs.Common.{◌∙◌, ap, rules}
 use Rattle.warp_rounds.proofs.Receiving.{received_part, received_horizon}
 use Rattle.warp_rounds.proofs.Turning.{turned_part, turned_horizon, turned_numbers, turned_sends, held_back}
-use Rattle.warp_rounds.proofs.turns.turn.Goals as goal
+use Rattle.warp_rounds.proofs.turns.turn_through.Goals as goal
 
 pub returns-clause-numbers : goal.returns-clause-numbers
 returns-clause-numbers c =
     turned_numbers c.args.block.now c.receive_all.new.block c.commit.new.self c.advance.new.self.seen _ _ _
-    c.in_ok-receive_all.ensures.received c.in_ok-commit.ensures.ok c.in_ok-advance.ensures.ok
+    c.in_ok-receive_all.ensures.received c.in_ok-commit.ensures.ok c.in_ok-finished.ensures.ok
 
 pub returns-clause-part : goal.returns-clause-part
 returns-clause-part c =
     turned_part c.args.block.now c.receive_all.new.block c.commit.new.self c.advance.new.self.seen _ _ _
-    c.in_ok-receive_all.ensures.received c.in_ok-commit.ensures.ok c.in_ok-advance.ensures.ok
+    c.in_ok-receive_all.ensures.received c.in_ok-commit.ensures.ok c.in_ok-finished.ensures.ok
 
 pub returns-clause-horizon : goal.returns-clause-horizon
 returns-clause-horizon c =
     turned_horizon c.args.block.now c.receive_all.new.block c.commit.new.self c.advance.new.self.seen _ _ _
-    c.in_ok-receive_all.ensures.received c.in_ok-commit.ensures.ok c.in_ok-advance.ensures.ok
+    c.in_ok-receive_all.ensures.received c.in_ok-commit.ensures.ok c.in_ok-finished.ensures.ok
 
 pub returns-clause-sends : goal.returns-clause-sends
 returns-clause-sends c =
@@ -43,17 +43,17 @@ returns-in_err-commit-clause-fault c =
     c.in_ok-receive_all.ensures.received c.in_err-commit.ensures.err c.in_err-commit.ensures.refused in
     search rules
 
-pub returns-in_err-advance-clause-part : goal.returns-in_err-advance-clause-part
-returns-in_err-advance-clause-part c =
+pub returns-in_err-finished-clause-part : goal.returns-in_err-finished-clause-part
+returns-in_err-finished-clause-part c =
     turned_part c.args.block.now c.receive_all.new.block c.commit.new.self c.advance.new.self.seen _ _ _
-    c.in_ok-receive_all.ensures.received c.in_ok-commit.ensures.ok c.in_err-advance.ensures.some.2
+    c.in_ok-receive_all.ensures.received c.in_ok-commit.ensures.ok c.in_err-finished.ensures.some.2
 
-pub returns-in_err-advance-clause-horizon : goal.returns-in_err-advance-clause-horizon
-returns-in_err-advance-clause-horizon c =
+pub returns-in_err-finished-clause-horizon : goal.returns-in_err-finished-clause-horizon
+returns-in_err-finished-clause-horizon c =
     turned_horizon c.args.block.now c.receive_all.new.block c.commit.new.self c.advance.new.self.seen _ _ _
-    c.in_ok-receive_all.ensures.received c.in_ok-commit.ensures.ok c.in_err-advance.ensures.some.2
+    c.in_ok-receive_all.ensures.received c.in_ok-commit.ensures.ok c.in_err-finished.ensures.some.2
 
-pub returns-in_err-advance-clause-sends : goal.returns-in_err-advance-clause-sends
-returns-in_err-advance-clause-sends c =
+pub returns-in_err-finished-clause-sends : goal.returns-in_err-finished-clause-sends
+returns-in_err-finished-clause-sends c =
     turned_sends c.args.block.now c.receive_all.new.block c.commit.new.self c.advance.new.self.seen _ _ _ _ _
     c.in_ok-receive_all.ensures.received c.in_ok-commit.ensures.ok c.receive_all.ensures.pending c.receive_all.ensures.sends c.advance.ensures.sends
