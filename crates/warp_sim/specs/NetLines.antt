@@ -6,6 +6,7 @@ use Rattle.gate_netlist.specs.Circuit.{Design, driver_of, name_of, delay_of}
 use Rattle.gate_netlist.specs.Cut.{owner_of}
 use Rattle.gate_netlist.specs.Settings.{key_of}
 use Rattle.gate_vcd.specs.Codes.{code_of}
+use Rattle.gate_vcd.specs.Dump.{letter}
 
 -- the names of nets, parted by commas
 abbrev pub names_text : Design → List ℕ → List ℕ
@@ -16,7 +17,8 @@ names_text d (n ∷ ns) = name_of d n ++ flat_map (λ m. codes ", " ++ name_of d
 abbrev pub driver_text : Design → Driver → List ℕ
 driver_text d Input = codes "INPUT"
 driver_text d (Gate kind inputs) = key_of kind ++ codes "(" ++ names_text d inputs ++ codes ")"
-driver_text d (Flop d_net clock) = codes "DFF(" ++ name_of d d_net ++ codes ") clock " ++ name_of d clock
+driver_text d (Flop d_net clock init) =
+    codes "DFF(" ++ name_of d d_net ++ codes ") clock " ++ name_of d clock ++ codes " init " ++ letter init ∷ []
 
 -- the block of a net that isn't an input: that of the settings' cut, 0 where there is none
 abbrev pub block_of : Design → ℕ → ℕ

@@ -151,7 +151,7 @@ const LISTED: [(&str, &str, &str); 3] = [
     (
         "E = NAND(D, Q)\nQ = DFF(E)\nINPUT(D)\nb = BUF(D)\n",
         "default = 3\n[net]\nE = 20\n[block]\nQ = 10\n",
-        "0 ! E = NAND(D, Q) delay 20 block 0\n1 \" Q = DFF(E) clock CK delay 3 block 10\n2 # D = INPUT\n3 $ b = BUFF(D) delay 3 block 0\n4 % CK = INPUT\n",
+        "0 ! E = NAND(D, Q) delay 20 block 0\n1 \" Q = DFF(E) clock CK init x delay 3 block 10\n2 # D = INPUT\n3 $ b = BUFF(D) delay 3 block 0\n4 % CK = INPUT\n",
     ),
     ("# none\n", "", ""),
 ];

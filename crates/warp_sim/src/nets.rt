@@ -1,12 +1,13 @@
 //! The nets of a circuit, as text.
-ghost use Rattle.std.specs.Prelude.{◌≡◌, ◌<◌, ◌++◌, ℕ, OnOk, IfOk, codes, decimal};
+ghost use Rattle.std.specs.Prelude.{◌≡◌, ◌<◌, ◌++◌, [], ◌∷◌, ℕ, OnOk, IfOk, codes, decimal};
 ghost use Rattle.std.specs.List.{All};
 ghost use Rattle.gate_netlist.specs.Circuit.{nets_of, name_of, IsDriven};
 ghost use Rattle.gate_netlist.specs.Settings.{key_of};
+ghost use Rattle.gate_vcd.specs.Dump.{letter};
 ghost use Rattle.warp_sim.specs.NetLines.{names_text, driver_text, block_of, timing_text, head_text, net_line, net_lines};
 
 use gate_netlist::{Circuit, Driver};
-use gate_values::Kind;
+use gate_values::{Kind, Logic};
 use gate_vcd::code;
 use std::alloc::{AllocError, Global};
 
@@ -23,6 +24,18 @@ fn kind_word(kind: Kind) -> &'static str
         Kind::Xnor => "XNOR",
         Kind::Not => "NOT",
         Kind::Buff => "BUFF",
+    }
+}
+
+/// The letter of a content.
+fn content_word(content: Logic) -> &'static str
+    ensures { result.now ≡ letter content ∷ [] }
+{
+    match content {
+        Logic::Zero => "0",
+        Logic::One => "1",
+        Logic::X => "x",
+        Logic::Z => "z",
     }
 }
 
@@ -68,11 +81,13 @@ fn push_driver(text: &mut Vec<u8>, circuit: &Circuit, driver: &Driver) -> Result
             push_names(text, circuit, inputs.as_slice())?;
             push_text(text, ")")
         }
-        Driver::Flop { d, clock } => {
+        Driver::Flop { d, clock, init } => {
             push_text(text, "DFF(")?;
             push_text(text, circuit.name(*d))?;
             push_text(text, ") clock ")?;
-            push_text(text, circuit.name(*clock))
+            push_text(text, circuit.name(*clock))?;
+            push_text(text, " init ")?;
+            push_text(text, content_word(*init))
         }
     }
 }
