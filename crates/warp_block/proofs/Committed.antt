@@ -25,6 +25,7 @@ use Rattle.warp_block.proofs.Views.{timed, news_of-run}
 use Rattle.warp_block.proofs.Quiet.{quiet_log_to}
 use Rattle.warp_block.proofs.SavingTimes.{times-split, times-none}
 use Rattle.warp_block.proofs.SavingStates.{map_same}
+use Rattle.warp_block.proofs.Going.{idle_past}
 
 -- from the horizon on a log has all its changes
 full_log : (source : ℕ → Source) (at : ℕ → ℕ → Option Logic) (m horizon n : ℕ) → suc horizon ≤ m → run_log source at m horizon n ≡ run_log source at (suc horizon) horizon n
@@ -60,25 +61,11 @@ module _ (v : View) (is : IsLawful v) (floor : ℕ) (can : IsCommittable v floor
   abbrev pub after : View
   after = record v { floor = floor; mark = max v.mark floor }
 
-  -- nothing happens past the horizon
-  idle_past : (t : ℕ) → v.horizon < t → ¬ (is_busy v t ≡ true)
-  idle_past t past busy =
-      let some = Any-from_list_any (λ n. is_used v.part n && is_some (news_of v n t)) v.part.nets busy in
-      let both = and_parts (is_used v.part some.1) (is_some (news_of v some.1 t)) some.4 in
-      true≢false (sym both.1 ∙ ap is_some (none some.1))
-    where
-      none : (n : ℕ) → news_of v n t ≡ None
-      none n = news_of-run v is n t ∙ elim (driven_or_not (source_of v.part n)) [
-        | inl d ↦ cond-true (is_driven (source_of v.part n)) (pair_at (run_log (source_of v.part) (effective_at v) v.mark v.horizon n) t) (effective_at v n t) d
-            ∙ run_log-past (source_of v.part) (timed v.part is.part) (effective_at v) v.mark v.horizon n t past
-        | inr e ↦ rw e (ap effective_of (is.within n t past))
-      ]
-
   -- nothing happens from the mark on and below the floor
   pub quiet_until : IsQuiet v floor
   quiet_until t from below busy = elim (le_cases t v.horizon) [
     | inl within ↦ can.processed t (below, (from, within, busy))
-    | inr past ↦ idle_past t past busy
+    | inr past ↦ idle_past v is t past busy
   ]
 
   same_log : (n : ℕ) → run_log (source_of v.part) (effective_at v) (max v.mark floor) v.horizon n ≡ run_log (source_of v.part) (effective_at v) v.mark v.horizon n

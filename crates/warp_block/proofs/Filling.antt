@@ -31,7 +31,7 @@ pub in_map : {A : Type 0} (nets : List ℕ) (f : ℕ → A) (d : A) (n : ℕ) �
 in_map nets f d n h = of_net-map nets f d n (λ e. absurd (true≢false (sym h ∙ ap is_some e)))
 
 module _ (v : View) (is : IsLawful v) (last : Saved) (saved : IsSaved v last) (time : ℕ) (values : List Logic)
-    (earlier : last.mark ≤ v.mark) (from : v.mark ≤ time) (until : time ≤ v.horizon) (quiet : IsQuietFrom v is last.mark time)
+    (earlier : last.mark ≤ v.mark) (from : last.mark ≤ time) (until : time ≤ v.horizon) (quiet : IsQuietFrom v is last.mark time)
     (now : values ≡ map (moment_before v (time + 1)).value v.part.nets) where
   now_is : (i : ℕ) → IsUsed v.part i → value_in v.part.nets values i ≡ value (source_of v.part) (given (effective_at v)) i time
   unfolding history

@@ -1,3 +1,4 @@
+pub mod Going
 pub mod Told
 pub mod Sends
 pub mod Sending

@@ -4,28 +4,29 @@ use Rattle.std.proofs.lemmas.Bool.{true≢false, and_from, and_parts, cases_eq, 
 use Rattle.std.proofs.lemmas.List.{get_or_default}
 use Rattle.std.proofs.lemmas.List.Folds.{list_any_at, Any-from_list_any}
 use Rattle.warp_block.specs.Portion.{is_used}
-use Rattle.warp_block.specs.View.{View, news_of, is_busy, earlier_of, IsLeast, IsEventTime}
+use Rattle.warp_block.specs.View.{View, news_of, is_busy, earlier_of, IsLeast}
+use Rattle.warp_block.specs.Advance.{IsBusyFrom}
 use Rattle.warp_block.proofs.Rows.{same_least}
 
--- something happens, from the mark on, to one of the first nets that a gate of the block reads
-pub record HasNews (v : View) (i t : ℕ) : Type 0 where
-  pub from : v.mark ≤ t
+-- something happens, from a time on, to one of the first nets that a gate of the block reads
+pub record HasNews (v : View) (start i t : ℕ) : Type 0 where
+  pub from : start ≤ t
   pub place : ℕ
   pub below : place < i
   pub used : is_used v.part (get_or v.part.nets place 0) ≡ true
   pub news : is_some (news_of v (get_or v.part.nets place 0) t) ≡ true
 
-pub next_none : (v : View) → IsLeast (HasNews v 0) None
-next_none v = λ t h. absurd (let b = h.below in omega (arith, b))
+pub next_none : (v : View) (start : ℕ) → IsLeast (HasNews v start 0) None
+next_none v start = λ t h. absurd (let b = h.below in omega (arith, b))
 
-further : (v : View) (i t : ℕ) → HasNews v i t → HasNews v (i + 1) t
-further v i t h = record { from = h.from; place = h.place; below = (let b = h.below in omega (arith, b)); used = h.used; news = h.news }
+further : (v : View) (start i t : ℕ) → HasNews v start i t → HasNews v start (i + 1) t
+further v start i t h = record { from = h.from; place = h.place; below = (let b = h.below in omega (arith, b)); used = h.used; news = h.news }
 
 -- a net that no gate reads makes no difference
-pub next_skip : (v : View) (i : ℕ) (r : Option ℕ) → is_used v.part (get_or v.part.nets i 0) ≡ false → IsLeast (HasNews v i) r → IsLeast (HasNews v (i + 1)) r
-next_skip v i r unused h = same_least (HasNews v i) (HasNews v (i + 1)) r (further v i) back h
+pub next_skip : (v : View) (start i : ℕ) (r : Option ℕ) → is_used v.part (get_or v.part.nets i 0) ≡ false → IsLeast (HasNews v start i) r → IsLeast (HasNews v start (i + 1)) r
+next_skip v start i r unused h = same_least (HasNews v start i) (HasNews v start (i + 1)) r (further v start i) back h
   where
-    back : (t : ℕ) → HasNews v (i + 1) t → HasNews v i t
+    back : (t : ℕ) → HasNews v start (i + 1) t → HasNews v start i t
     back t n = elim (cases_eq n.place i) [
       | inl same ↦ absurd (true≢false (sym n.used ∙ (ap (λ k. is_used v.part (get_or v.part.nets k 0)) same ∙ unused)))
       | inr other ↦ record { from = n.from; place = n.place; below = (let b = n.below in let ne : n.place ≡ i → ⊥ = other in omega (arith, b, ne)); used = n.used; news = n.news }
@@ -41,39 +42,39 @@ earlier_least P Q (Some a) (Some b) p q = elim (cases_lt b a) [
 ]
 
 -- one place more
-pub next_more : (v : View) (i : ℕ) (a b : Option ℕ) → is_used v.part (get_or v.part.nets i 0) ≡ true → IsLeast (HasNews v i) a →
-    IsLeast (λ t. (v.mark ≤ t) × (is_some (news_of v (get_or v.part.nets i 0) t) ≡ true)) b → IsLeast (HasNews v (i + 1)) (earlier_of a b)
-next_more v i a b used p q =
-    same_least (λ t. HasNews v i t ⊎ ((v.mark ≤ t) × (is_some (news_of v (get_or v.part.nets i 0) t) ≡ true))) (HasNews v (i + 1)) (earlier_of a b) to back
-    (earlier_least (HasNews v i) (λ t. (v.mark ≤ t) × (is_some (news_of v (get_or v.part.nets i 0) t) ≡ true)) a b p q)
+pub next_more : (v : View) (start i : ℕ) (a b : Option ℕ) → is_used v.part (get_or v.part.nets i 0) ≡ true → IsLeast (HasNews v start i) a →
+    IsLeast (λ t. (start ≤ t) × (is_some (news_of v (get_or v.part.nets i 0) t) ≡ true)) b → IsLeast (HasNews v start (i + 1)) (earlier_of a b)
+next_more v start i a b used p q =
+    same_least (λ t. HasNews v start i t ⊎ ((start ≤ t) × (is_some (news_of v (get_or v.part.nets i 0) t) ≡ true))) (HasNews v start (i + 1)) (earlier_of a b) to back
+    (earlier_least (HasNews v start i) (λ t. (start ≤ t) × (is_some (news_of v (get_or v.part.nets i 0) t) ≡ true)) a b p q)
   where
-    to : (t : ℕ) → HasNews v i t ⊎ ((v.mark ≤ t) × (is_some (news_of v (get_or v.part.nets i 0) t) ≡ true)) → HasNews v (i + 1) t
-    to t (inl h) = further v i t h
+    to : (t : ℕ) → HasNews v start i t ⊎ ((start ≤ t) × (is_some (news_of v (get_or v.part.nets i 0) t) ≡ true)) → HasNews v start (i + 1) t
+    to t (inl h) = further v start i t h
     to t (inr h) = record { from = h.0; place = i; below = (let l : i < i + 1 = omega arith in l); used = used; news = h.1 }
 
-    back : (t : ℕ) → HasNews v (i + 1) t → HasNews v i t ⊎ ((v.mark ≤ t) × (is_some (news_of v (get_or v.part.nets i 0) t) ≡ true))
+    back : (t : ℕ) → HasNews v start (i + 1) t → HasNews v start i t ⊎ ((start ≤ t) × (is_some (news_of v (get_or v.part.nets i 0) t) ≡ true))
     back t n = elim (cases_eq n.place i) [
       | inl same ↦ inr (n.from, ap (λ k. is_some (news_of v (get_or v.part.nets k 0) t)) (sym same) ∙ n.news)
       | inr other ↦ inl (record { from = n.from; place = n.place; below = (let b = n.below in let ne : n.place ≡ i → ⊥ = other in omega (arith, b, ne)); used = n.used; news = n.news })
     ]
 
 -- news at some place make a time busy, and there are none at one that isn't
-busy_from : (v : View) (t : ℕ) → HasNews v (length v.part.nets) t → is_busy v t ≡ true
-busy_from v t n = list_any_at (λ k. is_used v.part k && is_some (news_of v k t)) v.part.nets n.place 0 n.below
+busy_from : (v : View) (start t : ℕ) → HasNews v start (length v.part.nets) t → is_busy v t ≡ true
+busy_from v start t n = list_any_at (λ k. is_used v.part k && is_some (news_of v k t)) v.part.nets n.place 0 n.below
     (and_from (is_used v.part (get_or v.part.nets n.place 0)) (is_some (news_of v (get_or v.part.nets n.place 0) t)) n.used n.news)
 
-busy_to : (v : View) (t : ℕ) → v.mark ≤ t → is_busy v t ≡ true → HasNews v (length v.part.nets) t
-busy_to v t h e =
+busy_to : (v : View) (start t : ℕ) → start ≤ t → is_busy v t ≡ true → HasNews v start (length v.part.nets) t
+busy_to v start t h e =
     let some = Any-from_list_any (λ k. is_used v.part k && is_some (news_of v k t)) v.part.nets e in
     let at : get_or v.part.nets some.0 0 ≡ some.1 = get_or_default v.part.nets some.0 0 some.1 some.2 ∙ some.3 in
     let both = and_parts (is_used v.part some.1) (is_some (news_of v some.1 t)) some.4 in
     record { from = h; place = some.0; below = some.2; used = ap (is_used v.part) at ∙ both.0; news = ap (λ k. is_some (news_of v k t)) at ∙ both.1 }
 
-pub next_some : (v : View) (t : ℕ) → IsLeast (HasNews v (length v.part.nets)) (Some t) → t ≤ v.horizon → IsLeast (IsEventTime v) (Some t)
-next_some v t h within = ((h.0.from, within, busy_from v t h.0), λ u e. h.1 u (busy_to v u e.0 e.2))
+pub next_some : (v : View) (start t : ℕ) → IsLeast (HasNews v start (length v.part.nets)) (Some t) → t ≤ v.horizon → IsLeast (IsBusyFrom v start) (Some t)
+next_some v start t h within = ((h.0.from, within, busy_from v start t h.0), λ u e. h.1 u (busy_to v start u e.0 e.2))
 
-pub next_past : (v : View) (t : ℕ) → IsLeast (HasNews v (length v.part.nets)) (Some t) → v.horizon < t → IsLeast (IsEventTime v) None
-next_past v t h past = λ u e. (let k = h.1 u (busy_to v u e.0 e.2) in let w = e.1 in absurd (omega (arith, k, w)))
+pub next_past : (v : View) (start t : ℕ) → IsLeast (HasNews v start (length v.part.nets)) (Some t) → v.horizon < t → IsLeast (IsBusyFrom v start) None
+next_past v start t h past = λ u e. (let k = h.1 u (busy_to v start u e.0 e.2) in let w = e.1 in absurd (omega (arith, k, w)))
 
-pub next_never : (v : View) → IsLeast (HasNews v (length v.part.nets)) None → IsLeast (IsEventTime v) None
-next_never v h = λ u e. h u (busy_to v u e.0 e.2)
+pub next_never : (v : View) (start : ℕ) → IsLeast (HasNews v start (length v.part.nets)) None → IsLeast (IsBusyFrom v start) None
+next_never v start h = λ u e. h u (busy_to v start u e.0 e.2)

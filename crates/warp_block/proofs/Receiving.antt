@@ -23,6 +23,8 @@ use Rattle.warp_block.specs.Saving.{saved_of}
 use Rattle.warp_block.proofs.SavingBusy.{busy_agree}
 use Rattle.warp_block.proofs.SavingStates.{all_kept, spaced_kept, spaced_cut}
 use Rattle.warp_block.proofs.SavingStep.{saved_marks}
+use Rattle.warp_block.specs.Present.{IsPresentFrom}
+use Rattle.warp_block.proofs.Going.{present_kept}
 
 -- the number of a value, after a change of another one or of the same
 number-with : (e : Entry) (v : Logic) (k : ℤ) (x : Logic) → number_of (with_number e v k) x ≡ cond (same v x) k (number_of e x)
@@ -190,6 +192,13 @@ module _ (v w : View) (m : Message) (slot : ℕ) (entry : Entry) (admitted : IsA
         let agree : (n t : ℕ) → t < v.mark → effective_at v n t ≡ effective_at w n t =
         λ n t l. elim early [ inl late ↦ effective_other n t (let ne : t ≢ m.time = omega arith in ne) | inr kept ↦ effective_same kept n t ] in
         (all_kept v w isv put.part v.mark agree ss (saved_marks v ss saved) states, kept_spaced mark agree ss saved)
+
+    -- and the state that the block goes on from is too
+    pub kept_present : (base : Saved) (pending : Option Saved) (since : ℕ) → IsPresentFrom v base pending since → w.mark ≡ v.mark → (v.mark ≤ m.time) ⊎ (effective_of entry ≡ effective_at v m.net m.time) → IsPresentFrom w base pending since
+    kept_present base pending since h mark early =
+        let agree : (n t : ℕ) → t < v.mark → effective_at v n t ≡ effective_at w n t =
+        λ n t l. elim early [ inl late ↦ effective_other n t (let ne : t ≢ m.time = omega arith in ne) | inr kept ↦ effective_same kept n t ] in
+        present_kept v w isv put.part agree (λ t l. same_below (λ n u k. agree n u (omega (arith, mark, k))) t l (omega (arith, mark, l))) (omega (arith, mark)) base pending since h
 
 -- a want of memory is no refusal of the message
 pub refused_memory : (r : Result (Unit {0}) BlockFault) (refusal : Option BlockFault) → IsErrAnd r (λ f. f ≡ Memory) → refusal ≡ None → IfErr r (IsRefusal refusal)

@@ -1,5 +1,5 @@
 -- What a block holds at a place.
-use Rattle.std.proofs.Common.{◌≡◌, ℕ, ◌+◌, ◌<◌, ◌≤◌, true, false, min, Option, Some, None, List, [], length, get_or, set, refl, ap, sym, ◌∙◌, subst, arith, IsSome, Vec, All}
+use Rattle.std.proofs.Common.{◌≡◌, ℕ, ◌+◌, ◌<◌, ◌≤◌, true, false, min, inl, inr, Option, Some, None, List, [], length, get_or, set, refl, ap, sym, ◌∙◌, subst, arith, IsSome, Vec, All}
 use Rattle.std.specs.declared.alloc.Global.{Global}
 use Rattle.std.proofs.lemmas.Bool.{cond-true, cond-false}
 use Rattle.std.proofs.lemmas.List.{get_or-map, get_or_default, length-map}
@@ -22,7 +22,7 @@ use Rattle.warp_block.specs.Held.{lists_in, view_of}
 use Rattle.warp_block.specs.Advance.{IsQuiet}
 use Rattle.warp_block.proofs.Slots.{of_net-at}
 use Rattle.warp_block.proofs.LogOrder.{IsLog-run}
-use Rattle.warp_block.proofs.Running.{run_log, given, IsDriven, delayed}
+use Rattle.warp_block.proofs.Running.{run_log, given, IsDriven, delayed, le_cases}
 use Rattle.warp_block.proofs.Views.{timed}
 use Rattle.warp_block.proofs.Quiet.{quiet_log_to}
 
@@ -77,16 +77,24 @@ module _ (v : View) (is : IsLawful v) (i : ℕ) (in_nets : i < length v.part.net
   pub news_read : is_driven (get_or v.part.sources i Outside) ≡ false → (t : ℕ) → news_of v net t ≡ effective_in (get_or v.queues i []) t
   news_read own t = cond-false (owns v.part net) (pair_at (log_of v net) t) (effective_at v net t) (ap is_driven source_here ∙ own) ∙ ap (λ (q : List Received). effective_in q t) queue_here
 
-  -- the value of an own net, from its log, where nothing has happened since the mark
-  pub value_own : is_driven (get_or v.part.sources i Outside) ≡ true → (t : ℕ) → v.mark ≤ t → t ≤ v.horizon → IsQuiet v t → latest X (get_or v.logs i []) t ≡ block_value v net t
-  value_own own t from until quiet =
+  -- the value of an own net, from a log that reaches past a time
+  value_logged : is_driven (get_or v.part.sources i Outside) ≡ true → (m t : ℕ) → get_or v.logs i [] ≡ run_log (source_of v.part) (effective_at v) m v.horizon net → t ≤ m → t ≤ v.horizon →
+      latest X (get_or v.logs i []) t ≡ block_value v net t
+  value_logged own m t reaches below until =
       let driven : IsDriven (source_of v.part net) = ap is_driven source_here ∙ own in
       let pos : 0 < delay_of (source_of v.part net) = delayed (source_of v.part net) (timed v.part is.part net) driven in
-      let end : t < min (t + delay_of (source_of v.part net)) (v.horizon + 1) = omega arith in
-      ap (λ (log : List Change). latest X log t) (log_is ∙ sym (quiet_log_to v is t net from (omega arith) quiet)
-      ∙ cond-true (is_driven (source_of v.part net)) (before_time (t + delay_of (source_of v.part net)) (changes (value (source_of v.part) (given (effective_at v)) net) (v.horizon + 1))) [] driven
-      ∙ before_time-changes (value (source_of v.part) (given (effective_at v)) net) (t + delay_of (source_of v.part net)) (v.horizon + 1))
-      ∙ latest-changes (value (source_of v.part) (given (effective_at v)) net) (min (t + delay_of (source_of v.part net)) (v.horizon + 1)) t end
+      let end : t < min (m + delay_of (source_of v.part net)) (v.horizon + 1) = omega arith in
+      ap (λ (log : List Change). latest X log t) (reaches
+      ∙ cond-true (is_driven (source_of v.part net)) (before_time (m + delay_of (source_of v.part net)) (changes (value (source_of v.part) (given (effective_at v)) net) (v.horizon + 1))) [] driven
+      ∙ before_time-changes (value (source_of v.part) (given (effective_at v)) net) (m + delay_of (source_of v.part net)) (v.horizon + 1))
+      ∙ latest-changes (value (source_of v.part) (given (effective_at v)) net) (min (m + delay_of (source_of v.part net)) (v.horizon + 1)) t end
+
+  -- the value of an own net, from its log, at a time that is processed, or before which nothing has happened since the mark
+  pub value_own : is_driven (get_or v.part.sources i Outside) ≡ true → (t : ℕ) → t ≤ v.horizon → IsQuiet v t → latest X (get_or v.logs i []) t ≡ block_value v net t
+  value_own own t until quiet = elim (le_cases v.mark t) [
+    | inl from ↦ value_logged own t t (log_is ∙ sym (quiet_log_to v is t net from (omega arith) quiet)) (omega arith) until
+    | inr past ↦ value_logged own v.mark t log_is (omega arith) until
+  ]
 
   not_driven : (s : Source) → is_driven s ≡ false → s ≡ Outside
   not_driven Source.Outside e = refl

@@ -8,9 +8,14 @@ use Rattle.warp_block.specs.declared.state.TheConstants.{SAVE_EVERY}
 use Rattle.warp_block.specs.Portion.{Portion, source_of}
 use Rattle.warp_block.specs.View.{View, Saved, effective_at, moment_before, is_busy, busy_times}
 use Rattle.warp_block.specs.Lawful.{IsLawful, IsSaved, AreSpaced}
+use Rattle.warp_block.specs.Present.{newest}
 use Rattle.warp_block.proofs.Running.{given, moments_agree}
 use Rattle.warp_block.proofs.Views.{timed}
 use Rattle.warp_block.proofs.SavingTimes.{times-split, times-agree, times-one}
+
+-- how often a state is saved
+pub saves : SAVE_EVERY ≡ 8
+saves = refl
 
 -- two lists of what two functions give of each net
 pub map_same : {A : Type 0} (f g : ℕ → A) (ns : List ℕ) → ((n : ℕ) → f n ≡ g n) → map f ns ≡ map g ns
@@ -74,26 +79,33 @@ module _ (v w : View) (same : (t : ℕ) → t < v.mark → t < w.mark → is_bus
         spaced_kept mark s.mark ss h.3,
       )
 
-  -- with one busy time more, and the state right after it
-  pub spaced_push : (new : Saved) → v.mark < new.mark → new.mark ≡ w.mark → busy_times w v.mark new.mark ≡ 1 → is_busy w (new.mark - 1) ≡ true →
-      (m : ℕ) (ss : List Saved) → AreSpaced v m ss → AreSpaced w m (ss ++ new ∷ [])
-  spaced_push new past mark one busy m [] h =
-      let before : busy_times v m v.mark ≡ busy_times w m v.mark = same_times m v.mark (omega arith) (omega (arith, past, mark)) in
-      let split : busy_times w m new.mark ≡ busy_times w m v.mark + busy_times w v.mark new.mark = times-split (is_busy w) m v.mark new.mark h.0 (omega (arith, past)) in
+  -- with so many busy times since the newest, and the state right after the last of them
+  pub spaced_push : (new : Saved) → v.mark < new.mark → new.mark ≡ w.mark → is_busy w (new.mark - 1) ≡ true →
+      (s : Saved) (ss : List Saved) → busy_times w (newest s ss).mark new.mark ≡ SAVE_EVERY → AreSpaced v s.mark ss → AreSpaced w s.mark (ss ++ new ∷ [])
+  spaced_push new past mark busy s [] all h =
       let none : busy_times w new.mark w.mark ≡ 0 = subst (λ (e : ℕ). busy_times w e w.mark ≡ 0) (sym mark) (nothing w.mark) in
-      let few : busy_times v m v.mark < 1 = h.1 in
-      let all : busy_times w m new.mark ≡ 1 = omega (arith, before, split, one, few) in
-      let least : busy_times w new.mark w.mark < 1 = omega (arith, none) in
+      let least : busy_times w new.mark w.mark < SAVE_EVERY = omega (arith, none, saves) in
       (omega (arith, h.0, past), all, busy, (omega (arith, mark), least))
     where
       nothing : (a : ℕ) → busy_times w a a ≡ 0
       nothing a = (let e : a - a ≡ 0 = omega arith in rw e refl)
-  spaced_push new past mark one busy m (s ∷ ss) h =
-      let until = spaced_until v s.mark ss h.3 in (
+  spaced_push new past mark busy s (r ∷ ss) all h =
+      let until = spaced_until v r.mark ss h.3 in (
         h.0,
-        sym (same_times m s.mark until (omega (arith, past, mark, until))) ∙ h.1,
-        sym (same_busy s.mark (omega (arith, h.0)) until (omega (arith, past, mark, until))) ∙ h.2,
-        spaced_push new past mark one busy s.mark ss h.3,
+        sym (same_times s.mark r.mark until (omega (arith, past, mark, until))) ∙ h.1,
+        sym (same_busy r.mark (omega (arith, h.0)) until (omega (arith, past, mark, until))) ∙ h.2,
+        spaced_push new past mark busy r ss all h.3,
+      )
+
+  -- with few busy times since the newest
+  pub spaced_more : v.mark ≤ w.mark → (s : Saved) (ss : List Saved) → busy_times w (newest s ss).mark w.mark < SAVE_EVERY → AreSpaced v s.mark ss → AreSpaced w s.mark ss
+  spaced_more on s [] few h = (omega (arith, h.0, on), few)
+  spaced_more on s (r ∷ ss) few h =
+      let until = spaced_until v r.mark ss h.3 in (
+        h.0,
+        sym (same_times s.mark r.mark until (omega (arith, on, until))) ∙ h.1,
+        sym (same_busy r.mark (omega (arith, h.0)) until (omega (arith, on, until))) ∙ h.2,
+        spaced_more on r ss few h.3,
       )
 
   -- those up to an earlier mark

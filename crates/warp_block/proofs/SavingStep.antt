@@ -1,5 +1,5 @@
 -- What finishing one event time does to a block.
-use Rattle.std.proofs.Common.{◌≡◌, ℕ, true, ◌+◌, ◌-◌, ◌<◌, ◌≤◌, ◌++◌, inl, inr, Some, List, [], ◌∷◌, map, length, get_or, ap, sym, ◌∙◌, subst, arith}
+use Rattle.std.proofs.Common.{◌≡◌, ℕ, true, ◌+◌, ◌-◌, ◌<◌, ◌≤◌, ◌++◌, inl, inr, Option, Some, List, [], ◌∷◌, map, length, get_or, ap, sym, ◌∙◌, subst, arith}
 use Rattle.std.specs.List.{All}
 use Rattle.std.proofs.lemmas.Bool.{cases_lt}
 use Rattle.std.proofs.lemmas.List.{get_or-map, length-map}
@@ -10,53 +10,17 @@ use Rattle.warp_block.specs.Entries.{Received, entry_in, effective_of}
 use Rattle.warp_block.specs.Portion.{Portion, of_net}
 use Rattle.warp_block.specs.View.{View, Saved, effective_at, is_busy, busy_times, IsLeast, IsEventTime}
 use Rattle.warp_block.specs.Lawful.{IsLawful, IsSaved, AreSaved, IsLawfulProcess}
-use Rattle.warp_block.specs.Advance.{IsAdvanced, IsQuiet}
+use Rattle.warp_block.specs.Advance.{IsAdvanced, IsQuiet, IsCaughtUp}
+use Rattle.warp_block.specs.Present.{newest, newest_of, present_of, present_from, IsPresent, IsPresentFrom}
 use Rattle.warp_block.specs.Saving.{saved_of}
-use Rattle.warp_block.proofs.SavingTimes.{times-split, times-none, times-one, none_counted}
+use Rattle.warp_block.proofs.SavingTimes.{times-split, times-none, times-one, times-agree}
 use Rattle.warp_block.proofs.SavingBusy.{busy_is, busy_is-next, happens_agree, busy_agree}
-use Rattle.warp_block.proofs.SavingStates.{saved_kept, all_kept, spaced_until, spaced_marks, spaced_last, spaced_push}
+use Rattle.warp_block.proofs.SavingStates.{saved_kept, all_kept, spaced_until, spaced_marks, spaced_push, spaced_more}
 
 -- no saved state is past the mark
 pub saved_marks : (v : View) (ss : List Saved) → AreSaved v ss → All (λ (s : Saved). s.mark ≤ v.mark) ss
 saved_marks v [] h = All-nil (λ (s : Saved). s.mark ≤ v.mark)
 saved_marks v (s ∷ ss) h = All-cons (λ (s : Saved). s.mark ≤ v.mark) s ss (spaced_until v s.mark ss h.1) (spaced_marks v s.mark ss h.1)
-
-newest : (v : View) (ss : List Saved) (i : ℕ) (s : Saved) → AreSaved v ss → i ≡ length ss - 1 → s ≡ get_or ss i s →
-    (i < length ss) × (s.mark ≤ v.mark) × (busy_times v s.mark v.mark < SAVE_EVERY)
-newest v [] i s h last at = absurd h
-newest v (r ∷ ss) i s h last at =
-    let here : i ≡ length ss = omega (arith, last) in
-    let same : s ≡ get_or (r ∷ ss) (length ss) s = at ∙ ap (λ j. get_or (r ∷ ss) j s) here in
-    let few = subst (λ (x : Saved). (x.mark ≤ v.mark) × (busy_times v x.mark v.mark < SAVE_EVERY)) (sym same) (spaced_last v r ss s h.1) in
-    (omega (arith, here), few.0, few.1)
-
--- the newest saved state of a block
-module _ (v : View) (states : List State) (saved : AreSaved v (map saved_of states)) (i : ℕ) (s : State) (last : i ≡ length states - 1) (at : s ≡ get_or states i s) where
-  not_none : (xs : List State) → AreSaved v (map saved_of xs) → 0 < length xs
-  not_none [] h = absurd h
-  not_none (x ∷ xs) h = omega arith
-
-  within : i < length states
-  within = (let some = not_none states saved in omega (arith, last, some))
-
-  among : saved_of s ≡ get_or (map saved_of states) i (saved_of s)
-  among = ap saved_of at ∙ sym (get_or-map saved_of states i s (saved_of s) within)
-
-  facts : (i < length (map saved_of states)) × (s.mark ≤ v.mark) × (busy_times v s.mark v.mark < SAVE_EVERY)
-  facts = newest v (map saved_of states) i (saved_of s) saved (omega (arith, last, length-map states saved_of)) among
-
-  pub newest_saved : All (IsSaved v) (map saved_of states) → IsSaved v (saved_of s)
-  newest_saved all = subst (IsSaved v) (sym among) (all i (saved_of s) facts.0)
-
-  pub newest_before : s.mark ≤ v.mark
-  newest_before = facts.1
-
-  -- since then nothing has happened
-  pub newest_quiet : (time : ℕ) → IsQuiet v time → (t : ℕ) → s.mark ≤ t → t < time → ¬ (is_busy v t ≡ true)
-  newest_quiet time quiet t from below = elim (cases_lt t v.mark) [
-    | inl past ↦ (let few = facts.2 in none_counted (is_busy v) s.mark v.mark (omega (arith, few)) t from past)
-    | inr next ↦ quiet t next below
-  ]
 
 -- before the least event time nothing happens
 pub quiet_before_least : (v : View) (time : ℕ) → IsLeast (IsEventTime v) (Some time) → IsQuiet v time
@@ -107,22 +71,70 @@ module _ (v w : View) (is : IsLawful v) (isw : IsLawful w) (part : w.part ≡ v.
     moves = λ _. (let from = least.0.0 in let end = least.0.1 in (omega (arith, from, mark), omega (arith, end, mark, horizon), busy_last));
   }
 
-  -- with the state right after the time, what the block had saved stays lawful
-  pub one_saved : (ss : List Saved) → IsLawfulProcess (record { seen = v; saved = ss }) → (new : Saved) → new.mark ≡ time + 1 → IsSaved v new →
-      IsLawfulProcess (record { seen = w; saved = ss ++ new ∷ [] })
-  one_saved ss law new at saved = record {
-    seen = isw;
-    states = All-push (IsSaved w) ss new
-        (all_kept v w is part v.mark (λ n t _. same_effective v w part queues n t) ss (saved_marks v ss law.saved) law.states)
-        (saved_kept v w is part new.mark (λ n t _. same_effective v w part queues n t) new (omega arith) saved);
-    saved = go ss law.saved;
-  }
-    where
-      go : (ss : List Saved) → AreSaved v ss → AreSaved w (ss ++ new ∷ [])
-      go [] h = absurd h
-      go (s ∷ ss) h =
-          let from = least.0.0 in
-          let new_is : new.mark ≡ w.mark = omega (arith, at, mark) in
-          let one : busy_times w v.mark new.mark ≡ 1 = subst (λ (e : ℕ). busy_times w v.mark e ≡ 1) (sym new_is) finished_one in
-          let busy : is_busy w (new.mark - 1) ≡ true = subst (λ (e : ℕ). is_busy w (e - 1) ≡ true) (sym new_is) busy_last in
-          (omega (arith, h.0, floor), spaced_push v w same_before new (omega (arith, from, at)) new_is one busy s.mark ss h.1)
+  -- how many busy times there are since the newest saved state
+  count_on : (base : Saved) (pending : Option Saved) (since : ℕ) → IsPresentFrom v base pending since → IsCaughtUp v (present_from base pending).mark →
+      busy_times w base.mark w.mark ≡ since + 1
+  count_on base pending since h caught =
+      let from = least.0.0 in
+      let up = h.from in
+      let until = h.until in
+      let counted = h.count in
+      let now : ℕ = (present_from base pending).mark in
+      let first : busy_times v base.mark v.mark ≡ busy_times v base.mark (present_from base pending).mark + busy_times v (present_from base pending).mark v.mark =
+      times-split (is_busy v) base.mark (present_from base pending).mark v.mark up until in
+      let none : busy_times v (present_from base pending).mark v.mark ≡ 0 = times-none (is_busy v) (present_from base pending).mark v.mark caught in
+      let same : busy_times v base.mark v.mark ≡ busy_times w base.mark v.mark = times-agree (is_busy v) (is_busy w) base.mark v.mark (λ t a b. same_before t b (omega (arith, mark, from, b))) in
+      let split : busy_times w base.mark w.mark ≡ busy_times w base.mark v.mark + busy_times w v.mark w.mark = times-split (is_busy w) base.mark v.mark w.mark (omega (arith, up, until)) (omega (arith, mark, from)) in
+      let one = finished_one in
+      omega (arith, first, none, same, split, one, counted)
+
+  module _ (ss : List Saved) (law : IsLawfulProcess (record { seen = v; saved = ss })) (pending : Option Saved) (since : ℕ) (present : IsPresent v ss pending since)
+      (caught : IsCaughtUp v (present_of ss pending).mark) (new : Saved) (at : new.mark ≡ time + 1) (holds : IsSaved v new) where
+    new_is : new.mark ≡ w.mark
+    new_is = omega (arith, at, mark)
+
+    holds_on : IsSaved w new
+    holds_on = saved_kept v w is part new.mark (λ n t _. same_effective v w part queues n t) new (omega arith) holds
+
+    states_on : All (IsSaved w) ss
+    states_on = all_kept v w is part v.mark (λ n t _. same_effective v w part queues n t) ss (saved_marks v ss law.saved) law.states
+
+    -- with the state right after the time, what the block had saved stays lawful
+    pub one_saved : since + 1 ≡ SAVE_EVERY → IsLawfulProcess (record { seen = w; saved = ss ++ new ∷ [] })
+    one_saved due = record {
+      seen = isw;
+      states = All-push (IsSaved w) ss new states_on holds_on;
+      saved = go ss law.saved present caught;
+    }
+      where
+        go : (ss : List Saved) → AreSaved v ss → IsPresent v ss pending since → IsCaughtUp v (present_of ss pending).mark → AreSaved w (ss ++ new ∷ [])
+        go [] h present caught = absurd h
+        go (s ∷ ss) h present caught =
+            let from = least.0.0 in
+            let all : busy_times w (newest s ss).mark new.mark ≡ SAVE_EVERY = subst (λ (e : ℕ). busy_times w (newest s ss).mark e ≡ SAVE_EVERY) (sym new_is) (count_on (newest s ss) pending since present caught ∙ due) in
+            let busy : is_busy w (new.mark - 1) ≡ true = subst (λ (e : ℕ). is_busy w (e - 1) ≡ true) (sym new_is) busy_last in
+            (omega (arith, h.0, floor), spaced_push v w same_before new (omega (arith, from, at)) new_is busy s ss all h.1)
+
+    -- and without it
+    pub one_unsaved : since + 1 < SAVE_EVERY → IsLawfulProcess (record { seen = w; saved = ss })
+    one_unsaved early = record {
+      seen = isw;
+      states = states_on;
+      saved = go ss law.saved present caught;
+    }
+      where
+        go : (ss : List Saved) → AreSaved v ss → IsPresent v ss pending since → IsCaughtUp v (present_of ss pending).mark → AreSaved w ss
+        go [] h present caught = absurd h
+        go (s ∷ ss) h present caught =
+            let from = least.0.0 in
+            let all = count_on (newest s ss) pending since present caught in
+            (omega (arith, h.0, floor), spaced_more v w same_before (omega (arith, from, mark)) s ss (omega (arith, all, early)) h.1)
+
+    -- which then is the present one
+    pub one_present : IsPresent w ss (Some new) (since + 1)
+    one_present = record {
+      holds = holds_on;
+      from = (let a = present.from in let b = present.until in let from = least.0.0 in omega (arith, a, b, from, at));
+      until = omega (arith, new_is);
+      count = subst (λ (e : ℕ). busy_times w (newest_of ss).mark e ≡ since + 1) (sym new_is) (count_on (newest_of ss) pending since present caught);
+    }

@@ -5,10 +5,12 @@ use Rattle.gate_values.specs.declared.logic.Logic.{Logic}
 use Rattle.gate_values.specs.declared.logic.Logic.TheVariants.{X}
 use Rattle.gate_values.specs.Behaviour.{history, initial_of}
 use Rattle.warp_block.specs.declared.state.State.{State}
+use Rattle.warp_block.specs.declared.state.TheConstants.{SAVE_EVERY}
 use Rattle.warp_block.specs.Portion.{source_of}
 use Rattle.warp_block.specs.View.{View, busy_times}
 use Rattle.warp_block.specs.Lawful.{IsLawful, IsSaved, IsLawfulProcess}
 use Rattle.warp_block.specs.Saving.{saved_of}
+use Rattle.warp_block.proofs.SavingStates.{saves}
 
 all_unknown : (nets : List ℕ) → replicate (length nets) X ≡ map (λ (n : ℕ). X) nets
 all_unknown [] = refl
@@ -28,5 +30,5 @@ started v first saved is start floor mark held e = rw e (record {
   saved = (omega (arith, mark), (omega (arith, mark, start), none first.mark v.mark mark start));
 })
   where
-    none : (a b : ℕ) → a ≡ 0 → b ≡ 0 → busy_times v a b < 1
-    none a b x y = rw (x, y) (omega arith)
+    none : (a b : ℕ) → a ≡ 0 → b ≡ 0 → busy_times v a b < SAVE_EVERY
+    none a b x y = rw (x, y) (omega (arith, saves))

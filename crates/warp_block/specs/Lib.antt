@@ -1,3 +1,4 @@
+pub mod Present
 pub mod Entries
 pub mod Limits
 pub mod Portion

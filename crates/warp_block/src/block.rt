@@ -16,6 +16,7 @@ use crate::fault::BlockFault;
 use crate::look::Look;
 use crate::message::Message;
 use crate::part::Part;
+use crate::present::Present;
 use crate::state::State;
 use gate_values::Change;
 use gate_vcd::Stimulus;
@@ -27,6 +28,7 @@ use std::marker::Model;
 pub struct Block {
     look: Look,
     saved: Vec<State>,
+    present: Present,
 }
 
 impl Model for Block {
@@ -34,12 +36,11 @@ impl Model for Block {
 
     ghost Value = { Process };
 
-    ghost use Rattle.warp_block.specs.HeldBlock.{process_of};
-    ghost use Rattle.warp_block.specs.Lawful.{IsLawfulProcess};
+    ghost use Rattle.warp_block.specs.HeldBlock.{process_of, IsHeldBlock};
 
     ghost view = { process_of };
 
-    ghost invariant = { λ block. IsLawfulProcess (process_of block) };
+    ghost invariant = { IsHeldBlock };
 }
 
 impl Block {
@@ -65,7 +66,12 @@ impl Block {
         let mut saved = Vec::new(alloc);
         saved.push(first)?;
         look.tell_logged(out)?;
-        Ok(Block { look, saved })
+        let present = Present::newest();
+        Ok(Block {
+            look,
+            saved,
+            present,
+        })
     }
 
     /// What is true of every block: its log and saved states are those of running what it has received, in order of
@@ -98,6 +104,7 @@ impl Block {
             self.look.roll_back(slot, message.time, entry, out)?;
             self.look.law();
             keep_until(&mut self.saved, message.time);
+            self.present = Present::newest();
             return Ok(());
         }
         self.look.take_in(slot, message.time, entry)?;
@@ -135,13 +142,17 @@ impl Block {
         ensures err { OnErr result (self.new ≡ self.old) }
         ensures untold { OnErr result (out.new.items ≡ out.old.items) }
     {
-        let state = self
-            .look
-            .next_state(&self.saved[self.saved.len() - 1], time)?;
+        self.present.coast(&self.saved, &self.look)?;
+        let state = self.look.next_state(self.present.state(&self.saved), time)?;
         self.saved.reserve(1)?;
         self.look.finish(&state, time, out)?;
         self.look.law();
-        self.saved.push_reserved(state);
+        if self.present.is_due() {
+            self.saved.push_reserved(state);
+            self.present = Present::newest();
+            return Ok(());
+        }
+        self.present = Present::after(state, self.present.since + 1);
         Ok(())
     }
 

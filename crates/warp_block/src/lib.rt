@@ -21,6 +21,7 @@ mod log;
 mod look;
 mod message;
 mod part;
+mod present;
 mod queue;
 mod state;
 
@@ -32,6 +33,8 @@ pub use message::{Message, Sign};
 pub use part::Part;
 pub use state::SAVE_EVERY;
 
+#[cfg(test)]
+mod coast_tests;
 #[cfg(test)]
 mod commit_tests;
 #[cfg(test)]

@@ -6,7 +6,7 @@ ghost use Rattle.warp_block.specs.Portion.{owns, slot_of, is_driven, is_used};
 ghost use Rattle.warp_block.specs.View.{IsLeast, IsEventTime, IsDone, entry_of, log_of, block_value, is_busy, news_of, earlier_of};
 ghost use Rattle.warp_block.specs.Lawful.{IsLawful, IsSaved};
 ghost use Rattle.warp_block.specs.Saving.{saved_of};
-ghost use Rattle.warp_block.specs.Advance.{IsQuiet};
+ghost use Rattle.warp_block.specs.Advance.{IsQuiet, IsBusyFrom};
 ghost use Rattle.warp_block.specs.Opening.{opening_view, opening_queue};
 ghost use Rattle.warp_block.specs.Receive.{is_for};
 ghost use Rattle.warp_block.specs.Held.{lists_in};
@@ -128,10 +128,17 @@ impl Look {
     pub fn next_time(&self) -> Option<u64>
         ensures { IsLeast (IsEventTime self.now) result }
     {
+        self.next_from(self.mark)
+    }
+
+    /// The least time from one on to the horizon at which something happens to a net that a gate of the block reads.
+    pub(crate) fn next_from(&self, from: u64) -> Option<u64>
+        ensures { IsLeast (IsBusyFrom self.now from) result }
+    {
         let mut next = None;
         for slot in 0..self.part.len() {
             if self.part.is_used(slot) {
-                next = earlier(next, self.next_news(slot));
+                next = earlier(next, self.next_news(slot, from));
             }
         }
         match next {
@@ -196,22 +203,21 @@ impl Look {
         queue::entry_at(&self.queues[slot], time)
     }
 
-    /// When something happens next to the net at a place, from the mark on.
-    fn next_news(&self, slot: usize) -> Option<u64>
+    /// When something happens next to the net at a place, from a time on.
+    fn next_news(&self, slot: usize, from: u64) -> Option<u64>
         requires { slot < length self.now.part.nets }
-        ensures { IsLeast (λ t. (self.now.mark ≤ t) × IsSome (news_of self.now (slice_index self.now.part.nets slot) t)) result }
+        ensures { IsLeast (λ t. (from ≤ t) × IsSome (news_of self.now (slice_index self.now.part.nets slot) t)) result }
     {
         if self.part.is_own(slot) {
-            log::next_change(&self.logs[slot], self.mark)
+            log::next_change(&self.logs[slot], from)
         } else {
-            queue::next_effective(&self.queues[slot], self.mark)
+            queue::next_effective(&self.queues[slot], from)
         }
     }
 
     /// The value of the net at a place, at a time up to which the logs reach.
     fn value(&self, slot: usize, time: u64) -> Logic
         requires slot { slot < length self.now.part.nets }
-        requires from { self.now.mark ≤ time }
         requires until { time ≤ self.now.horizon }
         requires quiet { IsQuiet self.now time }
         ensures { result ≡ block_value self.now (slice_index self.now.part.nets slot) time }
@@ -227,7 +233,7 @@ impl Look {
     pub(crate) fn next_state(&self, last: &State, time: u64) -> Result<State, AllocError>
         requires lawful { IsSaved self.now (saved_of last.now) }
         requires before { last.now.mark ≤ self.now.mark }
-        requires from { self.now.mark ≤ time }
+        requires from { last.now.mark ≤ time }
         requires until { time ≤ self.now.horizon }
         requires quiet { (t : ℕ) → last.now.mark ≤ t → t < time → ¬ IsTrue (is_busy self.now t) }
         ensures mark { IfOk result (λ state. state.mark ≡ time + 1) }

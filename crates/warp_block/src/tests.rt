@@ -26,11 +26,34 @@ pub(crate) const P: u32 = 0;
 
 pub(crate) const A: u32 = 2;
 
-const B: u32 = 3;
+pub(crate) const B: u32 = 3;
 
 pub(crate) const Y: u32 = 4;
 
-/// A new block of a circuit that three texts give, with horizon 10.
+/// A new block of a circuit that three texts give, with a horizon.
+fn block_until(
+    alloc: Global,
+    texts: [&str; 3],
+    block: u32,
+    horizon: u64,
+    out: &mut Vec<Message>,
+) -> Result<Block, Fail> {
+    let [bench, settings, stimulus] = texts;
+    let bench = read_bench(alloc, bench.as_bytes())?;
+    let circuit = Circuit::of(alloc, bench, settings.as_bytes())?;
+    let stimulus = read_stimulus(alloc, stimulus.as_bytes(), &circuit)?;
+    let cut = circuit.cut().ok_or("a cut")?;
+    if !cut.fits(&circuit) || block >= cut.blocks() {
+        return Err(Fail::from("a cut of another circuit"));
+    }
+    if horizon > MOST_HORIZON {
+        return Err(Fail::from("a horizon past the limit"));
+    }
+    let part = Part::of(alloc, &circuit, cut, block)?;
+    Ok(Block::new(alloc, part, &stimulus, horizon, out)?)
+}
+
+/// The same with horizon 10.
 fn block_of(
     alloc: Global,
     bench: &str,
@@ -39,19 +62,20 @@ fn block_of(
     block: u32,
     out: &mut Vec<Message>,
 ) -> Result<Block, Fail> {
-    let bench = read_bench(alloc, bench.as_bytes())?;
-    let circuit = Circuit::of(alloc, bench, settings.as_bytes())?;
-    let stimulus = read_stimulus(alloc, stimulus.as_bytes(), &circuit)?;
-    let cut = circuit.cut().ok_or("a cut")?;
-    if !cut.fits(&circuit) || block >= cut.blocks() {
-        return Err(Fail::from("a cut of another circuit"));
-    }
-    let part = Part::of(alloc, &circuit, cut, block)?;
-    Ok(Block::new(alloc, part, &stimulus, 10, out)?)
+    block_until(alloc, [bench, settings, stimulus], block, 10, out)
 }
 
 pub(crate) fn pair(alloc: Global, out: &mut Vec<Message>) -> Result<Block, Fail> {
     block_of(alloc, PAIR, PAIR_CUT, PAIR_UNSET, 1, out)
+}
+
+/// Block 1 of the pair, with a horizon.
+pub(crate) fn pair_until(
+    alloc: Global,
+    horizon: u64,
+    out: &mut Vec<Message>,
+) -> Result<Block, Fail> {
+    block_until(alloc, [PAIR, PAIR_CUT, PAIR_UNSET], 1, horizon, out)
 }
 
 pub(crate) fn to(block: u32, sign: Sign, net: u32, time: u64, value: Logic) -> Message {

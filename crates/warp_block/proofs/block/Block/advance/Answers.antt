@@ -18,7 +18,7 @@ loop-finished-preserved c =
     let P : Process → Type 0 = λ p. IsEventTime p.seen c.in-Some.time in
     let event : IsEventTime c.loop-finished.self.seen c.in-Some.time = subst P c.self.view_is c.in-Some.ensures.0 in
     let L : Process → Type 0 = λ p. IsLawful p.seen in
-    let lawful : IsLawful c.loop-finished.self.seen = subst L c.self.view_is c.self.invariant.seen in
+    let lawful : IsLawful c.loop-finished.self.seen = subst L c.self.view_is c.self.invariant.law.seen in
     record {
       advanced = more_advanced c.args.self.now.seen c.loop-finished.self.seen c.step.new.self.seen c.loop-finished.finished lawful c.in_ok-step.ensures.lawful c.loop-finished.invariant.advanced c.in_ok-step.ensures.ok;
       way = more_under_way c.args.self.now.seen c.loop-finished.self.seen c.step.new.self.seen c.in-Some.time c.loop-finished.invariant.way event c.in_ok-step.ensures.mark;

@@ -12,7 +12,9 @@ use Rattle.warp_block.specs.Receive.{IsPut, IsRefusal, refusal_of}
 use Rattle.warp_block.specs.Saving.{saved_of}
 use Rattle.warp_block.proofs.Slots.{slot_is}
 use Rattle.warp_block.proofs.Sends.{once_nothing, same_logs, same_standing}
-use Rattle.warp_block.proofs.Receiving.{rolled, kept, rolled_saved, kept_saved, refused_memory, states_rise, saved_point, not_late}
+use Rattle.warp_block.proofs.Receiving.{rolled, kept, rolled_saved, kept_saved, refused_memory, states_rise, saved_point, not_late, kept_present}
+use Rattle.warp_block.specs.Present.{newest_of, pending_of}
+use Rattle.warp_block.proofs.Going.{present_newest}
 use Rattle.warp_block.proofs.block.Block.receive.Goals as goal
 
 pub roll_back-requires-clause-heard : goal.roll_back-requires-clause-heard
@@ -27,8 +29,11 @@ returns-in_err-roll_back-clause-refused c =
     let P : Process → Type 0 = λ p. IfErr c.from_residual.result (IsRefusal (refusal_of p.seen c.args.message)) in
     subst P c.self.view_is (refused_memory c.from_residual.result (refusal_of c.self.inside.look c.args.message) c.from_residual.ensures.1 a.accepted)
 
+pub invariant_of-self : goal.invariant_of-self
+invariant_of-self c = rw c.in_err-roll_back.ensures.err c.self.invariant
+
 pub keep_until-requires : goal.keep_until-requires
-keep_until-requires c = states_rise c.self.inside.look c.self.inside.saved.items c.self.invariant.saved
+keep_until-requires c = states_rise c.self.inside.look c.self.inside.saved.items c.self.invariant.law.saved
 
 pub invariant_of-self-then-is_straggler : goal.invariant_of-self-then-is_straggler
 invariant_of-self-then-is_straggler c =
@@ -43,11 +48,12 @@ invariant_of-self-then-is_straggler c =
     let items : map saved_of c.keep_until.new.saved.items ≡ take k (map saved_of c.self.inside.saved.items) = ap (map saved_of) c.keep_until.ensures.2 ∙ sym (take-map saved_of k c.self.inside.saved.items) in
     let point = saved_point c.self.inside.saved.items c.args.message.time k c.keep_until.ensures.3 c.keep_until.ensures.1 in
     let point_at_mark = subst (λ (t : ℕ). IsPartitionPoint (λ (s : Saved). s.mark ≤ t) (λ (s : Saved). t < s.mark) (map saved_of c.self.inside.saved.items) k) (sym mark) point in
-    let both = rolled_saved v w c.args.message c.in-Ok.admitted.0 c.in-Ok.admitted.1 a put c.self.invariant.seen c.law.ensures (map saved_of c.self.inside.saved.items) c.self.invariant.states c.self.invariant.saved mark (omega (arith, below)) k point_at_mark in
+    let both = rolled_saved v w c.args.message c.in-Ok.admitted.0 c.in-Ok.admitted.1 a put c.self.invariant.law.seen c.law.ensures (map saved_of c.self.inside.saved.items) c.self.invariant.law.states c.self.invariant.law.saved mark (omega (arith, below)) k point_at_mark in
+    let states : All (IsSaved w) (map saved_of c.keep_until.new.saved.items) = subst (λ (ss : List Saved). All (IsSaved w) ss) (sym items) both.0 in
+    let saved : AreSaved w (map saved_of c.keep_until.new.saved.items) = subst (λ (ss : List Saved). AreSaved w ss) (sym items) both.1 in
     record {
-      seen = c.law.ensures;
-      states = subst (λ (ss : List Saved). All (IsSaved w) ss) (sym items) both.0;
-      saved = subst (λ (ss : List Saved). AreSaved w ss) (sym items) both.1;
+      law = record { seen = c.law.ensures; states = states; saved = saved };
+      present = rw (c.newest.ensures.pending, c.newest.ensures.since) (present_newest w (map saved_of c.keep_until.new.saved.items) saved states);
     }
 
 pub returns-then-is_straggler-clause-taken : goal.returns-then-is_straggler-clause-taken
@@ -80,8 +86,12 @@ invariant_of-self-2 c =
     let put = subst (λ (n : ℕ). IsPut v w n c.args.message.time c.in-Ok.admitted.1) at c.in_ok-take_in.ensures.put in
     let early = not_late c.args.message.time v.mark (effective_of c.in-Ok.admitted.1) (effective_at v c.args.message.net c.args.message.time)
     (λ late. iff_false c.is_straggler.ensures c.if-is_straggler.false (subst (λ (n : ℕ). (c.args.message.time < v.mark) × (effective_of c.in-Ok.admitted.1 ≢ effective_at v n c.args.message.time)) (sym at) late)) in
-    let both = kept_saved v w c.args.message c.in-Ok.admitted.0 c.in-Ok.admitted.1 a put c.self.invariant.seen c.law-2.ensures (map saved_of c.self.inside.saved.items) c.self.invariant.states c.self.invariant.saved c.in_ok-take_in.ensures.mark early in
-    record { seen = c.law-2.ensures; states = both.0; saved = both.1 }
+    let both = kept_saved v w c.args.message c.in-Ok.admitted.0 c.in-Ok.admitted.1 a put c.self.invariant.law.seen c.law-2.ensures (map saved_of c.self.inside.saved.items) c.self.invariant.law.states c.self.invariant.law.saved c.in_ok-take_in.ensures.mark early in
+    record {
+      law = record { seen = c.law-2.ensures; states = both.0; saved = both.1 };
+      present = kept_present v w c.args.message c.in-Ok.admitted.0 c.in-Ok.admitted.1 a put c.self.invariant.law.seen c.law-2.ensures (newest_of (map saved_of c.self.inside.saved.items)) (pending_of c.self.inside.present.pending) c.self.inside.present.since
+          c.self.invariant.present c.in_ok-take_in.ensures.mark early;
+    }
 
 pub returns-clause-taken : goal.returns-clause-taken
 returns-clause-taken c =

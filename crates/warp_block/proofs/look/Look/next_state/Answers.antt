@@ -38,7 +38,7 @@ loop-slot-2-preserved c =
     let h : c.loop-slot-2.slot < length c.self.inside.part.nets = omega (arith, c.len-slot-end-2.ensures.count) in
     map_more (moment_before v (c.args.time + 1)).content c.self.inside.part.nets c.loop-slot-2.contents.items c.push-in-loop-slot-2.new.self.items c.loop-slot-2.slot c.next_content.result h c.loop-slot-2.invariant c.in_ok-push-2.ensures.items
     (c.next_content.ensures ∙ content_is_next v c.self.invariant (saved_of c.args.last.now) (rw (← c.self.view_is) at c.requires.lawful) c.args.time c.deref.result.now
-    (rw (← c.self.view_is) at c.requires.before) (rw (← c.self.view_is) at c.requires.from) (rw (← c.self.view_is) at c.requires.until) (rw (← c.self.view_is) at c.requires.quiet) (c.deref.ensures.value ∙ all) c.loop-slot-2.slot h)
+    (rw (← c.self.view_is) at c.requires.before) c.requires.from (rw (← c.self.view_is) at c.requires.until) (rw (← c.self.view_is) at c.requires.quiet) (c.deref.ensures.value ∙ all) c.loop-slot-2.slot h)
 
 pub returns-clause-lawful : goal.returns-clause-lawful
 returns-clause-lawful c =

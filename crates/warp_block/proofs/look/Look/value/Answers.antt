@@ -24,12 +24,11 @@ pub returns-then-is_own : goal.returns-then-is_own
 returns-then-is_own c =
     let v = view_of c.self.inside in
     let in_nets = in_part c.self.inside c.args.self.now c.args.slot c.self.view_is c.requires.slot in
-    let from = rw (← c.self.view_is) at c.requires.from in
     let until = rw (← c.self.view_is) at c.requires.until in
     let quiet = rw (← c.self.view_is) at c.requires.quiet in
     rw (← c.self.view_is) (c.value_at.ensures
     ∙ (ap (λ (log : List Change). latest X log c.args.time) (c.deref.ensures.value ∙ sym (log_row c.self.inside c.self.invariant c.args.slot in_nets c.index.result.now c.index.ensures))
-    ∙ value_own v c.self.invariant c.args.slot in_nets (sym c.is_own.ensures ∙ c.if-is_own.true) c.args.time from until quiet))
+    ∙ value_own v c.self.invariant c.args.slot in_nets (sym c.is_own.ensures ∙ c.if-is_own.true) c.args.time until quiet))
 
 pub returns-else-is_own : goal.returns-else-is_own
 returns-else-is_own c =
