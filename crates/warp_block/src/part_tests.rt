@@ -39,3 +39,18 @@ fn parts_are_compared_by_what_they_say(rt: HostRuntime) -> Result<(), Fail> {
     assert!(rt; part != part_of(alloc, bench, other_owner)?);
     Ok(())
 }
+
+#[test]
+fn parts_are_compared_by_what_flip_flops_begin_with(rt: HostRuntime) -> Result<(), Fail> {
+    let alloc = rt.alloc();
+    let bench = "INPUT(D)\nA = DFF(D)\nQ = DFF(A)\n";
+    let blocks = "[block]\nA = 0\nQ = 1\n[init]\nQ = \"0\"\n";
+    let part = part_of(alloc, bench, blocks)?;
+    let elsewhere = "[block]\nA = 0\nQ = 1\n[init]\nA = \"1\"\nQ = \"0\"\n";
+    assert!(rt; part == part_of(alloc, bench, elsewhere)?);
+    let other = "[block]\nA = 0\nQ = 1\n[init]\nQ = \"1\"\n";
+    assert!(rt; part != part_of(alloc, bench, other)?);
+    let unknown = "[block]\nA = 0\nQ = 1\n";
+    assert!(rt; part != part_of(alloc, bench, unknown)?);
+    Ok(())
+}

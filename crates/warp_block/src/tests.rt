@@ -54,7 +54,7 @@ fn block_until(
 }
 
 /// The same with horizon 10.
-fn block_of(
+pub(crate) fn block_of(
     alloc: Global,
     bench: &str,
     settings: &str,
@@ -95,7 +95,7 @@ pub(crate) fn told(net: u32, time: u64, value: Logic) -> Message {
 
 /// A call of a block.
 #[derive(Clone, Copy)]
-enum Call {
+pub(crate) enum Call {
     Receive(Message),
     /// So many steps are asked for, and so many are to be finished.
     Advance(u32, u32),
@@ -117,7 +117,11 @@ fn make(call: Call, block: &mut Block, out: &mut Vec<Message>) -> Result<(), Fai
 }
 
 /// Makes some calls, one after another.
-fn make_all(calls: &[Call], block: &mut Block, out: &mut Vec<Message>) -> Result<(), Fail> {
+pub(crate) fn make_all(
+    calls: &[Call],
+    block: &mut Block,
+    out: &mut Vec<Message>,
+) -> Result<(), Fail> {
     for call in calls {
         make(*call, block, out)?;
     }
