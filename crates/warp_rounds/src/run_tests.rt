@@ -1,6 +1,6 @@
 ghost use Rattle.std.specs.Prelude.{◌≤◌};
 
-use crate::{Gate, run};
+use crate::{Gate, NoGate, run};
 use Logic::{One, Zero};
 use gate_netlist::{Circuit, Cut, read_bench};
 use gate_values::{Change, Logic};
@@ -168,5 +168,39 @@ fn a_held_worker_leaves_the_other_blocks_to_the_other_one(rt: HostRuntime) -> Re
     let gate = Meeting::new([&[1, 2], &[], &[]]);
     assert!(rt; runs(&rt, rt.alloc(), 3, 2, &gate)?);
     assert!(rt; !gate.gave_up.load(SeqCst));
+    Ok(())
+}
+
+/// An inverter and a flip-flop over it, in two blocks; nets N, Q, CK. The flip-flop's block tells the inverter's that it
+/// begins with 0, before the first round.
+const TOGGLE: &str = "N = NOT(Q)\nQ = DFF(N)\n";
+
+const TOGGLE_SETTINGS: &str = "[init]\nQ = \"0\"\n[block]\nN = 0\nQ = 1\n";
+
+const TOGGLE_STIMULUS: &str = "$var wire 1 c CK $end $enddefinitions $end #0 0c #3 1c #5 0c #7 1c";
+
+#[test]
+fn initial_contents_are_told_before_the_first_round(rt: HostRuntime) -> Result<(), Fail> {
+    let alloc = rt.alloc();
+    let bench = read_bench(alloc, TOGGLE.as_bytes())?;
+    let circuit = Circuit::of(alloc, bench, TOGGLE_SETTINGS.as_bytes())?;
+    let stimulus = read_stimulus(alloc, TOGGLE_STIMULUS.as_bytes(), &circuit)?;
+    let cut = circuit.cut().ok_or("a cut")?;
+    if !cut.fits(&circuit) || circuit.nets() != 3 {
+        return Err(Fail::from("another circuit"));
+    }
+    let pair = |time, value| Change { time, value };
+    let inverses = [pair(1, One), pair(5, Zero), pair(9, One)];
+    let contents = [pair(0, Zero), pair(4, One), pair(8, Zero)];
+    for workers in [1, 2] {
+        let waves = run(
+            &rt, alloc, &circuit, cut, &stimulus, 10, workers, 5, &NoGate,
+        )?;
+        if waves.nets() != 3 {
+            return Err(Fail::from("other waves"));
+        }
+        assert_eq!(rt; waves.changes(0), inverses.as_slice(), "{workers}");
+        assert_eq!(rt; waves.changes(1), contents.as_slice(), "{workers}");
+    }
     Ok(())
 }
