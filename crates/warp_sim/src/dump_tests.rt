@@ -168,7 +168,7 @@ fn nets_are_listed(rt: HostRuntime) -> Result<(), Fail> {
 }
 
 /// Bench, settings and stimulus, and the line that tells the refusal.
-const REFUSED: [(&str, &str, &str, &str); 9] = [
+const REFUSED: [(&str, &str, &str, &str); 11] = [
     (
         "y = NOT(b)\n",
         "speed = 1",
@@ -178,10 +178,22 @@ const REFUSED: [(&str, &str, &str, &str); 9] = [
     (INVERTER, "speed = 1", "q!", "settings: UnknownKey\n"),
     (INVERTER, "[net]\nA = 2\n", "q!", "settings: UnknownNet\n"),
     (
-        "Q = DFF(Q)\nCK = NOT(Q)\n",
-        "",
+        "INPUT(D)\nQ = DFF(D)\n",
+        "[clocks]\nQ = \"R\"\n",
         "q!",
-        "settings: ClockNotInput\n",
+        "settings: BadClock\n",
+    ),
+    (
+        "INPUT(D)\nQ = DFF(D)\n",
+        "[init]\nQ = 1\n",
+        "q!",
+        "settings: BadInit\n",
+    ),
+    (
+        "INPUT(D)\nQ = DFF(D)\n",
+        "[clocks]\nD = \"CK\"\n",
+        "q!",
+        "settings: UnknownNet\n",
     ),
     (
         INVERTER,

@@ -14,6 +14,8 @@ mod dump;
 mod dump_tests;
 mod failure;
 mod fault;
+#[cfg(test)]
+mod flop_tests;
 mod joined;
 mod line;
 #[cfg(test)]

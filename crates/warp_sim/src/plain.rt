@@ -86,6 +86,14 @@ fn next_content(content: Logic, before: Logic, now: Logic, data: Logic) -> Logic
     }
 }
 
+/// What a net has from 0 on, until its gate or flip-flop takes effect.
+fn initial(driver: &Driver) -> Logic {
+    match driver {
+        Driver::Flop { init, .. } => *init,
+        Driver::Input | Driver::Gate { .. } => X,
+    }
+}
+
 /// The value of a net at a time, by the values and contents of the times before.
 fn value_of(
     circuit: &Circuit,
@@ -102,7 +110,7 @@ fn value_of(
     };
     let delay = delay as u64;
     if time < delay {
-        return X;
+        return initial(circuit.driver(net));
     }
     match circuit.driver(net) {
         Driver::Gate { kind, inputs } => output(*kind, inputs.as_slice(), values, time - delay),
@@ -121,12 +129,12 @@ fn content_of(
 ) -> Logic
     requires { net < nets_of circuit.now }
 {
-    let Driver::Flop { d, clock } = circuit.driver(net) else {
+    let Driver::Flop { d, clock, init } = circuit.driver(net) else {
         return X;
     };
     let now = at(values, time, *clock);
     if time == 0 {
-        return next_content(X, X, now, X);
+        return next_content(*init, X, now, X);
     }
     let before = time - 1;
     next_content(

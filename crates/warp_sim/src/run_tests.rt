@@ -4,7 +4,7 @@ use crate::tests::tell;
 use std::test::Fail;
 
 /// A circuit, its settings, its stimulus, and how far it runs.
-const CIRCUITS: [(&str, &str, &str, u64); 5] = [
+const CIRCUITS: [(&str, &str, &str, u64); 6] = [
     // A ring, stopped at first.
     (
         "INPUT(EN)\nY = NAND(EN, Y)\n",
@@ -32,6 +32,13 @@ const CIRCUITS: [(&str, &str, &str, u64); 5] = [
         "[net]\nB = 3\n",
         "$var wire 1 d D $end $var wire 1 k CK $end $enddefinitions $end #0 0k 1d #2 1k #4 0k #5 0d #6 1k #8 xk #9 1k #11 0k 1d #13 zk #14 0k #16 1k #18 zd #20 0k #22 1k",
         30,
+    ),
+    // Flip-flops that begin with a value, of which one clocks the next, and a gate's output a third.
+    (
+        "INPUT(D)\nA = DFF(NA)\nNA = NOT(A)\nB = DFF(NB)\nNB = NOT(B)\nC = DFF(D)\nY = NAND(A, B)\n",
+        "[net]\nB = 3\nNB = 2\n[clocks]\nB = \"A\"\nC = \"Y\"\n[init]\nA = \"0\"\nB = \"0\"\nC = \"1\"\n",
+        "$var wire 1 d D $end $var wire 1 k CK $end $enddefinitions $end #0 0k 1d #3 1k #5 0k #8 1k #10 0k 0d #13 1k #15 0k #18 1k #20 0k 1d #23 1k #25 0k #28 1k #29 xk #30 1k",
+        40,
     ),
 ];
 
