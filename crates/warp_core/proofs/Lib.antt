@@ -5,3 +5,16 @@ pub mod Entries
 pub mod Sweeping
 pub mod Walking
 pub mod Filling
+pub mod Hearing
+pub mod Acting
+pub mod Acted
+pub mod Delivering
+pub mod Running
+pub mod Settling
+pub mod CommittedAll
+pub mod Soonest
+pub mod NextTimes
+pub mod Finishing
+pub mod StartingWorlds
+pub mod Changing
+pub mod Played

@@ -2,3 +2,8 @@ pub mod Values
 pub mod Matched
 pub mod Gather
 pub mod Walk
+pub mod World
+pub mod Play
+pub mod Kept
+pub mod HeldWorld
+pub mod Opened

@@ -1,5 +1,9 @@
 //! What logical processes make together.
 //!
+//! A [`World`] holds all blocks of a cut, and the messages in flight between them; any order of [`Event`]s can be played
+//! on it, without threads. Whatever was played, what each block holds and what is in flight to it make up what the
+//! others have logged, so no block ever refuses what it is told. Where nothing is left to do the blocks are matched.
+//!
 //! [`gather`] joins blocks that have finished into the [`Waves`](gate_vcd::Waves) of the circuit. It answers only
 //! blocks that are matched: each is of its part of the cut, none has anything left to do, and each was told exactly
 //! what the others, and the stimulus, say. Of such blocks alone, whatever was played to reach them, the waves are those
@@ -7,14 +11,21 @@
 //! cause in the order of [`GatherFault`].
 //!
 //! The definitions stand in `specs/`: `Matched` for matched blocks, `Values` for the circuit's waves, `Gather` for what
-//! is answered.
+//! is answered, `World` for the law of worlds and the least time, `Play` for events.
 #![tactic(auto)]
 
+mod event;
 mod fault;
+mod flight;
 mod gathering;
+mod world;
 
+pub use event::{Event, PlayFault};
 pub use fault::GatherFault;
 pub use gathering::gather;
+pub use world::World;
 
 #[cfg(test)]
 mod tests;
+#[cfg(test)]
+mod world_tests;

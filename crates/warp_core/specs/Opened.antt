@@ -1,0 +1,23 @@
+-- The first blocks of a new world.
+use Rattle.std.specs.Prelude.{◌≡◌, ℕ, ℤ, pos, ◌<◌, List, length}
+use Rattle.std.specs.List.{All}
+use Rattle.gate_netlist.specs.Circuit.{Design}
+use Rattle.gate_netlist.specs.Cut.{Ownership}
+use Rattle.gate_vcd.specs.Given.{Given}
+use Rattle.warp_block.specs.declared.message.Message.{Message}
+use Rattle.warp_block.specs.declared.message.Sign.TheVariants.{Plus}
+use Rattle.warp_block.specs.Lawful.{IsLawful}
+use Rattle.warp_block.specs.Opening.{opening_view}
+use Rattle.warp_block.specs.PartOf.{part_of}
+use Rattle.warp_block.specs.View.{Process}
+use Rattle.warp_core.specs.Matched.{seen_at}
+use Rattle.warp_core.specs.World.{AreAccounted, IsFlying}
+
+-- the first blocks are new ones, and what they sent is in flight; nobody has received anything
+pub record AreOpened (d : Design) (cut : Ownership) (g : Given) (horizon count : ℕ) (blocks : List Process) (flight : List Message) : Type 0 where
+  pub counted : length blocks ≡ count
+  pub opened : (b : ℕ) → b < count → seen_at blocks b ≡ opening_view (part_of d cut b) g horizon
+  pub lawful : (b : ℕ) → b < count → IsLawful (seen_at blocks b)
+  pub account : AreAccounted d cut (λ _. pos 0) blocks flight
+  pub flying : All (IsFlying d cut horizon) flight
+  pub first : All (λ m. (m.sign ≡ Plus) × (m.time ≡ 0)) flight
