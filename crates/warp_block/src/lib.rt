@@ -33,17 +33,3 @@ pub use message::{Message, Sign};
 pub use part::Part;
 pub use state::SAVE_EVERY;
 
-#[cfg(test)]
-mod coast_tests;
-#[cfg(test)]
-mod commit_tests;
-#[cfg(test)]
-mod forged_tests;
-#[cfg(test)]
-mod memory_tests;
-#[cfg(test)]
-mod opening_tests;
-#[cfg(test)]
-mod part_tests;
-#[cfg(test)]
-mod tests;

@@ -1,8 +1,8 @@
-use super::*;
 use gate_netlist::{Circuit, read_bench};
 use std::alloc::Global;
 use std::process::Abort;
 use std::test::Fail;
+use warp_block::Part;
 
 /// The part of block 1 of a circuit that two texts give.
 fn part_of(alloc: Global, bench: &str, settings: &str) -> Result<Part, Fail> {

@@ -1,8 +1,8 @@
-use super::tests::{A, Y, pair, to, told};
-use super::*;
+use super::block_tests::{A, Y, pair, to, told};
 use Sign::{Minus, Plus};
 use gate_values::Logic::{One, Zero};
 use std::test::Fail;
+use warp_block::{Block, BlockFault, Look, Message, Sign};
 
 const B: u32 = 3;
 

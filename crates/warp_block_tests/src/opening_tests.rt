@@ -1,11 +1,11 @@
-use super::tests::{Call, block_of, make_all, to};
-use super::*;
+use super::block_tests::{Call, block_of, make_all, to};
 use Call::{Advance, Receive};
 use Logic::{One, X, Zero};
 use Sign::{Minus, Plus};
 use gate_values::{Change, Logic};
 use std::alloc::Global;
 use std::test::Fail;
+use warp_block::{Message, Sign};
 
 /// An inverter in block 0, and a flip-flop over it in block 1; nets N, Q, CK.
 const TOGGLE: &str = "N = NOT(Q)\nQ = DFF(N)\n";

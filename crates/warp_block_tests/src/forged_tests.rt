@@ -1,8 +1,8 @@
-use super::tests::{A, numbers, pair, to, told};
-use super::*;
+use super::block_tests::{A, numbers, pair, to, told};
 use Sign::{Minus, Plus};
 use gate_values::Logic::One;
 use std::test::Fail;
+use warp_block::{BlockFault, Sign};
 
 #[test]
 fn the_last_time_and_the_last_block_are_refused(rt: HostRuntime) -> Result<(), Fail> {

@@ -1,10 +1,10 @@
-use super::tests::{A, P, Y, numbers, pair, to, told};
-use super::*;
+use super::block_tests::{A, P, Y, numbers, pair, to, told};
 use BlockFault::{BelowFloor, FloorBack, PastHorizon, Unprocessed, Unsettled, WrongNet};
 use Sign::{Minus, Plus};
 use gate_values::Logic::{One, X, Zero};
 use std::alloc::Global;
 use std::test::Fail;
+use warp_block::{Block, BlockFault, Message, Sign};
 
 /// A block that was told two values of A at 4, and has finished that time.
 fn told_twice(alloc: Global, out: &mut Vec<Message>) -> Result<Block, Fail> {

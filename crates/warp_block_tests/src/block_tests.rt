@@ -1,4 +1,3 @@
-use super::*;
 use Logic::{One, X, Z, Zero};
 use Sign::{Minus, Plus};
 use gate_netlist::{Circuit, Cut, read_bench};
@@ -6,6 +5,7 @@ use gate_values::{Change, Logic};
 use gate_vcd::read_stimulus;
 use std::alloc::Global;
 use std::test::Fail;
+use warp_block::{Block, BlockFault, Entry, Look, MOST_HORIZON, Message, Part, Sign};
 
 /// Two buffers, an AND and a NOT, in three blocks; nets P, Q, A, B, Y, Z.
 const PAIR: &str = "INPUT(P)\nINPUT(Q)\nA = BUFF(P)\nB = BUFF(Q)\nY = AND(A, B)\nZ = NOT(Y)\n";

@@ -1,10 +1,10 @@
-use super::*;
-use crate::tests::{A, B, Y, pair_until, to, told};
+use super::block_tests::{A, B, Y, pair_until, to, told};
 use Logic::{One, Zero};
 use Sign::{Minus, Plus};
 use gate_values::{Change, Logic};
 use std::alloc::Global;
 use std::test::Fail;
+use warp_block::{Block, Message, Sign};
 
 /// One at odd times, Zero at even ones, or the other way round.
 fn alternating(time: u64, odd: Logic, even: Logic) -> Logic {
