@@ -109,7 +109,7 @@ fn put_vars<S: Sink>(sink: &mut S, written: u128, circuit: &Circuit) -> u128
 }
 
 /// Puts the value of each net at 0.
-pub fn put_first_values<S: Sink>(sink: &mut S, written: u128, waves: &Waves, nets: u32) -> u128
+fn put_first_values<S: Sink>(sink: &mut S, written: u128, waves: &Waves, nets: u32) -> u128
     requires all { length waves.now ≡ nets }
     requires few { nets ≤ 1000000 }
     ensures { Writes (S.held sink.old) (S.held sink.new) written (first_lines (wave_value waves.now) nets) result }
@@ -135,7 +135,7 @@ fn first_value(changes: &[Change]) -> Logic
 }
 
 /// Puts what changes after 0, and the horizon.
-pub fn put_moments<S: Sink>(sink: &mut S, written: u128, waves: &Waves, horizon: u64) -> u128
+fn put_moments<S: Sink>(sink: &mut S, written: u128, waves: &Waves, horizon: u64) -> u128
     requires few { length waves.now ≤ 1000000 }
     requires until { (n : ℕ) → IsUntil horizon (wave_of waves.now n) }
     ensures { Writes (S.held sink.old) (S.held sink.new) written (moments (wave_value waves.now) (length waves.now) horizon horizon) result }

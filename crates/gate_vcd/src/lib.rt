@@ -11,10 +11,6 @@ mod codes;
 mod declarations;
 mod digits;
 mod dump;
-#[cfg(test)]
-mod dump_tests;
-#[cfg(test)]
-mod failing_tests;
 mod fault;
 mod form;
 mod inputs;
@@ -23,31 +19,19 @@ mod keyword;
 mod known;
 mod laws;
 mod lines;
-#[cfg(test)]
-mod memory_tests;
 mod numbers;
 mod put;
 mod reading;
-#[cfg(test)]
-mod real_bus_tests;
-#[cfg(test)]
-mod real_dump_tests;
 mod scopes;
 mod sink;
 mod source;
 mod stimulus;
-#[cfg(test)]
-mod stimulus_tests;
 mod table;
 mod timescale;
 mod variable;
-#[cfg(test)]
-mod vector_tests;
 mod vectors;
 mod waves;
 mod words;
-#[cfg(test)]
-mod writer_tests;
 
 pub use codes::{code, code_laws};
 pub use dump::write_vcd;

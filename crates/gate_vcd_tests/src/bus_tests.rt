@@ -1,7 +1,7 @@
 //! Dumps of buses, as Icarus Verilog 11, Verilator 5 and GHDL 2 wrote them, byte for byte, for small test benches. What
 //! the bits' values are is read off the test benches.
 
-use crate::real_dump_tests::{assert_changes, read};
+use crate::rows::{Row, assert_rows};
 use std::test::Fail;
 
 const ICARUS: &str = "$date
@@ -129,52 +129,55 @@ X&
 
 /// The test bench assigns at 0 `d = 8'd1; u = 8'h80; p = 8'bx; \d[3] = 1'b1`, at 5
 /// `d = 8'hf0; u = 8'd1; p = 8'bz0`, at 10 `d = 8'bx; u = 8'bz; \d[3] = 1'b0`, at 15 `d = 8'bx1; p = 8'd2`.
-#[test]
-fn reads_buses_of_icarus(rt: HostRuntime) -> Result<(), Fail> {
-    let bench =
-        "INPUT(d[0])\nINPUT(d[3])\nINPUT(d[7])\nINPUT(u[0])\nINPUT(u[7])\nINPUT(p[4])\nINPUT(p[5])\nINPUT(p[11])\n";
-    let lines = [
-        (0, "01 50 10x 151 "),
-        (1, "01 100 "),
-        (2, "00 51 10x "),
-        (3, "01 50 10z "),
-        (4, "00 51 10z "),
-        (5, "50 "),
-        (6, "5z 151 "),
-        (7, "5z 150 "),
-    ];
-    let stimulus = read(rt.alloc(), bench, "scope = \"tb\"", ICARUS)?;
-    assert_changes(&rt, rt.alloc(), &stimulus, &lines)?;
-    let inside = read(rt.alloc(), "INPUT(d[3])\n", "scope = \"tb.dut\"", ICARUS)?;
-    assert_changes(&rt, rt.alloc(), &inside, &[(0, "00 10x ")])
-}
+const OF_ICARUS: [Row; 2] = [
+    Row {
+        bench: "INPUT(d[0])\nINPUT(d[3])\nINPUT(d[7])\nINPUT(u[0])\nINPUT(u[7])\nINPUT(p[4])\nINPUT(p[5])\nINPUT(p[11])\n",
+        settings: "scope = \"tb\"",
+        text: ICARUS,
+        nets: &[
+            "01 50 10x 151 ",
+            "01 100 ",
+            "00 51 10x ",
+            "01 50 10z ",
+            "00 51 10z ",
+            "50 ",
+            "5z 151 ",
+            "5z 150 ",
+        ],
+    },
+    Row {
+        bench: "INPUT(d[3])\n",
+        settings: "scope = \"tb.dut\"",
+        text: ICARUS,
+        nets: &["00 10x "],
+    },
+];
 
 /// The test bench assigns at 0 `d = 8'd1; u = 4'b1000`, at 5 `d = 8'hf0; u = 4'b0001`, at 10 `d = 8'd2`.
-#[test]
-fn reads_buses_of_verilator(rt: HostRuntime) -> Result<(), Fail> {
-    let bench = "INPUT(d[0])\nINPUT(d[1])\nINPUT(d[7])\nINPUT(u[0])\nINPUT(u[3])\n";
-    let lines = [
-        (0, "01 50 "),
-        (1, "00 101 "),
-        (2, "00 51 100 "),
-        (3, "01 50 "),
-        (4, "00 51 "),
-    ];
-    let stimulus = read(rt.alloc(), bench, "scope = \"TOP.tb\"", VERILATOR)?;
-    assert_changes(&rt, rt.alloc(), &stimulus, &lines)
-}
+const OF_VERILATOR: [Row; 1] = [Row {
+    bench: "INPUT(d[0])\nINPUT(d[1])\nINPUT(d[7])\nINPUT(u[0])\nINPUT(u[3])\n",
+    settings: "scope = \"TOP.tb\"",
+    text: VERILATOR,
+    nets: &["01 50 ", "00 101 ", "00 51 100 ", "01 50 ", "00 51 "],
+}];
 
 /// The test bench assigns at 0 `d <= "0101"; u <= "100"`, and 5 ns later, 5,000,000 fs, `d <= "ZZ0X"; u <= "001"`.
+const OF_GHDL: [Row; 1] = [Row {
+    bench: "INPUT(d[0])\nINPUT(d[1])\nINPUT(d[3])\nINPUT(u[0])\nINPUT(u[2])\n",
+    settings: "scope = \"tb\"",
+    text: GHDL,
+    nets: &[
+        "01 5000000x ",
+        "00 ",
+        "00 5000000z ",
+        "01 50000000 ",
+        "00 50000001 ",
+    ],
+}];
+
 #[test]
-fn reads_buses_of_ghdl(rt: HostRuntime) -> Result<(), Fail> {
-    let bench = "INPUT(d[0])\nINPUT(d[1])\nINPUT(d[3])\nINPUT(u[0])\nINPUT(u[2])\n";
-    let lines = [
-        (0, "01 5000000x "),
-        (1, "00 "),
-        (2, "00 5000000z "),
-        (3, "01 50000000 "),
-        (4, "00 50000001 "),
-    ];
-    let stimulus = read(rt.alloc(), bench, "scope = \"tb\"", GHDL)?;
-    assert_changes(&rt, rt.alloc(), &stimulus, &lines)
+fn reads_buses_of_simulators(rt: HostRuntime) -> Result<(), Fail> {
+    assert_rows(&rt, rt.alloc(), &OF_ICARUS)?;
+    assert_rows(&rt, rt.alloc(), &OF_VERILATOR)?;
+    assert_rows(&rt, rt.alloc(), &OF_GHDL)
 }

@@ -1,0 +1,85 @@
+ghost use Rattle.std.specs.Prelude.{◌≡◌, ℕ, IfOk, length};
+ghost use Rattle.gate_vcd.specs.Waves.{wave_of, IsUntil};
+
+use crate::rows::{circuit, stimulus};
+use gate_values::{Change, Logic};
+use gate_vcd::{Grow, Sink, Waves, WriteFault, code, write_vcd};
+use std::alloc::Global;
+use std::test::Fail;
+
+pub const BENCH: &str = "INPUT(A)\nOUTPUT(Y)\nY = NOT(A)\n";
+
+const STIMULUS: &str = "$timescale 1ns $end $var wire 1 ! A $end $enddefinitions $end #0 0! #5 1!";
+
+/// The dump of the inverter until 10.
+pub const DUMP: &str =
+    "$timescale 1 ns $end\n$scope module top $end\n$var wire 1 ! A $end\n$var wire 1 \" Y $end\n$upscope $end\n$enddefinitions $end\n#0\n$dumpvars\n0!\nx\"\n$end\n#1\n1\"\n#5\n1!\n#6\n0\"\n#10\n";
+
+/// The dump of no net until 3.
+const EMPTY_DUMP: &str =
+    "$timescale 1 ns $end\n$scope module top $end\n$upscope $end\n$enddefinitions $end\n#0\n$dumpvars\n$end\n#3\n";
+
+fn at(time: u64, value: Logic) -> Change
+    ensures { result ≡ record { time = time; value = value } }
+{
+    Change { time, value }
+}
+
+/// The waves of an inverter: an input that is 0 at 0 and 1 at 5, and its inverse one time later; net by net.
+fn by_net(alloc: Global) -> Result<Waves, Fail>
+    ensures nets { IfOk result (λ waves. length waves ≡ 2) }
+    ensures until { IfOk result (λ waves. (n : ℕ) → IsUntil 10 (wave_of waves n)) }
+{
+    let mut waves = Waves::new(alloc, 2)?;
+    waves.push(0, at(0, Logic::Zero))?;
+    waves.push(0, at(5, Logic::One))?;
+    waves.push(1, at(1, Logic::One))?;
+    waves.push(1, at(6, Logic::Zero))?;
+    Ok(waves)
+}
+
+/// What the writer answers to the inverter's dump until 10, of a sink that hasn't failed.
+pub fn write<S: Sink>(alloc: Global, sink: &mut S) -> Result<Result<(), WriteFault>, Fail> {
+    let circuit = circuit(alloc, BENCH, "")?;
+    let stimulus = stimulus(alloc, BENCH, "", STIMULUS)?;
+    let waves = by_net(alloc)?;
+    if sink.failed() || circuit.nets() != 2 {
+        return Err(Fail::from("a sink that has failed, or another circuit"));
+    }
+    Ok(write_vcd(sink, "top", &circuit, &stimulus, &waves, 10))
+}
+
+#[test]
+fn a_growing_sink_takes_the_dump(rt: HostRuntime) -> Result<(), Fail> {
+    let mut sink = Grow::new(rt.alloc());
+    assert!(rt; write(rt.alloc(), &mut sink)? == Ok(()));
+    assert!(rt; sink.into_vec().as_slice() == DUMP.as_bytes());
+    Ok(())
+}
+
+#[test]
+fn no_net_until_3(rt: HostRuntime) -> Result<(), Fail> {
+    let circuit = circuit(rt.alloc(), "", "")?;
+    let stimulus = stimulus(rt.alloc(), "", "", "")?;
+    let waves = Waves::new(rt.alloc(), 0)?;
+    assert!(rt; circuit.nets() == 0);
+    let mut sink = Grow::new(rt.alloc());
+    assert!(rt; write_vcd(&mut sink, "top", &circuit, &stimulus, &waves, 3) == Ok(()));
+    assert!(rt; sink.into_vec().as_slice() == EMPTY_DUMP.as_bytes());
+    Ok(())
+}
+
+#[test]
+fn codes_of_nets(rt: HostRuntime) {
+    for (net, want) in [
+        (0, "!"),
+        (93, "~"),
+        (94, "!!"),
+        (95, "\"!"),
+        (999_999, "<03!"),
+    ] {
+        assert!(rt; net < 1_000_000);
+        let (bytes, count) = code(net);
+        assert!(rt; &bytes[..count] == want.as_bytes(), "net {net}");
+    }
+}

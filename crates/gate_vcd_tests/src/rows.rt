@@ -1,0 +1,98 @@
+//! Rows of tests, and what they say of a stimulus text.
+
+use gate_netlist::{Circuit, read_bench};
+use gate_values::{Change, Logic};
+use gate_vcd::{StimCause, StimFault, Stimulus, read_stimulus};
+use std::alloc::Global;
+use std::process::Abort;
+use std::test::Fail;
+
+/// What a stimulus text gives the first nets of a bench: of each net the times of its changes, each with its value.
+#[derive(Clone, Copy)]
+pub struct Row {
+    pub bench: &'static str,
+    pub settings: &'static str,
+    pub text: &'static str,
+    pub nets: &'static [&'static str],
+}
+
+/// Why a stimulus text is refused, and where.
+#[derive(Clone, Copy)]
+pub struct Refusal {
+    pub bench: &'static str,
+    pub text: &'static str,
+    pub at: u64,
+    pub cause: StimCause,
+}
+
+/// The circuit of a bench and a settings text.
+pub fn circuit(alloc: Global, bench: &str, settings: &str) -> Result<Circuit, Fail> {
+    let bench = read_bench(alloc, bench.as_bytes())?;
+    Ok(Circuit::of(alloc, bench, settings.as_bytes())?)
+}
+
+/// The stimulus of a text.
+pub fn stimulus(alloc: Global, bench: &str, settings: &str, text: &str) -> Result<Stimulus, Fail> {
+    let circuit = circuit(alloc, bench, settings)?;
+    Ok(read_stimulus(alloc, text.as_bytes(), &circuit)?)
+}
+
+fn letter(value: Logic) -> char {
+    match value {
+        Logic::Zero => '0',
+        Logic::One => '1',
+        Logic::X => 'x',
+        Logic::Z => 'z',
+    }
+}
+
+/// The times of changes, each with its value.
+fn shown(alloc: Global, changes: &[Change]) -> Result<String, Fail> {
+    let mut text = String::new(alloc);
+    for change in changes {
+        let next = format!(in alloc; "{}{} ", change.time, letter(change.value))?;
+        text.push_str(next.as_str())?;
+    }
+    Ok(text)
+}
+
+/// The first nets have these changes.
+pub fn assert_changes(
+    rt: &impl Abort,
+    alloc: Global,
+    stimulus: &Stimulus,
+    nets: &[&str],
+) -> Result<(), Fail> {
+    for (net, line) in (0..u32::MAX).zip(nets) {
+        let shown = shown(alloc, stimulus.changes(net))?;
+        assert_eq!(rt; shown.as_str(), *line, "net {net}");
+    }
+    Ok(())
+}
+
+/// Each text gives what its row says.
+pub fn assert_rows(rt: &impl Abort, alloc: Global, rows: &[Row]) -> Result<(), Fail> {
+    for row in rows {
+        let stimulus = stimulus(alloc, row.bench, row.settings, row.text)?;
+        assert_changes(rt, alloc, &stimulus, row.nets)?;
+    }
+    Ok(())
+}
+
+/// The fault of a text, if it has one.
+fn fault_of(alloc: Global, row: &Refusal) -> Result<Option<StimFault>, Fail> {
+    let circuit = circuit(alloc, row.bench, "")?;
+    Ok(read_stimulus(alloc, row.text.as_bytes(), &circuit).err())
+}
+
+/// Each text is refused so.
+pub fn assert_refusals(rt: &impl Abort, alloc: Global, rows: &[Refusal]) -> Result<(), Fail> {
+    for row in rows {
+        let wanted = StimFault {
+            at: row.at,
+            cause: row.cause,
+        };
+        assert_eq!(rt; fault_of(alloc, row)?, Some(wanted));
+    }
+    Ok(())
+}

@@ -1,0 +1,60 @@
+use crate::dump_tests::{DUMP, write};
+use gate_vcd::{Sink, WriteFault};
+use std::test::Fail;
+
+/// A sink that takes so many bytes as it has room for, and then fails: it answers that it took none, or nothing.
+#[derive(Drop)]
+struct Short {
+    taken: Vec<u8>,
+    room: usize,
+    mute: bool,
+    failed: bool,
+}
+
+impl Sink for Short {
+    ghost held = { λ sink. record { bytes = sink.taken.items; failed = sink.failed } };
+
+    fn put(&mut self, bytes: &[u8]) -> Option<usize> {
+        let count = bytes.len().min(self.room);
+        if bytes.is_empty() {
+            return Some(0);
+        }
+        if count == 0 || self.taken.extend_from_slice(&bytes[..count]).is_err() {
+            self.failed = true;
+            return if self.mute { Some(0) } else { None };
+        }
+        self.room -= count;
+        Some(count)
+    }
+
+    fn failed(&self) -> bool {
+        self.failed
+    }
+}
+
+/// What is wanted of a writer whose sink has room for so many bytes.
+fn wanted(room: usize) -> Result<(), WriteFault> {
+    if room < DUMP.len() {
+        Err(WriteFault {
+            written: room as u128,
+        })
+    } else {
+        Ok(())
+    }
+}
+
+#[test]
+fn a_sink_fails_after_each_number_of_bytes(rt: HostRuntime) -> Result<(), Fail> {
+    for trial in 0..=2 * 167 + 1 {
+        let room = trial / 2;
+        let mut sink = Short {
+            taken: Vec::new(rt.alloc()),
+            room,
+            mute: trial % 2 == 1,
+            failed: false,
+        };
+        assert!(rt; write(rt.alloc(), &mut sink)? == wanted(room), "{room}");
+        assert!(rt; sink.taken.as_slice() == &DUMP.as_bytes()[..room], "{room}");
+    }
+    Ok(())
+}

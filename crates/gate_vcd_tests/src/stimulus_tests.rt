@@ -1,0 +1,224 @@
+use crate::rows::{Refusal, Row, assert_changes, assert_refusals, assert_rows, circuit, stimulus};
+use gate_values::Logic;
+use gate_vcd::{StimCause, StimFault, Timescale, Unit, read_stimulus};
+use std::test::Fail;
+
+const ONE: &str = "INPUT(A)\n";
+
+const TWO: &str = "INPUT(A)\nINPUT(B)\n";
+
+#[test]
+fn accepts_a_whole_text(rt: HostRuntime) -> Result<(), Fail> {
+    let text =
+        "$timescale 10 us $end $scope module top $end $var wire 1 ! A $end $var wire 1 ! B $end $var real 64 r f $end $upscope $end $enddefinitions $end 1! #5 $dumpall 0! r1.5 r $end #5 z!";
+    let stimulus = stimulus(rt.alloc(), TWO, "", text)?;
+    assert_changes(&rt, rt.alloc(), &stimulus, &["01 5z ", "01 5z ", ""])?;
+    assert!(rt; stimulus.at(1, 4) == Logic::One && stimulus.at(1, 6) == Logic::Z);
+    assert!(rt; stimulus.timescale() == MICROSECONDS);
+    Ok(())
+}
+
+const MICROSECONDS: Timescale = Timescale {
+    number: 10,
+    unit: Unit::Us,
+};
+
+#[test]
+fn tells_whether_it_fits(rt: HostRuntime) -> Result<(), Fail> {
+    let stimulus = stimulus(rt.alloc(), ONE, "", "$var wire 1 ! A $end")?;
+    for (bench, fits) in [
+        ("INPUT(N)\n", true),
+        ("INPUT(A)\nY = NOT(A)\n", false),
+        ("Y = NOT(Y)\n", false),
+    ] {
+        let circuit = circuit(rt.alloc(), bench, "")?;
+        assert!(rt; stimulus.fits(&circuit) == fits, "{bench}");
+    }
+    Ok(())
+}
+
+const REFUSALS: [Refusal; 16] = [
+    Refusal {
+        bench: ONE,
+        text: "$var wire 1 ! A $end $enddefinitions $end #5 0! #4 1!",
+        at: 48,
+        cause: StimCause::StampFalls,
+    },
+    Refusal {
+        bench: ONE,
+        text: "$var wire 1 ! A",
+        at: 0,
+        cause: StimCause::UnclosedCommand,
+    },
+    Refusal {
+        bench: ONE,
+        text: "$var wire 4 ! A [3:0] $end",
+        at: 0,
+        cause: StimCause::NotScalar,
+    },
+    Refusal {
+        bench: ONE,
+        text: "",
+        at: 0,
+        cause: StimCause::MissingInput,
+    },
+    Refusal {
+        bench: ONE,
+        text: "$enddefinitions $end #1000000000000000001",
+        at: 21,
+        cause: StimCause::StampTooLarge,
+    },
+    Refusal {
+        bench: ONE,
+        text: "$enddefinitions $end q!",
+        at: 21,
+        cause: StimCause::BadToken,
+    },
+    Refusal {
+        bench: ONE,
+        text: "$enddefinitions $end 0?",
+        at: 21,
+        cause: StimCause::UnknownCode,
+    },
+    Refusal {
+        bench: ONE,
+        text: "$var wire 1 $end",
+        at: 0,
+        cause: StimCause::BadVar,
+    },
+    Refusal {
+        bench: ONE,
+        text: "$timescale 5 ns $end",
+        at: 0,
+        cause: StimCause::BadTimescale,
+    },
+    Refusal {
+        bench: ONE,
+        text: "$end",
+        at: 0,
+        cause: StimCause::BadToken,
+    },
+    Refusal {
+        bench: ONE,
+        text: "$enddefinitions $end b1",
+        at: 21,
+        cause: StimCause::BadToken,
+    },
+    Refusal {
+        bench: ONE,
+        text: "$enddefinitions $end $comment never",
+        at: 21,
+        cause: StimCause::UnclosedCommand,
+    },
+    Refusal {
+        bench: ONE,
+        text: "$enddefinitions $end #3 $dumpoff",
+        at: 0,
+        cause: StimCause::MissingInput,
+    },
+    Refusal {
+        bench: TWO,
+        text: "$var wire 1 ! A $end $enddefinitions $end",
+        at: 1,
+        cause: StimCause::MissingInput,
+    },
+    Refusal {
+        bench: TWO,
+        text: "$var wire 1 ! A $end $var real 1 r B $end $enddefinitions $end",
+        at: 1,
+        cause: StimCause::NotScalar,
+    },
+    Refusal {
+        bench: "INPUT(\\A)\n",
+        text: "$var wire 1 ! \\A $end",
+        at: 0,
+        cause: StimCause::MissingInput,
+    },
+];
+
+#[test]
+fn refuses_the_first_fault(rt: HostRuntime) -> Result<(), Fail> {
+    assert_refusals(&rt, rt.alloc(), &REFUSALS)
+}
+
+const NAMES: [Row; 5] = [
+    Row {
+        bench: ONE,
+        settings: "",
+        text: "$var real 64 ! A $end $var wire 1 \" A [0:0] $end $enddefinitions $end #0 1! 0\"",
+        nets: &["00 "],
+    },
+    Row {
+        bench: ONE,
+        settings: "",
+        text: "$var wire 001 ! A [0:0] $end $var wire 1 # A $end $enddefinitions $end 1! 0#",
+        nets: &["01 "],
+    },
+    Row {
+        bench: ONE,
+        settings: "",
+        text: "$var wire 1 ! \\A $end $enddefinitions $end #2 bx01 !",
+        nets: &["21 "],
+    },
+    Row {
+        bench: "INPUT(\\A)\n",
+        settings: "",
+        text: "$var wire 1 ! \\\\A $end $enddefinitions $end 1!",
+        nets: &["01 "],
+    },
+    Row {
+        bench: ONE,
+        settings: "",
+        text: "$var wire 1 ! A $end $enddefinitions $end 0! 1! #2 0! 1! #2 0! #3 b01x1 ! bz0 ! #4 bZ !",
+        nets: &["01 20 4z "],
+    },
+];
+
+#[test]
+fn names_inputs_by_their_reference(rt: HostRuntime) -> Result<(), Fail> {
+    assert_rows(&rt, rt.alloc(), &NAMES)
+}
+
+const MISSING: StimFault = StimFault {
+    at: 0,
+    cause: StimCause::MissingInput,
+};
+
+const SCOPES: &str =
+    "$scope module top $end $var wire 1 ! A $end $scope module dut $end $var wire 1 # A $end $upscope $end $upscope $end $scope module top $end $scope module dut $end $upscope $end $upscope $end $var wire 1 & A $end $enddefinitions $end 0! 1# z&";
+
+const COUNTED: [Row; 4] = [
+    Row {
+        bench: ONE,
+        settings: "",
+        text: SCOPES,
+        nets: &["00 "],
+    },
+    Row {
+        bench: ONE,
+        settings: "scope = \"top\"",
+        text: SCOPES,
+        nets: &["00 "],
+    },
+    Row {
+        bench: ONE,
+        settings: "scope = \"top.dut\"",
+        text: SCOPES,
+        nets: &["01 "],
+    },
+    Row {
+        bench: ONE,
+        settings: "scope = \"\"",
+        text: SCOPES,
+        nets: &["0z "],
+    },
+];
+
+#[test]
+fn counts_the_scope_that_is_asked_for(rt: HostRuntime) -> Result<(), Fail> {
+    assert_rows(&rt, rt.alloc(), &COUNTED)?;
+    let other = circuit(rt.alloc(), ONE, "scope = \"top.du\"")?;
+    let fault = read_stimulus(rt.alloc(), SCOPES.as_bytes(), &other).err();
+    assert_eq!(rt; fault, Some(MISSING));
+    Ok(())
+}

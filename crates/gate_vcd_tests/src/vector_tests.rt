@@ -1,0 +1,157 @@
+use crate::rows::{Refusal, Row, assert_refusals, assert_rows};
+use gate_vcd::StimCause;
+use std::test::Fail;
+
+const BITS: &str = "INPUT(A[0])\nINPUT(A[1])\nINPUT(A[2])\nY = XOR(A[0], A[2])\n";
+
+const DIGITS: [Row; 10] = [
+    Row {
+        bench: BITS,
+        settings: "",
+        text: "$var wire 3 v A [2:0] $end $enddefinitions $end #0 b101 v #3 bz v #5 b10 v #7 1v",
+        nets: &["01 3z 50 71 ", "00 3z 51 70 ", "01 3z 50 ", ""],
+    },
+    Row {
+        bench: BITS,
+        settings: "",
+        text: "$var wire 3 v A [0:2] $end $enddefinitions $end #0 b100 v",
+        nets: &["01 ", "00 ", "00 "],
+    },
+    Row {
+        bench: BITS,
+        settings: "",
+        text: "$var wire 3 v A $end $enddefinitions $end #0 bx1 v",
+        nets: &["01 ", "", ""],
+    },
+    Row {
+        bench: BITS,
+        settings: "",
+        text: "$var wire 3 v A [2:0] $end $enddefinitions $end #0 b01110 v",
+        nets: &["00 ", "01 ", "01 "],
+    },
+    Row {
+        bench: BITS,
+        settings: "",
+        text: "$var wire 3 v A [2:0] $end $var wire 1 s A [2] $end $enddefinitions $end b000 v 1s",
+        nets: &["00 ", "00 ", "01 "],
+    },
+    Row {
+        bench: BITS,
+        settings: "",
+        text: "$var wire 2 u A [1:0] $end $var wire 3 v A [2:0] $end $enddefinitions $end b11 u b000 v",
+        nets: &["01 ", "01 ", "00 "],
+    },
+    Row {
+        bench: BITS,
+        settings: "",
+        text: "$var real 3 r A [2:0] $end $var reg 8 v \\A[7:0] $end $enddefinitions $end b110 v r1 r",
+        nets: &["00 ", "01 ", "01 "],
+    },
+    Row {
+        bench: BITS,
+        settings: "",
+        text: "$var wire 03 v A [02:0] $end $enddefinitions $end #1 B1X v #1 b0z v #2 bZ v",
+        nets: &["1z ", "10 2z ", "10 2z "],
+    },
+    Row {
+        bench: BITS,
+        settings: "",
+        text: "$var wire 4294967296 v A [4294967295:0] $end $enddefinitions $end b1 v",
+        nets: &["01 ", "00 ", "00 "],
+    },
+    Row {
+        bench: "INPUT(A[3])\nINPUT(A[0])\nINPUT(A[1])\nINPUT(A[2])\n",
+        settings: "",
+        text: "$var wire 4 v A [3:0] $end $enddefinitions $end #0 b1010 v #1 b1 v #2 bx1 v #2 b0 v #3 bz v #4 0v #5 b11 v #5 b100000 v",
+        nets: &[
+            "01 10 3z 40 ",
+            "00 11 20 3z 40 ",
+            "01 10 3z 40 ",
+            "00 3z 40 ",
+        ],
+    },
+];
+
+#[test]
+fn gives_each_bit_its_digit(rt: HostRuntime) -> Result<(), Fail> {
+    assert_rows(&rt, rt.alloc(), &DIGITS)
+}
+
+const NO_BITS: [Refusal; 7] = [
+    Refusal {
+        bench: BITS,
+        text: "$var wire 4 v A [2:0] $end",
+        at: 0,
+        cause: StimCause::MissingInput,
+    },
+    Refusal {
+        bench: BITS,
+        text: "$var wire 2 v A [1:0] $end",
+        at: 2,
+        cause: StimCause::MissingInput,
+    },
+    Refusal {
+        bench: BITS,
+        text: "$var wire 1 v A $end",
+        at: 0,
+        cause: StimCause::MissingInput,
+    },
+    Refusal {
+        bench: "INPUT(A[00])\n",
+        text: "$var wire 8 v A [7:0] $end",
+        at: 0,
+        cause: StimCause::MissingInput,
+    },
+    Refusal {
+        bench: "INPUT([0])\n",
+        text: "$var wire 8 v \\ $end",
+        at: 0,
+        cause: StimCause::MissingInput,
+    },
+    Refusal {
+        bench: "INPUT(A[0])\n",
+        text: "$var wire 2 v A[0] [1:0] $end",
+        at: 0,
+        cause: StimCause::NotScalar,
+    },
+    Refusal {
+        bench: BITS,
+        text: "$var wire 4294967296 v A $end",
+        at: 0,
+        cause: StimCause::MissingInput,
+    },
+];
+
+#[test]
+fn refuses_what_is_no_bit(rt: HostRuntime) -> Result<(), Fail> {
+    assert_refusals(&rt, rt.alloc(), &NO_BITS)
+}
+
+const SCOPES: &str =
+    "$scope module tb $end $var reg 3 u A [2:0] $end $scope module dut $end $var wire 3 v A [0:2] $end $upscope $end $upscope $end $enddefinitions $end b100 u b100 v";
+
+const COUNTED: [Row; 3] = [
+    Row {
+        bench: BITS,
+        settings: "",
+        text: SCOPES,
+        nets: &["00 "],
+    },
+    Row {
+        bench: BITS,
+        settings: "scope = \"tb\"",
+        text: SCOPES,
+        nets: &["00 "],
+    },
+    Row {
+        bench: BITS,
+        settings: "scope = \"tb.dut\"",
+        text: SCOPES,
+        nets: &["01 "],
+    },
+];
+
+#[test]
+fn takes_bits_of_the_scope_alone(rt: HostRuntime) -> Result<(), Fail> {
+    assert_rows(&rt, rt.alloc(), &COUNTED)
+}
