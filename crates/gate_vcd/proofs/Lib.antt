@@ -3,6 +3,7 @@ pub mod Latest
 pub mod DumpRows
 pub mod Compared
 pub mod Writing
+pub mod Passing
 pub mod SameEntries
 pub mod Stops
 pub mod WaveValues

@@ -2,6 +2,7 @@ pub mod Faults
 pub mod Timescales
 pub mod Given
 pub mod Lists
+pub mod Lots
 pub mod Held
 pub mod Sink
 pub mod Grown

@@ -1,6 +1,7 @@
 -- The part of a dump after time 0, told by a list of changes in the order of time and net.
 use Rattle.std.specs.List.{AllByRecursion}
-use Rattle.gate_vcd.specs.Sink.{Held, Writes}
+use Rattle.gate_vcd.specs.Sink.{Held}
+use Rattle.gate_vcd.specs.Lots.{Lot, Passes}
 use Rattle.std.specs.Prelude.{◌≡◌, ◌<◌, ℕ, ◌==◌, nat_lt, if◌then◌else◌, List, [], ◌∷◌, ◌++◌}
 use Rattle.gate_values.specs.declared.logic.Logic.{Logic}
 use Rattle.gate_vcd.specs.Dump.{stamp, value_line}
@@ -29,9 +30,9 @@ abbrev pub tail_line : ℕ → ℕ → List ℕ
 tail_line last horizon = if nat_lt last horizon then stamp horizon else []
 
 -- Some changes of all have been written, the last one at the time `last`, and the rest are left.
-pub record IsWalked (old new : Held) (from to last : ℕ) (rest all : List Stop) : Type 0 where
+pub record IsWalked (old new : Held) (from to : Lot) (last : ℕ) (rest all : List Stop) : Type 0 where
   pub text : List ℕ
-  pub written : Writes old new from text to
+  pub written : Passes old new from text to
   pub whole : text ++ walked last rest ≡ walked 0 all
   pub end : last_stop last rest ≡ last_stop 0 all
   pub known : AllByRecursion (λ s. s.0.1 < 1000000) rest

@@ -6,13 +6,14 @@ ghost use Rattle.gate_netlist.specs.Circuit.{nets_of};
 ghost use Rattle.gate_values.specs.declared.logic.Logic.TheVariants.{X};
 ghost use Rattle.gate_values.specs.Changes.{latest};
 ghost use Rattle.gate_vcd.specs.Sink.{Writes};
+ghost use Rattle.gate_vcd.specs.Lots.{Passes};
 ghost use Rattle.gate_vcd.specs.Waves.{wave_of, wave_value, IsWave, IsUntil};
 ghost use Rattle.gate_vcd.specs.Dump.{header, var_lines, first_lines, moments, dump_text, vcd_text};
 ghost use Rattle.gate_vcd.specs.Walk.{stop_lines, walked, last_stop, tail_line};
 
 use crate::fault::WriteFault;
 use crate::lines::{put_scope, put_stamp, put_timescale, put_value, put_var};
-use crate::put::put_text;
+use crate::lot::Lot;
 use crate::sink::Sink;
 use crate::stimulus::Stimulus;
 use crate::timescale::Timescale;
@@ -54,7 +55,7 @@ pub fn write_vcd<S: Sink>(
     Ok(())
 }
 
-/// Puts the whole text, and counts it from 0.
+/// Puts the whole text, and counts what the sink took of it.
 fn put_dump<S: Sink>(
     sink: &mut S,
     top: &str,
@@ -69,57 +70,45 @@ fn put_dump<S: Sink>(
     ensures text { Writes (S.held sink.old) (S.held sink.new) 0 (dump_text top.now circuit.now.names scale (wave_value waves.now) horizon) result }
     ensures countable { length (dump_text top.now circuit.now.names scale (wave_value waves.now) horizon) < 2 ^ 128 }
 {
-    let written = put_header(sink, 0, top, circuit, scale);
-    let written = put_first_values(sink, written, waves, circuit.nets());
-    let written = put_text(sink, written, "$end\n");
-    put_moments(sink, written, waves, horizon)
+    let mut lot = Lot::new();
+    put_header(sink, &mut lot, top, circuit, scale);
+    put_first_values(sink, &mut lot, waves, circuit.nets());
+    lot.put_text(sink, "$end\n");
+    put_moments(sink, &mut lot, waves, horizon);
+    lot.finish(sink)
 }
 
 /// Puts the lines above the first value.
-fn put_header<S: Sink>(
-    sink: &mut S,
-    written: u128,
-    top: &str,
-    circuit: &Circuit,
-    scale: Timescale,
-) -> u128
-    ensures text { Writes (S.held sink.old) (S.held sink.new) written (header top.now circuit.now.names scale) result }
+fn put_header<S: Sink>(sink: &mut S, lot: &mut Lot, top: &str, circuit: &Circuit, scale: Timescale)
+    ensures text { Passes (S.held sink.old) (S.held sink.new) lot.old (header top.now circuit.now.names scale) lot.new }
     ensures short { length (header top.now circuit.now.names scale) ≤ 2 ^ 90 }
 {
-    let written = put_timescale(sink, written, scale);
-    let written = put_scope(sink, written, top);
-    let written = put_vars(sink, written, circuit);
-    put_text(
-        sink,
-        written,
-        "$upscope $end\n$enddefinitions $end\n#0\n$dumpvars\n",
-    )
+    put_timescale(sink, lot, scale);
+    put_scope(sink, lot, top);
+    put_vars(sink, lot, circuit);
+    lot.put_text(sink, "$upscope $end\n$enddefinitions $end\n#0\n$dumpvars\n");
 }
 
 /// Puts the code and name of each net.
-fn put_vars<S: Sink>(sink: &mut S, written: u128, circuit: &Circuit) -> u128
-    ensures text { Writes (S.held sink.old) (S.held sink.new) written (var_lines circuit.now.names (nets_of circuit.now)) result }
+fn put_vars<S: Sink>(sink: &mut S, lot: &mut Lot, circuit: &Circuit)
+    ensures text { Passes (S.held sink.old) (S.held sink.new) lot.old (var_lines circuit.now.names (nets_of circuit.now)) lot.new }
     ensures short { length (var_lines circuit.now.names (nets_of circuit.now)) ≤ 2 ^ 85 }
 {
-    let mut count = written;
     for net in 0..circuit.nets() {
-        count = put_var(sink, count, net, circuit.name(net));
+        put_var(sink, lot, net, circuit.name(net));
     }
-    count
 }
 
 /// Puts the value of each net at 0.
-fn put_first_values<S: Sink>(sink: &mut S, written: u128, waves: &Waves, nets: u32) -> u128
+fn put_first_values<S: Sink>(sink: &mut S, lot: &mut Lot, waves: &Waves, nets: u32)
     requires all { length waves.now ≡ nets }
     requires few { nets ≤ 1000000 }
-    ensures { Writes (S.held sink.old) (S.held sink.new) written (first_lines (wave_value waves.now) nets) result }
+    ensures { Passes (S.held sink.old) (S.held sink.new) lot.old (first_lines (wave_value waves.now) nets) lot.new }
 {
     waves.law();
-    let mut count = written;
     for net in 0..nets {
-        count = put_value(sink, count, first_value(waves.changes(net)), net);
+        put_value(sink, lot, first_value(waves.changes(net)), net);
     }
-    count
 }
 
 /// The value at 0 that the changes of a net leave.
@@ -135,64 +124,52 @@ fn first_value(changes: &[Change]) -> Logic
 }
 
 /// Puts what changes after 0, and the horizon.
-fn put_moments<S: Sink>(sink: &mut S, written: u128, waves: &Waves, horizon: u64) -> u128
+fn put_moments<S: Sink>(sink: &mut S, lot: &mut Lot, waves: &Waves, horizon: u64)
     requires few { length waves.now ≤ 1000000 }
     requires until { (n : ℕ) → IsUntil horizon (wave_of waves.now n) }
-    ensures { Writes (S.held sink.old) (S.held sink.new) written (moments (wave_value waves.now) (length waves.now) horizon horizon) result }
+    ensures { Passes (S.held sink.old) (S.held sink.new) lot.old (moments (wave_value waves.now) (length waves.now) horizon horizon) lot.new }
 {
     waves.law();
-    let (written, last) = put_stops(sink, written, waves.order());
-    put_tail(sink, written, last, horizon)
+    let last = put_stops(sink, lot, waves.order());
+    put_tail(sink, lot, last, horizon);
 }
 
-/// Puts the changes, which stand in the order of time and net. Returns the count, and the last time.
-fn put_stops<S: Sink>(
-    sink: &mut S,
-    written: u128,
-    order: &BTreeMap<(u64, u32), Logic>,
-) -> (u128, u64)
+/// Puts the changes, which stand in the order of time and net. Returns the last time.
+fn put_stops<S: Sink>(sink: &mut S, lot: &mut Lot, order: &BTreeMap<(u64, u32), Logic>) -> u64
     requires { AllByRecursion (λ s. s.0.1 < 1000000) order.now.entries }
-    ensures text { Writes (S.held sink.old) (S.held sink.new) written (walked 0 order.now.entries) result.0 }
-    ensures last { result.1 ≡ last_stop 0 order.now.entries }
+    ensures text { Passes (S.held sink.old) (S.held sink.new) lot.old (walked 0 order.now.entries) lot.new }
+    ensures last { result ≡ last_stop 0 order.now.entries }
 {
-    let mut count = written;
     let mut last = 0;
     for (place, value) in order {
         let (time, net) = *place;
-        count = put_stop(sink, count, last, time, net, *value);
+        put_stop(sink, lot, last, time, net, *value);
         last = time;
     }
-    (count, last)
+    last
 }
 
 /// Puts a change after one at the time `last`.
-fn put_stop<S: Sink>(
-    sink: &mut S,
-    written: u128,
-    last: u64,
-    time: u64,
-    net: u32,
-    value: Logic,
-) -> u128
+fn put_stop<S: Sink>(sink: &mut S, lot: &mut Lot, last: u64, time: u64, net: u32, value: Logic)
     requires { net < 1000000 }
-    ensures { Writes (S.held sink.old) (S.held sink.new) written (stop_lines last time net value) result }
+    ensures { Passes (S.held sink.old) (S.held sink.new) lot.old (stop_lines last time net value) lot.new }
 {
     if time == 0 {
-        return written;
+        return;
     }
     if time == last {
-        return put_value(sink, written, value, net);
+        put_value(sink, lot, value, net);
+        return;
     }
-    let written = put_stamp(sink, written, time);
-    put_value(sink, written, value, net)
+    put_stamp(sink, lot, time);
+    put_value(sink, lot, value, net);
 }
 
 /// Puts the time of the horizon, where it is later than the last change.
-fn put_tail<S: Sink>(sink: &mut S, written: u128, last: u64, horizon: u64) -> u128
-    ensures { Writes (S.held sink.old) (S.held sink.new) written (tail_line last horizon) result }
+fn put_tail<S: Sink>(sink: &mut S, lot: &mut Lot, last: u64, horizon: u64)
+    ensures { Passes (S.held sink.old) (S.held sink.new) lot.old (tail_line last horizon) lot.new }
 {
     if last < horizon {
-        return put_stamp(sink, written, horizon);
+        put_stamp(sink, lot, horizon);
     }
-    written
 }

@@ -19,6 +19,7 @@ mod keyword;
 mod known;
 mod laws;
 mod lines;
+mod lot;
 mod numbers;
 mod put;
 mod reading;

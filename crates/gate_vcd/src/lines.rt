@@ -1,11 +1,11 @@
 //! The lines of a dump, one at a time.
 
 ghost use Rattle.std.specs.Prelude.{◌≡◌, ◌<◌, ◌≤◌, take, drop};
-ghost use Rattle.gate_vcd.specs.Sink.{Writes};
+ghost use Rattle.gate_vcd.specs.Lots.{Passes};
 ghost use Rattle.gate_vcd.specs.Dump.{letter, stamp, value_line, var_line, timescale_line, scope_line};
 
 use crate::codes::code;
-use crate::put::{put_all, put_number, put_text};
+use crate::lot::Lot;
 use crate::sink::Sink;
 use crate::timescale::Timescale;
 use gate_values::Logic;
@@ -35,12 +35,12 @@ fn value_line(value: Logic, net: u32) -> ([u8; 6], usize)
 }
 
 /// Puts the line of a net's value.
-pub fn put_value<S: Sink>(sink: &mut S, written: u128, value: Logic, net: u32) -> u128
+pub fn put_value<S: Sink>(sink: &mut S, lot: &mut Lot, value: Logic, net: u32)
     requires { net < 1000000 }
-    ensures { Writes (S.held sink.old) (S.held sink.new) written (value_line value net) result }
+    ensures { Passes (S.held sink.old) (S.held sink.new) lot.old (value_line value net) lot.new }
 {
     let (line, count) = value_line(value, net);
-    put_all(sink, written, &line[..count])
+    lot.put(sink, &line[..count]);
 }
 
 /// The line of a time: the bytes from an index on.
@@ -55,42 +55,42 @@ fn stamp_line(time: u64) -> ([u8; 22], usize)
 }
 
 /// Puts the line of a time.
-pub fn put_stamp<S: Sink>(sink: &mut S, written: u128, time: u64) -> u128
-    ensures { Writes (S.held sink.old) (S.held sink.new) written (stamp time) result }
+pub fn put_stamp<S: Sink>(sink: &mut S, lot: &mut Lot, time: u64)
+    ensures { Passes (S.held sink.old) (S.held sink.new) lot.old (stamp time) lot.new }
 {
     let (line, start) = stamp_line(time);
-    put_all(sink, written, &line[start..])
+    lot.put(sink, &line[start..]);
 }
 
 /// Puts the line of a net's code and name.
-pub fn put_var<S: Sink>(sink: &mut S, written: u128, net: u32, name: &str) -> u128
+pub fn put_var<S: Sink>(sink: &mut S, lot: &mut Lot, net: u32, name: &str)
     requires { net < 1000000 }
-    ensures { Writes (S.held sink.old) (S.held sink.new) written (var_line net name.now) result }
+    ensures { Passes (S.held sink.old) (S.held sink.new) lot.old (var_line net name.now) lot.new }
 {
     let (code, count) = code(net);
-    let written = put_text(sink, written, "$var wire 1 ");
-    let written = put_all(sink, written, &code[..count]);
-    let written = put_text(sink, written, " ");
-    let written = put_text(sink, written, name);
-    put_text(sink, written, " $end\n")
+    lot.put_text(sink, "$var wire 1 ");
+    lot.put(sink, &code[..count]);
+    lot.put_text(sink, " ");
+    lot.put_text(sink, name);
+    lot.put_text(sink, " $end\n");
 }
 
 /// Puts the line of the timescale.
-pub fn put_timescale<S: Sink>(sink: &mut S, written: u128, scale: Timescale) -> u128
-    ensures { Writes (S.held sink.old) (S.held sink.new) written (timescale_line scale) result }
+pub fn put_timescale<S: Sink>(sink: &mut S, lot: &mut Lot, scale: Timescale)
+    ensures { Passes (S.held sink.old) (S.held sink.new) lot.old (timescale_line scale) lot.new }
 {
-    let written = put_text(sink, written, "$timescale ");
-    let written = put_number(sink, written, scale.number as u64);
-    let written = put_text(sink, written, " ");
-    let written = put_text(sink, written, scale.unit.name());
-    put_text(sink, written, " $end\n")
+    lot.put_text(sink, "$timescale ");
+    lot.put_number(sink, scale.number as u64);
+    lot.put_text(sink, " ");
+    lot.put_text(sink, scale.unit.name());
+    lot.put_text(sink, " $end\n");
 }
 
 /// Puts the line of the scope.
-pub fn put_scope<S: Sink>(sink: &mut S, written: u128, top: &str) -> u128
-    ensures { Writes (S.held sink.old) (S.held sink.new) written (scope_line top.now) result }
+pub fn put_scope<S: Sink>(sink: &mut S, lot: &mut Lot, top: &str)
+    ensures { Passes (S.held sink.old) (S.held sink.new) lot.old (scope_line top.now) lot.new }
 {
-    let written = put_text(sink, written, "$scope module ");
-    let written = put_text(sink, written, top);
-    put_text(sink, written, " $end\n")
+    lot.put_text(sink, "$scope module ");
+    lot.put_text(sink, top);
+    lot.put_text(sink, " $end\n");
 }

@@ -1,8 +1,8 @@
-use Rattle.gate_vcd.specs.Sink.{Writes}
+use Rattle.gate_vcd.specs.Lots.{Passes}
 use Rattle.gate_vcd.specs.Waves.{wave_value}
 use Rattle.gate_vcd.specs.Dump.{first_lines}
 use Rattle.gate_vcd.proofs.dump.put_first_values.Given as goal
 
 -- the lines so far
 abbrev pub invariant-loop-net : goal.invariant-loop-net
-invariant-loop-net g l = Writes (g.S.Sink.held l.fn.sink) (g.S.Sink.held l.sink) l.written (first_lines (wave_value l.waves) l.net) l.count
+invariant-loop-net g l = Passes (g.S.Sink.held l.fn.sink) (g.S.Sink.held l.sink) l.fn.lot (first_lines (wave_value l.waves) l.net) l.lot

@@ -1,15 +1,15 @@
 use Rattle.std.proofs.Common.{◌<◌, ◌^◌, length, arith}
 use Rattle.gate_vcd.specs.Dump.{header}
-use Rattle.gate_vcd.proofs.Writing.{writes_then}
+use Rattle.gate_vcd.proofs.Passing.{passes_then}
 use Rattle.gate_vcd.proofs.DumpLaws.{length-header}
 use Rattle.gate_vcd.proofs.dump.put_header.Goals as goal
 
 pub returns-clause-text : goal.returns-clause-text
 unfolding header
-returns-clause-text g c = writes_then c.put_timescale-written.ensures (writes_then c.put_scope-written.ensures (writes_then c.put_vars-written.ensures.text c.put_text.ensures))
+returns-clause-text g c = passes_then c.put_timescale.ensures (passes_then c.put_scope.ensures (passes_then c.put_vars.ensures.text c.put_text.ensures))
 
 pub returns-clause-short : goal.returns-clause-short
 returns-clause-short g c =
     let top : length c.args.top.now < 2 ^ 64 = omega arith in
     let number : c.args.scale.number < 2 ^ 64 = omega arith in
-    length-header c.args.top.now c.args.circuit.now.names c.args.scale top number c.put_vars-written.ensures.short
+    length-header c.args.top.now c.args.circuit.now.names c.args.scale top number c.put_vars.ensures.short

@@ -1,6 +1,6 @@
-use Rattle.gate_vcd.proofs.Writing.{writes_then}
+use Rattle.gate_vcd.proofs.Passing.{passes_then}
 use Rattle.gate_vcd.proofs.Walking.{stop_lines-later}
 use Rattle.gate_vcd.proofs.dump.put_stop.Goals as goal
 
 pub returns : goal.returns
-returns g c = rw (stop_lines-later c.args.last c.args.time c.args.net c.args.value c.if-time-eq0.false c.if-time-last.false) (writes_then c.put_stamp-written.ensures c.put_value-2.ensures)
+returns g c = rw (stop_lines-later c.args.last c.args.time c.args.net c.args.value c.if-time-eq0.false c.if-time-last.false) (passes_then c.put_stamp.ensures c.put_value-2.ensures)

@@ -1,6 +1,6 @@
-use Rattle.gate_vcd.proofs.Writing.{writes_then}
+use Rattle.gate_vcd.proofs.Passing.{passes_then}
 use Rattle.gate_vcd.proofs.lines.put_var.Goals as goal
 
 pub returns : goal.returns
 returns g c =
-    rw (← c.code-count.ensures.bytes) (writes_then c.put_text-written.ensures (writes_then c.put_all-written.ensures (writes_then c.put_text-written-2.ensures (writes_then c.put_text-written-3.ensures c.put_text.ensures))))
+    rw (← c.code-count.ensures.bytes) (passes_then c.put_text.ensures (passes_then c.put.ensures (passes_then c.put_text-2.ensures (passes_then c.put_text-3.ensures c.put_text-4.ensures))))
