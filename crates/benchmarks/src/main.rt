@@ -26,6 +26,8 @@ enum Benchmark {
     StimulusCodes,
     StimulusShared,
     StimulusUnused,
+    StimulusBus,
+    StimulusBusShort,
     At,
     Find,
     CutEven,
@@ -34,7 +36,7 @@ enum Benchmark {
     Write,
 }
 
-const BENCHMARKS: [(&str, Benchmark); 13] = [
+const BENCHMARKS: [(&str, Benchmark); 15] = [
     ("bench", Benchmark::Bench),
     ("bench-refused", Benchmark::BenchRefused),
     ("circuit", Benchmark::Circuit),
@@ -42,6 +44,8 @@ const BENCHMARKS: [(&str, Benchmark); 13] = [
     ("stimulus-codes", Benchmark::StimulusCodes),
     ("stimulus-shared", Benchmark::StimulusShared),
     ("stimulus-unused", Benchmark::StimulusUnused),
+    ("stimulus-bus", Benchmark::StimulusBus),
+    ("stimulus-bus-short", Benchmark::StimulusBusShort),
     ("at", Benchmark::At),
     ("find", Benchmark::Find),
     ("cut-even", Benchmark::CutEven),
@@ -61,6 +65,8 @@ fn checksum<R: Eprint + Clock + AllocGlobal>(rt: &R, benchmark: Benchmark, size:
         Benchmark::StimulusCodes => reading::stimulus_codes(rt, size),
         Benchmark::StimulusShared => reading::stimulus_shared(rt, size),
         Benchmark::StimulusUnused => reading::stimulus_unused(rt, size),
+        Benchmark::StimulusBus => reading::stimulus_bus(rt, size),
+        Benchmark::StimulusBusShort => reading::stimulus_bus_short(rt, size),
         Benchmark::At => looking::at(rt, size),
         Benchmark::Find => looking::find(rt, size),
         Benchmark::CutEven => looking::cut_even(rt, size),
@@ -105,8 +111,8 @@ fn run<R: Print + Eprint + Clock + AllocGlobal>(rt: &R, words: &[String]) -> Res
         bail!("a name and a size are expected");
     };
     let size = size.as_str().parse::<u32>()?;
-    if size < 1 || size > 900_000 {
-        bail!("the size is from 1 to 900,000");
+    if size < 1 || size > 1_000_000 {
+        bail!("the size is from 1 to 1,000,000");
     }
     run_named(rt, name.as_str(), size)
 }

@@ -107,3 +107,32 @@ pub fn stimulus_unused<R: Eprint + Clock + AllocGlobal>(rt: &R, size: u32) -> Re
     report(rt, "stimulus-unused", size, start)?;
     Ok(times_in_all(&stimulus, 10))
 }
+
+/// A stimulus of the bits of a 64-bit bus, and of such a text of its changes; the answer is how many changes the
+/// bits have in all.
+fn read_bus<R: Eprint + Clock + AllocGlobal>(
+    rt: &R,
+    name: &str,
+    size: u32,
+    text: &str,
+) -> Result<u64> {
+    let bench = texts::bits(rt.alloc(), 64)?;
+    let bench = read_bench(rt.alloc(), bench.as_bytes())?;
+    let circuit = Circuit::of(rt.alloc(), bench, b"")?;
+    let start = Instant::now(rt)?;
+    let stimulus = read_stimulus(rt.alloc(), text.as_bytes(), &circuit)?;
+    report(rt, name, size, start)?;
+    Ok(changes_in_all(&stimulus, 64))
+}
+
+/// A stimulus of a 64-bit bus that goes from no bit to every fourth and back, `size` times, each time in 64 digits.
+pub fn stimulus_bus<R: Eprint + Clock + AllocGlobal>(rt: &R, size: u32) -> Result<u64> {
+    let text = texts::bus(rt.alloc(), size)?;
+    read_bus(rt, "stimulus-bus", size, text.as_str())
+}
+
+/// A stimulus of a 64-bit bus whose last bit goes up and down, `size` times, each time in one digit.
+pub fn stimulus_bus_short<R: Eprint + Clock + AllocGlobal>(rt: &R, size: u32) -> Result<u64> {
+    let text = texts::bus_short(rt.alloc(), size)?;
+    read_bus(rt, "stimulus-bus-short", size, text.as_str())
+}

@@ -93,3 +93,45 @@ pub fn stimulus_unused(alloc: Global, inputs: u32, changes: u32) -> Result<Strin
     push_step(&mut text, inputs, changes, 1)?;
     Ok(text)
 }
+
+/// The bits of a bus, as inputs.
+pub fn bits(alloc: Global, width: u32) -> Result<String, AllocError> {
+    let mut text = String::new(alloc);
+    for bit in 0..width {
+        writeln!(text, "INPUT(d[{bit}])")?;
+    }
+    Ok(text)
+}
+
+/// The declaration of a 64-bit bus.
+fn push_bus(text: &mut String) -> Result<(), AllocError> {
+    writeln!(text, "$var wire 64 ! d [63:0] $end")?;
+    writeln!(text, "$enddefinitions $end")
+}
+
+/// A stimulus of a 64-bit bus with so many changes, all digits each time, of which every fourth moves.
+pub fn bus(alloc: Global, changes: u32) -> Result<String, AllocError> {
+    let mut text = String::new(alloc);
+    push_bus(&mut text)?;
+    for time in 0..changes {
+        let four = if time % 2 == 0 { "0000" } else { "0001" };
+        writeln!(text, "#{time}")?;
+        text.push_str("b")?;
+        for _ in 0..16 {
+            text.push_str(four)?;
+        }
+        text.push_str(" !\n")?;
+    }
+    Ok(text)
+}
+
+/// A stimulus of a 64-bit bus with so many changes of one digit.
+pub fn bus_short(alloc: Global, changes: u32) -> Result<String, AllocError> {
+    let mut text = String::new(alloc);
+    push_bus(&mut text)?;
+    for time in 0..changes {
+        let value = time % 2;
+        writeln!(text, "#{time}\nb{value} !")?;
+    }
+    Ok(text)
+}
