@@ -38,6 +38,7 @@ pub use codes::{code, code_laws};
 pub use dump::write_vcd;
 pub use fault::{StimCause, StimFault, WriteFault};
 pub use laws::{dump_laws, refusal_laws};
+pub use numbers::{is_numeral, number_up_to};
 pub use reading::read_stimulus;
 pub use sink::{Grow, Sink};
 pub use stimulus::Stimulus;

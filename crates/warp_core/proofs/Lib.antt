@@ -18,3 +18,6 @@ pub mod Finishing
 pub mod StartingWorlds
 pub mod Changing
 pub mod Played
+pub mod ScheduleWords
+pub mod Scheduling
+pub mod ScheduleRefusals

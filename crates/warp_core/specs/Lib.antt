@@ -7,3 +7,4 @@ pub mod Play
 pub mod Kept
 pub mod HeldWorld
 pub mod Opened
+pub mod Schedule

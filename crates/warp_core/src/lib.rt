@@ -11,20 +11,25 @@
 //! cause in the order of [`GatherFault`].
 //!
 //! The definitions stand in `specs/`: `Matched` for matched blocks, `Values` for the circuit's waves, `Gather` for what
-//! is answered, `World` for the law of worlds and the least time, `Play` for events.
+//! is answered, `World` for the law of worlds and the least time, `Play` for events, `Schedule` for the text that
+//! [`read_schedule`] reads as a list of events.
 #![tactic(auto)]
 
 mod event;
 mod fault;
 mod flight;
 mod gathering;
+mod schedule;
 mod world;
 
 pub use event::{Event, PlayFault};
 pub use fault::GatherFault;
 pub use gathering::gather;
+pub use schedule::{ScheduleCause, ScheduleFault, read_schedule, schedule_laws};
 pub use world::World;
 
+#[cfg(test)]
+mod schedule_tests;
 #[cfg(test)]
 mod tests;
 #[cfg(test)]
