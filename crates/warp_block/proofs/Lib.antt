@@ -1,4 +1,6 @@
 pub mod Going
+pub mod Fans
+pub mod Undoing
 pub mod Told
 pub mod Sends
 pub mod Sending

@@ -1,4 +1,10 @@
+pub mod Index
 pub mod Present
+pub mod Fan
+pub mod Woken
+pub mod StateLists
+pub mod States
+pub mod Agenda
 pub mod Entries
 pub mod Limits
 pub mod Portion

@@ -13,6 +13,7 @@
 //! for calls, `Limits` for the horizon's limit.
 #![tactic(auto)]
 
+mod agenda;
 mod block;
 mod cell;
 mod entry;
@@ -24,6 +25,7 @@ mod part;
 mod present;
 mod queue;
 mod state;
+mod states;
 
 pub use block::Block;
 pub use entry::Entry;

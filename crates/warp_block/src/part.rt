@@ -11,6 +11,7 @@ ghost use Rattle.warp_block.specs.SamePart.{SameAt, same_part};
 ghost use Rattle.warp_block.specs.Moments.{moment_of, value_in};
 
 mod build;
+mod fan;
 mod readers;
 mod same;
 mod slots;
@@ -19,6 +20,7 @@ use crate::cell::{Cell, Span};
 use crate::state::State;
 use gate_netlist::{Circuit, Cut};
 use gate_values::{Logic, flip, table};
+pub(crate) use fan::Fan;
 use std::alloc::{AllocError, Global};
 use std::marker::Model;
 

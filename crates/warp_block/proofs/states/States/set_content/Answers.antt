@@ -1,0 +1,24 @@
+use Rattle.std.proofs.Common.{◌≡◌, ◌++◌, List, [], ◌∷◌, get_or, set, ap, ◌∙◌, subst, arith}
+use Rattle.std.proofs.lemmas.List.{get_or_read}
+use Rattle.gate_values.specs.declared.logic.Logic.{Logic}
+use Rattle.gate_values.specs.declared.logic.Logic.TheVariants.{X}
+use Rattle.warp_block.specs.declared.states.Old.{Old}
+use Rattle.warp_block.specs.declared.states.Old.TheVariants.{Content}
+use Rattle.warp_block.specs.View.{Saved}
+use Rattle.warp_block.specs.States.{put_back}
+use Rattle.warp_block.specs.StateLists.{now_of}
+use Rattle.warp_block.proofs.Undoing.{pushed, undone_content}
+use Rattle.warp_block.proofs.states.States.set_content.Goals as goal
+
+pub returns-clause-saved : goal.returns-clause-saved
+returns-clause-saved c =
+    let s = c.args.self.now in
+    let own = get_or_read s.contents.items c.args.place c.index.result.now (omega (arith, s.contents.ok.0)) c.index.ensures X in
+    let at : get_or s.contents.items c.args.place X ≡ c.index.result.now = cc in
+    let o : Old = Content c.args.place c.index.result.now in
+    let after : Saved = record (now_of s) { contents = set s.contents.items c.args.place c.args.value } in
+    let back : put_back (Content c.args.place c.index.result.now) after ≡ now_of s =
+    subst (λ (v : Logic). put_back (Content c.args.place v) after ≡ now_of s) at (undone_content (now_of s) c.args.place c.args.value X) in
+    let undo : c.push_reserved.new.self.items ≡ s.undo.items ++ Content c.args.place c.index.result.now ∷ [] =
+    c.push_reserved.ensures.items ∙ ap (λ (os : List Old). os ++ Content c.args.place c.index.result.now ∷ []) c.in_ok-reserve.ensures.items in
+    rw undo (pushed (now_of s) after s.undo.items (Content c.args.place c.index.result.now) s.saved.items back c.requires.within.within)

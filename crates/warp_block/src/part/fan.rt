@@ -1,0 +1,74 @@
+ghost use Rattle.std.specs.Prelude.{◌≡◌, ◌<◌, ◌≤◌, ◌+◌, ◌++◌, ℕ, [], IfOk, OnOk, length, map, get_or, slice_index};
+ghost use Rattle.std.specs.List.{All};
+ghost use Rattle.std.specs.List.Sorted.{IsStrictlyIncreasing};
+ghost use Rattle.warp_block.specs.HeldPart.{stretch};
+ghost use Rattle.warp_block.specs.Building.{lists_of};
+ghost use Rattle.warp_block.specs.Fan.{fan_of, IsFlat};
+ghost use Rattle.warp_block.specs.Step.{source_at};
+ghost use Rattle.warp_block.specs.Woken.{wakes, AreAdded, AreWoken, IsWoken};
+
+use super::Part;
+use super::readers::{empty_lists, flattened};
+use crate::cell::{Cell, Span};
+use std::alloc::{AllocError, Global};
+use std::slice;
+
+/// For each place of a part the places whose gates look at it, and those of the flip-flops whose clock it is.
+#[derive(Debug, Drop)]
+pub(crate) struct Fan {
+    spans: Vec<Span>,
+    places: Vec<u32>,
+}
+
+impl Part {
+    /// The places whose news can change what the place puts out: a flip-flop's data can not.
+    fn wakes(&self, slot: usize) -> &[u32]
+        requires { slot < length self.now.nets }
+        ensures nets { map (slice_index self.now.nets) result.now ≡ wakes (source_at self.now slot) }
+        ensures places { All (λ place. place < length self.now.nets) result.now }
+    {
+        match &self.cells[slot] {
+            Cell::Input | Cell::Foreign => &[],
+            Cell::Gate { pins, .. } => &self.pins[pins.start..pins.start + pins.count],
+            Cell::Flop { clock, .. } => slice::from_ref(clock),
+        }
+    }
+}
+
+impl Fan {
+    /// That of a part.
+    pub(crate) fn of(alloc: Global, part: &Part) -> Result<Fan, AllocError>
+        ensures flat { IfOk result IsFlat }
+        ensures woken { IfOk result (λ fan. AreWoken part.now (length part.now.nets) (fan_of fan)) }
+    {
+        part.law();
+        let mut lists = empty_lists(alloc, part.len())?;
+        for slot in 0..part.len() {
+            add_all(part.wakes(slot), slot as u32, &mut lists)?;
+        }
+        let mut places = Vec::new(alloc);
+        let spans = flattened(alloc, &lists, &mut places)?;
+        Ok(Fan { spans, places })
+    }
+
+    /// The places that look at a place.
+    pub(crate) fn at(&self, place: usize) -> &[u32]
+        requires flat { IsFlat self.now }
+        requires place { place < length self.now.spans.items }
+        ensures { result.now ≡ get_or (fan_of self.now) place [] }
+    {
+        let span = self.spans[place];
+        &self.places[span.start..span.start + span.count]
+    }
+}
+
+/// Adds a place to the lists of some others.
+fn add_all(places: &[u32], added: u32, lists: &mut Vec<Vec<u32>>) -> Result<(), AllocError>
+    requires { All (λ place. place < length lists.old.items) places.now }
+    ensures { OnOk result (AreAdded places.now added (lists_of lists.old.items) (lists_of lists.new.items)) }
+{
+    for place in places {
+        lists[*place as usize].push(added)?;
+    }
+    Ok(())
+}

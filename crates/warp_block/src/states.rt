@@ -1,0 +1,207 @@
+//! The present state of a block, and what brings its saved ones back.
+ghost use Rattle.std.specs.Prelude.{◌≡◌, ◌<◌, ◌≤◌, ◌-◌, ◌++◌, ℕ, [], ◌∷◌, OnOk, OnErr, IfOk, length, take, drop, get_or, slice_set};
+ghost use Rattle.std.specs.List.{All};
+ghost use Rattle.std.specs.List.Sorted.{IsNonDecreasingBy, IsPartitionPoint};
+ghost use Rattle.warp_block.specs.View.{Saved};
+ghost use Rattle.warp_block.specs.States.{put_back, back};
+ghost use Rattle.warp_block.specs.StateLists.{now_of, saved_by, IsOld, FitTogether};
+
+use gate_values::Logic;
+use std::alloc::{AllocError, Global};
+
+/// A value or a content of a place, as it was.
+#[derive(Clone, Copy, Debug)]
+pub(crate) enum Old {
+    Value { place: usize, value: Logic },
+    Content { place: usize, value: Logic },
+}
+
+/// A saved state: its mark, and how much was there to be put back when it was saved.
+#[derive(Clone, Copy, Debug)]
+pub(crate) struct Place {
+    mark: u64,
+    start: usize,
+}
+
+/// What a block had computed just before a mark: the value of each of its places, and the content of each flip-flop
+/// (`X` for any other place). A saved state is this one with what has changed since put back.
+#[derive(Debug, Drop)]
+pub(crate) struct States {
+    values: Vec<Logic>,
+    contents: Vec<Logic>,
+    saved: Vec<Place>,
+    undo: Vec<Old>,
+    mark: u64,
+}
+
+impl States {
+    /// At mark 0, which is saved.
+    pub(crate) fn new(
+        alloc: Global,
+        values: Vec<Logic>,
+        contents: Vec<Logic>,
+    ) -> Result<States, AllocError>
+        ensures now { IfOk result (λ states. now_of states ≡ record { mark = 0; values = values.items; contents = contents.items }) }
+        ensures saved { IfOk result (λ states. saved_by states ≡ now_of states ∷ []) }
+        ensures within { IfOk result FitTogether }
+    {
+        let mut saved = Vec::with_capacity(alloc, 1)?;
+        saved.push_reserved(Place { mark: 0, start: 0 });
+        Ok(States {
+            values,
+            contents,
+            saved,
+            undo: Vec::new(alloc),
+            mark: 0,
+        })
+    }
+
+    /// The mark of the present state.
+    pub(crate) fn mark(&self) -> u64
+        ensures { result ≡ (now_of self.now).mark }
+    {
+        self.mark
+    }
+
+    /// The present values, by place.
+    pub(crate) fn values(&self) -> &[Logic]
+        ensures { result.now ≡ (now_of self.now).values }
+    {
+        self.values.as_slice()
+    }
+
+    /// The present contents, by place.
+    pub(crate) fn contents(&self) -> &[Logic]
+        ensures { result.now ≡ (now_of self.now).contents }
+    {
+        self.contents.as_slice()
+    }
+
+    /// Another value of a place. After an error nothing has changed.
+    pub(crate) fn set_value(&mut self, place: usize, value: Logic) -> Result<(), AllocError>
+        requires place { place < length (now_of self.old).values }
+        requires within { FitTogether self.old }
+        ensures now { OnOk result (now_of self.new ≡ record (now_of self.old) { values = slice_set (now_of self.old).values place value }) }
+        ensures saved { saved_by self.new ≡ saved_by self.old }
+        ensures err { OnErr result (now_of self.new ≡ now_of self.old) }
+        ensures within { FitTogether self.new }
+    {
+        self.undo.reserve(1)?;
+        self.undo.push_reserved(Old::Value {
+            place,
+            value: self.values[place],
+        });
+        self.values[place] = value;
+        Ok(())
+    }
+
+    /// Another content of a place. After an error nothing has changed.
+    pub(crate) fn set_content(&mut self, place: usize, value: Logic) -> Result<(), AllocError>
+        requires place { place < length (now_of self.old).contents }
+        requires within { FitTogether self.old }
+        ensures now { OnOk result (now_of self.new ≡ record (now_of self.old) { contents = slice_set (now_of self.old).contents place value }) }
+        ensures saved { saved_by self.new ≡ saved_by self.old }
+        ensures err { OnErr result (now_of self.new ≡ now_of self.old) }
+        ensures within { FitTogether self.new }
+    {
+        self.undo.reserve(1)?;
+        self.undo.push_reserved(Old::Content {
+            place,
+            value: self.contents[place],
+        });
+        self.contents[place] = value;
+        Ok(())
+    }
+
+    /// The present state is that at another mark.
+    pub(crate) fn move_to(&mut self, mark: u64)
+        requires { FitTogether self.old }
+        ensures now { now_of self.new ≡ record (now_of self.old) { mark = mark } }
+        ensures saved { saved_by self.new ≡ saved_by self.old }
+        ensures within { FitTogether self.new }
+    {
+        self.mark = mark;
+    }
+
+    /// Room for one more saved state.
+    pub(crate) fn reserve(&mut self) -> Result<(), AllocError>
+        requires { FitTogether self.old }
+        ensures now { now_of self.new ≡ now_of self.old }
+        ensures saved { saved_by self.new ≡ saved_by self.old }
+        ensures within { FitTogether self.new }
+    {
+        self.saved.reserve(1)
+    }
+
+    /// Saves the present state.
+    pub(crate) fn save(&mut self) -> Result<(), AllocError>
+        requires { FitTogether self.old }
+        ensures now { now_of self.new ≡ now_of self.old }
+        ensures saved { OnOk result (saved_by self.new ≡ saved_by self.old ++ now_of self.old ∷ []) }
+        ensures err { OnErr result (saved_by self.new ≡ saved_by self.old) }
+        ensures within { FitTogether self.new }
+    {
+        self.saved.reserve(1)?;
+        self.saved.push_reserved(Place {
+            mark: self.mark,
+            start: self.undo.len(),
+        });
+        Ok(())
+    }
+
+    /// Goes back to the newest saved state at a mark up to a time, and drops the later ones.
+    pub(crate) fn roll_back(&mut self, time: u64)
+        requires within { FitTogether self.old }
+        requires rising { IsNonDecreasingBy (λ state. state.mark) (saved_by self.old) }
+        requires first { (d : Saved) → (0 < length (saved_by self.old)) × ((get_or (saved_by self.old) 0 d).mark ≤ time) }
+        ensures kept { (k : ℕ) × (0 < k) × (k ≤ length (saved_by self.old)) × (saved_by self.new ≡ take k (saved_by self.old))
+            × IsPartitionPoint (λ state. state.mark ≤ time) (λ state. time < state.mark) (saved_by self.old) k
+            × ((d : Saved) → now_of self.new ≡ get_or (saved_by self.old) (k - 1) d) }
+        ensures within { FitTogether self.new }
+    {
+        let kept = count_until(&self.saved, time);
+        self.saved.truncate(kept);
+        let newest = self.saved[kept - 1];
+        self.put_back_to(newest.start);
+        self.mark = newest.mark;
+    }
+
+    /// Puts back what has changed since there was so much to be put back.
+    fn put_back_to(&mut self, start: usize)
+        requires start { start ≤ length self.old.undo.items }
+        requires olds { All (IsOld (length self.old.values.items) (length self.old.contents.items)) self.old.undo.items }
+        ensures now { now_of self.new ≡ back (drop start self.old.undo.items) (now_of self.old) }
+        ensures undo { self.new.undo.items ≡ take start self.old.undo.items }
+        ensures saved { self.new.saved.items ≡ self.old.saved.items }
+        ensures places { (length self.new.values.items ≡ length self.old.values.items) × (length self.new.contents.items ≡ length self.old.contents.items) }
+    {
+        while self.undo.len() > start {
+            if let Some(old) = self.undo.pop() {
+                self.put_back(old);
+            }
+        }
+    }
+
+    /// Puts back a value or a content.
+    fn put_back(&mut self, old: Old)
+        requires { IsOld (length self.old.values.items) (length self.old.contents.items) old }
+        ensures now { now_of self.new ≡ put_back old (now_of self.old) }
+        ensures undo { self.new.undo.items ≡ self.old.undo.items }
+        ensures saved { self.new.saved.items ≡ self.old.saved.items }
+        ensures places { (length self.new.values.items ≡ length self.old.values.items) × (length self.new.contents.items ≡ length self.old.contents.items) }
+    {
+        match old {
+            Old::Value { place, value } => self.values[place] = value,
+            Old::Content { place, value } => self.contents[place] = value,
+        }
+    }
+}
+
+/// How many saved states are at marks up to a time.
+fn count_until(saved: &[Place], time: u64) -> usize
+    requires { IsNonDecreasingBy (λ place. place.mark) saved.now }
+    ensures within { result ≤ length saved.now }
+    ensures split { IsPartitionPoint (λ place. place.mark ≤ time) (λ place. time < place.mark) saved.now result }
+{
+    saved.partition_point(|place| place.mark <= time)
+}
