@@ -145,7 +145,7 @@ impl Block {
         self.present.coast(&self.saved, &self.look)?;
         let state = self.look.next_state(self.present.state(&self.saved), time)?;
         self.saved.reserve(1)?;
-        self.look.finish(&state, time, out)?;
+        self.look.finish(&state.values, &state.contents, time, out)?;
         self.look.law();
         if self.present.is_due() {
             self.saved.push_reserved(state);

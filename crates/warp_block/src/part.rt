@@ -211,23 +211,24 @@ impl Part {
     pub(crate) fn output(
         &self,
         slot: usize,
-        state: &State,
+        values: &[Logic],
+        contents: &[Logic],
         operands: &mut Vec<Logic>,
     ) -> Result<Logic, AllocError>
         requires slot { slot < length self.now.nets }
-        requires values { vec_len state.now.values ≡ length self.now.nets }
-        requires contents { vec_len state.now.contents ≡ length self.now.nets }
+        requires values { length values.now ≡ length self.now.nets }
+        requires contents { length contents.now ≡ length self.now.nets }
         ensures { IfOk result (λ v. v ≡ source_output (get_or self.now.sources slot Outside)
-            (moment_of self.now.nets state.now.values.items state.now.contents.items) (slice_index self.now.nets slot)) }
+            (moment_of self.now.nets values.now contents.now) (slice_index self.now.nets slot)) }
     {
         match self.cells[slot] {
             Cell::Input | Cell::Foreign => Ok(Logic::X),
             Cell::Gate { kind, pins, .. } => {
                 let pins = &self.pins[pins.start..pins.start + pins.count];
-                pick(&state.values, pins, operands)?;
+                pick(values, pins, operands)?;
                 Ok(table(kind, operands))
             }
-            Cell::Flop { .. } => Ok(state.contents[slot]),
+            Cell::Flop { .. } => Ok(contents[slot]),
         }
     }
 

@@ -4,7 +4,6 @@ ghost use Rattle.warp_block.specs.Limits.{most_horizon};
 ghost use Rattle.warp_block.specs.declared.message.Sign.TheVariants.{Plus};
 ghost use Rattle.warp_block.specs.Portion.{is_driven};
 ghost use Rattle.warp_block.specs.Moments.{moment_of};
-ghost use Rattle.warp_block.specs.Saving.{saved_of};
 ghost use Rattle.warp_block.specs.Lawful.{IsSaved};
 ghost use Rattle.warp_block.specs.Sends.{SendsOnce};
 ghost use Rattle.warp_block.specs.Advance.{IsQuiet};
@@ -15,23 +14,23 @@ use super::Look;
 use crate::log;
 use crate::message::{Message, Sign};
 use crate::part::Part;
-use crate::state::State;
 use gate_values::{Change, Logic};
 use std::alloc::{AllocError, Global};
 
 impl Look {
-    /// Finishes an event time, whose state is given: logs what the gates put out, and tells the readers.
+    /// Finishes an event time, after which values and contents are those given: logs what the gates put out, and tells
+    /// the readers.
     pub(crate) fn finish(
         &mut self,
-        state: &State,
+        values: &[Logic],
+        contents: &[Logic],
         time: u64,
         out: &mut Vec<Message>,
     ) -> Result<(), AllocError>
         requires from { self.old.mark ≤ time }
         requires until { time ≤ self.old.horizon }
         requires quiet { IsQuiet self.old time }
-        requires mark { state.now.mark ≡ time + 1 }
-        requires lawful { IsSaved self.old (saved_of state.now) }
+        requires lawful { IsSaved self.old (record { mark = time + 1; values = values.now; contents = contents.now }) }
         ensures part { self.new.part ≡ self.old.part }
         ensures horizon { self.new.horizon ≡ self.old.horizon }
         ensures floor { self.new.floor ≡ self.old.floor }
@@ -42,7 +41,15 @@ impl Look {
         ensures untold { OnErr result (out.new.items ≡ out.old.items) }
     {
         let sent = out.len();
-        match emit_all(&self.part, state, &mut self.logs, time, self.horizon, out) {
+        match emit_all(
+            &self.part,
+            values,
+            contents,
+            &mut self.logs,
+            time,
+            self.horizon,
+            out,
+        ) {
             Ok(()) => {
                 self.mark = time + 1;
                 Ok(())
@@ -59,23 +66,24 @@ impl Look {
 /// Logs what each gate and flip-flop puts out one delay after a time, where it changes, and tells the readers.
 fn emit_all(
     part: &Part,
-    state: &State,
+    values: &[Logic],
+    contents: &[Logic],
     logs: &mut Vec<Vec<Change>>,
     time: u64,
     horizon: u64,
     out: &mut Vec<Message>,
 ) -> Result<(), AllocError>
-    requires values { vec_len state.now.values ≡ length part.now.nets }
-    requires contents { vec_len state.now.contents ≡ length part.now.nets }
+    requires values { length values.now ≡ length part.now.nets }
+    requires contents { length contents.now ≡ length part.now.nets }
     requires logs { vec_len logs.old ≡ length part.now.nets }
     requires time { time ≤ horizon }
     requires horizon { horizon ≤ most_horizon }
-    ensures ok { OnOk result (IsEmitted part.now (moment_of part.now.nets state.now.values.items state.now.contents.items) time horizon
+    ensures ok { OnOk result (IsEmitted part.now (moment_of part.now.nets values.now contents.now) time horizon
         (length part.now.nets) (lists_in logs.old.items) (lists_in logs.new.items)) }
     ensures sends { OnOk result (out.new.items ≡ out.old.items ++ told Plus part.now
-        (λ i. emitted part.now (moment_of part.now.nets state.now.values.items state.now.contents.items) i (log_at (lists_in logs.old.items) i) time horizon)
+        (λ i. emitted part.now (moment_of part.now.nets values.now contents.now) i (log_at (lists_in logs.old.items) i) time horizon)
         (length part.now.nets)) }
-    ensures err { OnErr result (IsPartlyEmitted part.now (moment_of part.now.nets state.now.values.items state.now.contents.items) time horizon
+    ensures err { OnErr result (IsPartlyEmitted part.now (moment_of part.now.nets values.now contents.now) time horizon
         (lists_in logs.old.items) (lists_in logs.new.items)) }
     ensures extends { Extends out.old.items out.new.items }
     ensures len { vec_len logs.new ≡ vec_len logs.old }
@@ -86,7 +94,17 @@ fn emit_all(
             continue;
         }
         let log = &mut logs[slot];
-        emit(part, slot, state, &mut operands, log, time, horizon, out)?;
+        emit(
+            part,
+            slot,
+            values,
+            contents,
+            &mut operands,
+            log,
+            time,
+            horizon,
+            out,
+        )?;
     }
     Ok(())
 }
@@ -95,7 +113,8 @@ fn emit_all(
 fn emit(
     part: &Part,
     slot: usize,
-    state: &State,
+    values: &[Logic],
+    contents: &[Logic],
     operands: &mut Vec<Logic>,
     log: &mut Vec<Change>,
     time: u64,
@@ -104,14 +123,14 @@ fn emit(
 ) -> Result<(), AllocError>
     requires slot { slot < length part.now.nets }
     requires own { IsTrue (is_driven (source_at part.now slot)) }
-    requires values { vec_len state.now.values ≡ length part.now.nets }
-    requires contents { vec_len state.now.contents ≡ length part.now.nets }
+    requires values { length values.now ≡ length part.now.nets }
+    requires contents { length contents.now ≡ length part.now.nets }
     requires time { time ≤ horizon }
     requires horizon { horizon ≤ most_horizon }
     ensures log { OnOk result (log.new.items ≡ log.old.items
-        ++ emitted part.now (moment_of part.now.nets state.now.values.items state.now.contents.items) slot log.old.items time horizon) }
+        ++ emitted part.now (moment_of part.now.nets values.now contents.now) slot log.old.items time horizon) }
     ensures sends { OnOk result (out.new.items ≡ out.old.items ++ flat_map (sent Plus (net_at part.now slot) (get_or part.now.readers slot []))
-        (emitted part.now (moment_of part.now.nets state.now.values.items state.now.contents.items) slot log.old.items time horizon)) }
+        (emitted part.now (moment_of part.now.nets values.now contents.now) slot log.old.items time horizon)) }
     ensures err { OnErr result (log.new.items ≡ log.old.items) }
     ensures extends { Extends out.old.items out.new.items }
 {
@@ -119,7 +138,7 @@ fn emit(
     if time > horizon {
         return Ok(());
     }
-    let value = part.output(slot, state, operands)?;
+    let value = part.output(slot, values, contents, operands)?;
     if value == log::last_value(log) {
         return Ok(());
     }

@@ -11,7 +11,7 @@ pub loop-slot-preserved : goal.loop-slot-preserved
 loop-slot-preserved c =
     let i = c.loop-slot.slot in
     let part = c.args.part.now in
-    let moment = moment_of part.nets c.args.state.now.values.items c.args.state.now.contents.items in
+    let moment = moment_of part.nets c.args.values.now c.args.contents.now in
     let before = lists_in c.args.logs.now.items in
     let in_logs : i < length c.loop-slot.logs.items = omega (arith, c.loop-slot.logs.ok.0) in
     let row = row_at c.loop-slot.logs.items i c.index_mut-log.result.now in_logs c.index_mut-log.ensures.value in
@@ -32,6 +32,6 @@ returns-in_err-emit-clause-err c =
     let part = c.args.part.now in
     let in_logs : i < length c.loop-slot.logs.items = omega (arith, c.loop-slot.logs.ok.0) in
     let row = row_at c.loop-slot.logs.items i c.index_mut-log.result.now in_logs c.index_mut-log.ensures.value in
-    let partly = IsPartlyEmitted-some part (moment_of part.nets c.args.state.now.values.items c.args.state.now.contents.items) c.args.time c.args.horizon
+    let partly = IsPartlyEmitted-some part (moment_of part.nets c.args.values.now c.args.contents.now) c.args.time c.args.horizon
     (lists_in c.args.logs.now.items) c.loop-slot.logs.items i c.index_mut-log.result.now c.emit.new.log in_logs row c.loop-slot.invariant.added c.in_err-emit.ensures.err in
     search (rules, partly)

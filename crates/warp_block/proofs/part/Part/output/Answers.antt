@@ -8,18 +8,18 @@ use Rattle.warp_block.proofs.part.Part.output.Goals as goal
 pub returns-in_ok-pick-in-Gate : goal.returns-in_ok-pick-in-Gate
 returns-in_ok-pick-in-Gate c =
     let nets = rw (← c.self.view_is) at c.requires.slot in
-    let e = gate_output c.self.inside c.self.invariant c.args.state.now.values.items c.args.state.now.contents.items c.args.slot c.index.result.now nets
+    let e = gate_output c.self.inside c.self.invariant c.args.values.now c.args.contents.now c.args.slot c.index.result.now nets
     c.in-Gate.kind c.in-Gate.delay c.in-Gate.pins (sym c.index.ensures ∙ c.in-Gate.is) in
-    let same = picked_along c.args.state.now.values.items c.deref-in-Gate.result.now c.self.inside.pins.items c.deref.result.now c.in-Gate.pins
+    let same = picked_along c.args.values.now c.deref-in-Gate.result.now c.self.inside.pins.items c.deref.result.now c.in-Gate.pins
     c.deref-in-Gate.ensures.value c.deref.ensures.value in
     rw (← c.self.view_is) (c.table.ensures ∙ ap (table_of c.in-Gate.kind) (c.deref-in-Gate-2.ensures.value ∙ c.in_ok-pick-in-Gate.ensures ∙ same) ∙ sym e)
 
 pub returns-in-Flop : goal.returns-in-Flop
 returns-in-Flop c =
-    let contents = c.args.state.now.contents in
+    let contents = c.args.contents.now in
     let nets = rw (← c.self.view_is) at c.requires.slot in
     let many = rw (← c.self.view_is) at c.requires.contents in
-    let e = flop_output c.self.inside c.self.invariant c.args.state.now.values.items contents.items c.args.slot c.index.result.now nets
+    let e = flop_output c.self.inside c.self.invariant c.args.values.now contents c.args.slot c.index.result.now nets
     c.in-Flop.delay c.in-Flop.d c.in-Flop.clock c.in-Flop.init (sym c.index.ensures ∙ c.in-Flop.is) in
-    let own = get_or_read contents.items c.args.slot c.index-in-Flop.result.now (omega (arith, contents.ok.0)) c.index-in-Flop.ensures X in
+    let own = get_or_read contents c.args.slot c.index-in-Flop.result.now (omega (arith, many, nets)) c.index-in-Flop.ensures X in
     rw (← c.self.view_is) (cc (e, own))
