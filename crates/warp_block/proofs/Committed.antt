@@ -12,13 +12,11 @@ use Rattle.gate_values.specs.Behaviour.{Source, value, delay_of}
 use Rattle.gate_values.specs.Changes.{changes, before_time, pair_at}
 use Rattle.gate_values.proofs.ChangeLists.{before_time-changes}
 use Rattle.warp_block.specs.declared.fault.BlockFault.{BlockFault}
-use Rattle.warp_block.specs.declared.state.State.{State}
 use Rattle.warp_block.specs.Entries.{effective_of, is_settled}
 use Rattle.warp_block.specs.Portion.{is_driven, source_of, is_used}
 use Rattle.warp_block.specs.View.{View, Saved, entry_of, effective_at, news_of, is_busy, busy_times}
 use Rattle.warp_block.specs.Lawful.{IsLawful, IsSaved, AreSpaced, AreSaved, IsLawfulProcess, lawful_log}
 use Rattle.warp_block.specs.Advance.{IsQuiet}
-use Rattle.warp_block.specs.Saving.{saved_of}
 use Rattle.warp_block.specs.Commit.{IsCommittable, IsCommitted, IsCommitRefusal}
 use Rattle.warp_block.proofs.Running.{given, run_log, run_log-past, driven_or_not, le_cases}
 use Rattle.warp_block.proofs.Views.{timed, news_of-run}
@@ -153,10 +151,6 @@ module _ (v : View) (is : IsLawful v) (floor : ℕ) (can : IsCommittable v floor
       );
       few = (kept_from ss k law.saved point within).1;
     }
-
--- what is left of the states, as contracts see them
-pub forgotten : (states left : List State) (k : ℕ) → left ≡ drop (k - 1) states → map saved_of left ≡ drop (k - 1) (map saved_of states)
-forgotten states left k e = ap (map saved_of) e ∙ sym (drop-map saved_of (k - 1) states)
 
 -- a refusal is handed on
 pub refused_with : (v : View) (floor : ℕ) (r : Result (Unit {0}) BlockFault) (fault : BlockFault) → IsErrAnd r (λ f. f ≡ fault) → IsCommitRefusal v floor fault → IfErr r (IsCommitRefusal v floor)

@@ -1,4 +1,7 @@
+pub mod Newest
 pub mod Going
+pub mod Keeping
+pub mod Coasting
 pub mod Fans
 pub mod Undoing
 pub mod Told

@@ -1,5 +1,5 @@
 -- What the fields of a part say of its nets.
-use Rattle.std.proofs.Common.{◌≡◌, ℕ, suc, ◌+◌, ◌-◌, ◌<◌, List, [], ◌∷◌, map, take, drop, length, get_or, refl, ap, subst, ◌∙◌, arith}
+use Rattle.std.proofs.Common.{◌≡◌, ℕ, suc, ◌+◌, ◌-◌, ◌<◌, List, [], ◌∷◌, map, take, drop, length, get_or, Some, refl, ap, sym, subst, ◌∙◌, arith}
 use Rattle.std.specs.List.{All}
 use Rattle.std.specs.List.Sorted.{IsStrictlyIncreasing}
 use Rattle.std.proofs.lemmas.List.{get_or-map}
@@ -15,6 +15,7 @@ use Rattle.warp_block.specs.declared.part.Part.TheInside.{Inside}
 use Rattle.warp_block.specs.HeldPart.{IsHeld, portion_of, cell_source, stretch, CellFits}
 use Rattle.warp_block.specs.declared.cell.Span.{Span}
 use Rattle.warp_block.specs.Moments.{value_in, moment_of}
+use Rattle.warp_block.specs.Contents.{clock_of}
 use Rattle.warp_block.proofs.Slots.{of_net-at}
 
 -- a copy of the fields is a part
@@ -71,14 +72,20 @@ module _ (p : Inside) (h : IsHeld p) (values contents : List Logic) (i : ℕ) (e
   flop_output delay d clock init is =
       rw (source-at p i e (Flop delay d clock init) h l is) (of_net-at p.nets.items contents X i h.portion.ascending l)
 
-  pub flop_content : (now : List Logic) (delay d clock : ℕ) (init : Logic) → get_or p.cells.items i e ≡ Flop delay d clock init
-      → next_content (get_or (portion_of p).sources i Outside) (value_in p.nets.items now) (moment_of p.nets.items values contents) (get_or p.nets.items i 0)
-      ≡ flip_of (get_or contents i X) (get_or values clock X) (get_or now clock X) (get_or values d X)
-  flop_content now delay d clock init is =
+  pub flop_content : (edge : Logic) (delay d clock : ℕ) (init : Logic) → get_or p.cells.items i e ≡ Flop delay d clock init
+      → next_content (get_or (portion_of p).sources i Outside) (λ n. edge) (moment_of p.nets.items values contents) (get_or p.nets.items i 0)
+      ≡ flip_of (get_or contents i X) (get_or values clock X) edge (get_or values d X)
+  flop_content edge delay d clock init is =
       let fits : CellFits (length p.nets.items) (length p.pins.items) (Flop delay d clock init) = fits-at p i e (Flop delay d clock init) h l is in
       let up = h.portion.ascending in
       let own = of_net-at p.nets.items contents X i up l in
       let before = of_net-at p.nets.items values X clock up fits.1 in
-      let after = of_net-at p.nets.items now X clock up fits.1 in
       let given = of_net-at p.nets.items values X d up fits.0 in
       rw (source-at p i e (Flop delay d clock init) h l is) cc
+
+  -- the clock of a flip-flop, and of no other place
+  pub clock_found : (delay d clock : ℕ) (init : Logic) → get_or p.cells.items i e ≡ Flop delay d clock init → Some (get_or p.nets.items clock 0) ≡ clock_of (get_or (portion_of p).sources i Outside)
+  clock_found delay d clock init is = sym (ap clock_of (source-at p i e (Flop delay d clock init) h l is))
+
+  pub clock_within : (delay d clock : ℕ) (init : Logic) → get_or p.cells.items i e ≡ Flop delay d clock init → clock < length p.nets.items
+  clock_within delay d clock init is = (fits-at p i e (Flop delay d clock init) h l is).1

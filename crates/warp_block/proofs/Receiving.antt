@@ -12,14 +12,12 @@ use Rattle.gate_values.specs.Changes.{same}
 use Rattle.gate_values.proofs.ChangeLists.{same_is, same_refl}
 use Rattle.warp_block.specs.declared.entry.Entry.{Entry}
 use Rattle.warp_block.specs.declared.message.Message.{Message}
-use Rattle.warp_block.specs.declared.state.State.{State}
 use Rattle.warp_block.specs.Entries.{number_of, with_number, bump_of, weight_of, is_within, effective_of}
 use Rattle.warp_block.specs.View.{View, Saved, entry_of, effective_at, is_busy}
 use Rattle.warp_block.specs.Lawful.{IsLawful, IsSaved, AreSpaced, AreSaved}
 use Rattle.warp_block.specs.Receive.{IsTaken, IsPut, IsAdmitted, IsRefusal, does_tell}
 use Rattle.warp_block.specs.declared.fault.BlockFault.{BlockFault}
 use Rattle.warp_block.specs.declared.fault.BlockFault.TheVariants.{Memory}
-use Rattle.warp_block.specs.Saving.{saved_of}
 use Rattle.warp_block.proofs.SavingBusy.{busy_agree}
 use Rattle.warp_block.proofs.SavingStates.{all_kept, spaced_kept, spaced_cut}
 use Rattle.warp_block.proofs.SavingStep.{saved_marks}
@@ -194,11 +192,11 @@ module _ (v w : View) (m : Message) (slot : ℕ) (entry : Entry) (admitted : IsA
         (all_kept v w isv put.part v.mark agree ss (saved_marks v ss saved) states, kept_spaced mark agree ss saved)
 
     -- and the state that the block goes on from is too
-    pub kept_present : (base : Saved) (pending : Option Saved) (since : ℕ) → IsPresentFrom v base pending since → w.mark ≡ v.mark → (v.mark ≤ m.time) ⊎ (effective_of entry ≡ effective_at v m.net m.time) → IsPresentFrom w base pending since
-    kept_present base pending since h mark early =
+    pub kept_present : (base last : Saved) (since : ℕ) → IsPresentFrom v base last since → w.mark ≡ v.mark → (v.mark ≤ m.time) ⊎ (effective_of entry ≡ effective_at v m.net m.time) → IsPresentFrom w base last since
+    kept_present base last since h mark early =
         let agree : (n t : ℕ) → t < v.mark → effective_at v n t ≡ effective_at w n t =
         λ n t l. elim early [ inl late ↦ effective_other n t (let ne : t ≢ m.time = omega arith in ne) | inr kept ↦ effective_same kept n t ] in
-        present_kept v w isv put.part agree (λ t l. same_below (λ n u k. agree n u (omega (arith, mark, k))) t l (omega (arith, mark, l))) (omega (arith, mark)) base pending since h
+        present_kept v w isv put.part agree (λ t l. same_below (λ n u k. agree n u (omega (arith, mark, k))) t l (omega (arith, mark, l))) (omega (arith, mark)) base last since h
 
 -- a want of memory is no refusal of the message
 pub refused_memory : (r : Result (Unit {0}) BlockFault) (refusal : Option BlockFault) → IsErrAnd r (λ f. f ≡ Memory) → refusal ≡ None → IfErr r (IsRefusal refusal)
@@ -218,27 +216,9 @@ spaced_rise v s ss h (suc i) zero d l k = absurd (omega arith)
 spaced_rise v s [] h (suc i) (suc j) d l k = absurd (omega arith)
 spaced_rise v s (r ∷ ss) h (suc i) (suc j) d l k = spaced_rise v r ss h.3 i j d (omega arith) (omega arith)
 
-saved_rise : (v : View) (ss : List Saved) → AreSaved v ss → IsNonDecreasingBy (λ (s : Saved). s.mark) ss
+pub saved_rise : (v : View) (ss : List Saved) → AreSaved v ss → IsNonDecreasingBy (λ (s : Saved). s.mark) ss
 saved_rise v [] h = absurd h
 saved_rise v (s ∷ ss) h = spaced_rise v s ss h.1
-
-pub states_rise : (v : View) (states : List State) → AreSaved v (map saved_of states) → IsNonDecreasingBy (λ (s : State). s.mark) states
-states_rise v states h i j d l k =
-    let short : i < length states = omega arith in
-    let rise = saved_rise v (map saved_of states) h i j (saved_of d) l (omega (arith, length-map states saved_of)) in
-    subst (λ (x : Saved). x.mark ≤ (get_or states j d).mark) (get_or-map saved_of states i d (saved_of d) short)
-    (subst (λ (x : Saved). (get_or (map saved_of states) i (saved_of d)).mark ≤ x.mark) (get_or-map saved_of states j d (saved_of d) k) rise)
-
--- a partition of states is one of what contracts see of them
-pub saved_point : (states : List State) (time k : ℕ) → IsPartitionPoint (λ (s : State). s.mark ≤ time) (λ (s : State). time < s.mark) states k →
-    (k ≤ length states) → IsPartitionPoint (λ (s : Saved). s.mark ≤ time) (λ (s : Saved). time < s.mark) (map saved_of states) k
-saved_point [] time k point within = ((λ j d a b. absurd (omega arith)), (λ j d a b. absurd (omega arith)))
-saved_point (x ∷ states) time k point within = (
-  (λ j d a b. (let short : j < length (x ∷ states) = omega arith in
-      subst (λ (s : Saved). s.mark ≤ time) (sym (get_or-map saved_of (x ∷ states) j x d short)) (point.0 j x a b))),
-  (λ j d a b. (let short : j < length (x ∷ states) = omega (arith, b, length-map (x ∷ states) saved_of) in
-      subst (λ (s : Saved). time < s.mark) (sym (get_or-map saved_of (x ∷ states) j x d short)) (point.1 j x a short))),
-)
 
 -- effective values that don't differ are the same
 same_value : (x y : Logic) → ((x ≡ y → ⊥) → ⊥) → x ≡ y

@@ -4,15 +4,13 @@ use Rattle.std.specs.List.{All}
 use Rattle.std.proofs.lemmas.Bool.{cases_lt}
 use Rattle.std.proofs.lemmas.List.{get_or-map, length-map}
 use Rattle.std.proofs.lemmas.List.Elements.{All-nil, All-cons, All-push}
-use Rattle.warp_block.specs.declared.state.State.{State}
 use Rattle.warp_block.specs.declared.state.TheConstants.{SAVE_EVERY}
 use Rattle.warp_block.specs.Entries.{Received, entry_in, effective_of}
 use Rattle.warp_block.specs.Portion.{Portion, of_net}
 use Rattle.warp_block.specs.View.{View, Saved, effective_at, is_busy, busy_times, IsLeast, IsEventTime}
 use Rattle.warp_block.specs.Lawful.{IsLawful, IsSaved, AreSaved, IsLawfulProcess}
 use Rattle.warp_block.specs.Advance.{IsAdvanced, IsQuiet, IsCaughtUp}
-use Rattle.warp_block.specs.Present.{newest, newest_of, present_of, present_from, IsPresent, IsPresentFrom}
-use Rattle.warp_block.specs.Saving.{saved_of}
+use Rattle.warp_block.specs.Present.{newest, newest_of, IsPresent, IsPresentFrom}
 use Rattle.warp_block.proofs.SavingTimes.{times-split, times-none, times-one, times-agree}
 use Rattle.warp_block.proofs.SavingBusy.{busy_is, busy_is-next, happens_agree, busy_agree}
 use Rattle.warp_block.proofs.SavingStates.{saved_kept, all_kept, spaced_until, spaced_marks, spaced_push, spaced_more}
@@ -72,24 +70,24 @@ module _ (v w : View) (is : IsLawful v) (isw : IsLawful w) (part : w.part ≡ v.
   }
 
   -- how many busy times there are since the newest saved state
-  count_on : (base : Saved) (pending : Option Saved) (since : ℕ) → IsPresentFrom v base pending since → IsCaughtUp v (present_from base pending).mark →
+  count_on : (base : Saved) (last : Saved) (since : ℕ) → IsPresentFrom v base last since → IsCaughtUp v last.mark →
       busy_times w base.mark w.mark ≡ since + 1
-  count_on base pending since h caught =
+  count_on base last since h caught =
       let from = least.0.0 in
       let up = h.from in
       let until = h.until in
       let counted = h.count in
-      let now : ℕ = (present_from base pending).mark in
-      let first : busy_times v base.mark v.mark ≡ busy_times v base.mark (present_from base pending).mark + busy_times v (present_from base pending).mark v.mark =
-      times-split (is_busy v) base.mark (present_from base pending).mark v.mark up until in
-      let none : busy_times v (present_from base pending).mark v.mark ≡ 0 = times-none (is_busy v) (present_from base pending).mark v.mark caught in
+      let now : ℕ = last.mark in
+      let first : busy_times v base.mark v.mark ≡ busy_times v base.mark last.mark + busy_times v last.mark v.mark =
+      times-split (is_busy v) base.mark last.mark v.mark up until in
+      let none : busy_times v last.mark v.mark ≡ 0 = times-none (is_busy v) last.mark v.mark caught in
       let same : busy_times v base.mark v.mark ≡ busy_times w base.mark v.mark = times-agree (is_busy v) (is_busy w) base.mark v.mark (λ t a b. same_before t b (omega (arith, mark, from, b))) in
       let split : busy_times w base.mark w.mark ≡ busy_times w base.mark v.mark + busy_times w v.mark w.mark = times-split (is_busy w) base.mark v.mark w.mark (omega (arith, up, until)) (omega (arith, mark, from)) in
       let one = finished_one in
       omega (arith, first, none, same, split, one, counted)
 
-  module _ (ss : List Saved) (law : IsLawfulProcess (record { seen = v; saved = ss })) (pending : Option Saved) (since : ℕ) (present : IsPresent v ss pending since)
-      (caught : IsCaughtUp v (present_of ss pending).mark) (new : Saved) (at : new.mark ≡ time + 1) (holds : IsSaved v new) where
+  module _ (ss : List Saved) (law : IsLawfulProcess (record { seen = v; saved = ss })) (last : Saved) (since : ℕ) (present : IsPresent v ss last since)
+      (caught : IsCaughtUp v last.mark) (new : Saved) (at : new.mark ≡ time + 1) (holds : IsSaved v new) where
     new_is : new.mark ≡ w.mark
     new_is = omega (arith, at, mark)
 
@@ -107,11 +105,11 @@ module _ (v w : View) (is : IsLawful v) (isw : IsLawful w) (part : w.part ≡ v.
       saved = go ss law.saved present caught;
     }
       where
-        go : (ss : List Saved) → AreSaved v ss → IsPresent v ss pending since → IsCaughtUp v (present_of ss pending).mark → AreSaved w (ss ++ new ∷ [])
+        go : (ss : List Saved) → AreSaved v ss → IsPresent v ss last since → IsCaughtUp v last.mark → AreSaved w (ss ++ new ∷ [])
         go [] h present caught = absurd h
         go (s ∷ ss) h present caught =
             let from = least.0.0 in
-            let all : busy_times w (newest s ss).mark new.mark ≡ SAVE_EVERY = subst (λ (e : ℕ). busy_times w (newest s ss).mark e ≡ SAVE_EVERY) (sym new_is) (count_on (newest s ss) pending since present caught ∙ due) in
+            let all : busy_times w (newest s ss).mark new.mark ≡ SAVE_EVERY = subst (λ (e : ℕ). busy_times w (newest s ss).mark e ≡ SAVE_EVERY) (sym new_is) (count_on (newest s ss) last since present caught ∙ due) in
             let busy : is_busy w (new.mark - 1) ≡ true = subst (λ (e : ℕ). is_busy w (e - 1) ≡ true) (sym new_is) busy_last in
             (omega (arith, h.0, floor), spaced_push v w same_before new (omega (arith, from, at)) new_is busy s ss all h.1)
 
@@ -123,18 +121,18 @@ module _ (v w : View) (is : IsLawful v) (isw : IsLawful w) (part : w.part ≡ v.
       saved = go ss law.saved present caught;
     }
       where
-        go : (ss : List Saved) → AreSaved v ss → IsPresent v ss pending since → IsCaughtUp v (present_of ss pending).mark → AreSaved w ss
+        go : (ss : List Saved) → AreSaved v ss → IsPresent v ss last since → IsCaughtUp v last.mark → AreSaved w ss
         go [] h present caught = absurd h
         go (s ∷ ss) h present caught =
             let from = least.0.0 in
-            let all = count_on (newest s ss) pending since present caught in
+            let all = count_on (newest s ss) last since present caught in
             (omega (arith, h.0, floor), spaced_more v w same_before (omega (arith, from, mark)) s ss (omega (arith, all, early)) h.1)
 
     -- which then is the present one
-    pub one_present : IsPresent w ss (Some new) (since + 1)
+    pub one_present : IsPresent w ss new (since + 1)
     one_present = record {
       holds = holds_on;
       from = (let a = present.from in let b = present.until in let from = least.0.0 in omega (arith, a, b, from, at));
       until = omega (arith, new_is);
-      count = subst (λ (e : ℕ). busy_times w (newest_of ss).mark e ≡ since + 1) (sym new_is) (count_on (newest_of ss) pending since present caught);
+      count = subst (λ (e : ℕ). busy_times w (newest_of ss).mark e ≡ since + 1) (sym new_is) (count_on (newest_of ss) last since present caught);
     }

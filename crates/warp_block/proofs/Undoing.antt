@@ -1,15 +1,16 @@
 -- States that are put back.
-use Rattle.std.proofs.Common.{◌≡◌, ℕ, zero, suc, ◌+◌, ◌-◌, ◌<◌, ◌≤◌, ◌++◌, List, [], ◌∷◌, map, take, drop, length, get_or, set, refl, ap, sym, ◌∙◌, subst, arith, All}
+use Rattle.std.proofs.Common.{◌≡◌, ◌≢◌, ℕ, zero, suc, ◌+◌, ◌-◌, ◌<◌, ◌≤◌, ◌++◌, inl, inr, List, [], ◌∷◌, map, take, drop, length, get_or, set, refl, ap, sym, ◌∙◌, subst, arith, All, get_or-set_same, get_or-set_other}
 use Rattle.std.specs.List.Sorted.{IsNonDecreasingBy, IsPartitionPoint}
-use Rattle.std.proofs.lemmas.List.{append_assoc, drop-append-le, length-append, append-nil, length-take-le, length-take, get_or-take, take-map, length-map, get_or-map, get_or_default, get_or_append_left}
+use Rattle.std.proofs.lemmas.List.{append_assoc, drop-append-le, length-append, append-nil, length-take-le, length-take, get_or-take, take-map, length-map, get_or-map, get_or_default, get_or_append_left, get_or-drop, length-drop, drop-map, length-set, ext_get_or}
+use Rattle.std.proofs.lemmas.Bool.{cases_eq}
 use Rattle.std.proofs.lemmas.List.Elements.{All-head, All-tail, All-take}
-use Rattle.std.proofs.Math.Seq.{set-get_or, set-set}
+use Rattle.std.proofs.Math.Seq.{set-get_or, set-set, drop-nil}
 use Rattle.gate_values.specs.declared.logic.Logic.{Logic}
 use Rattle.warp_block.specs.declared.states.Old.{Old}
 use Rattle.warp_block.specs.declared.states.Old.TheVariants.{Value, Content}
 use Rattle.warp_block.specs.declared.states.Place.{Place}
 use Rattle.warp_block.specs.View.{Saved}
-use Rattle.warp_block.specs.States.{put_back, back, state_at, states_at, AreWithin}
+use Rattle.warp_block.specs.States.{put_back, back, state_at, states_at, earlier, AreWithin}
 use Rattle.warp_block.specs.StateLists.{IsOld}
 
 pub back-append : (xs ys : List Old) (s : Saved) → back (xs ++ ys) s ≡ back xs (back ys s)
@@ -159,3 +160,85 @@ pub first_kept : (now : Saved) (undo : List Old) (places : List Place) (time k :
 first_kept now undo [] time k first point = (let h = first now in absurd (let none = h.0 in omega (arith, none)))
 first_kept now undo (p ∷ ps) time zero first point = (let h = (first now).1 in let late = point.1 0 p (omega arith) (omega arith) in absurd (omega (arith, h, late)))
 first_kept now undo (p ∷ ps) time (suc k) first point = omega arith
+
+drop_twice : {A : Type 0} (m n k : ℕ) (xs : List A) → m + n ≡ k → drop n (drop m xs) ≡ drop k xs
+drop_twice zero n k xs e = ap (λ j. drop j xs) (let same : n ≡ k = omega (arith, e) in same)
+drop_twice (suc m) n zero xs e = absurd (omega (arith, e))
+drop_twice (suc m) n (suc k) [] e = drop-nil n
+drop_twice (suc m) n (suc k) (x ∷ xs) e = drop_twice m n k xs (omega (arith, e))
+
+-- states stay where each begins so much earlier in what is left to be put back
+earlier_states : (now : Saved) (undo : List Old) (places : List Place) (s : ℕ) → All (λ (p : Place). s ≤ p.start) places →
+    states_at now (drop s undo) (map (earlier s) places) ≡ states_at now undo places
+earlier_states now undo [] s h = refl
+earlier_states now undo (p ∷ ps) s h =
+    let later : s ≤ p.start = All-head (λ (q : Place). s ≤ q.start) p ps h in
+    let rest = earlier_states now undo ps s (All-tail (λ (q : Place). s ≤ q.start) p ps h) in
+    let here : state_at now (drop s undo) (earlier s p) ≡ state_at now undo p =
+    ap (λ (os : List Old). record (back os now) { mark = p.mark }) (drop_twice s (p.start - s) p.start undo (omega (arith, later))) in
+    cc
+
+module _ (now : Saved) (undo : List Old) (places : List Place) (within : AreWithin undo places) (rising : IsNonDecreasingBy (λ (p : Place). p.start) places)
+    (count : ℕ) (few : count < length places) (p : Place) (at : p ≡ get_or (drop count places) 0 p) where
+  oldest : p ≡ get_or places count p
+  oldest = at ∙ (get_or-drop count places 0 p ∙ ap (λ i. get_or places i p) (let e : count + 0 ≡ count = omega arith in e))
+
+  pub oldest_within : p.start ≤ length undo
+  oldest_within = subst (λ (q : Place). q.start ≤ length undo) (sym oldest) (within count p few)
+
+  -- those that are left begin from the oldest one on
+  pub left_from : All (λ (q : Place). p.start ≤ q.start) (drop count places)
+  left_from j d l =
+      let short : count + j < length places = omega (arith, l, length-drop count places) in
+      let same : get_or places count d ≡ p = get_or_default places count d p few ∙ sym oldest in
+      subst (λ (q : Place). p.start ≤ q.start) (sym (get_or-drop count places j d))
+      (subst (λ (q : Place). q.start ≤ (get_or places (count + j) d).start) same (rising count (count + j) d (omega arith) short))
+
+  -- after the first states are dropped, and what brings them alone back, the others are as they were
+  pub left_states : states_at now (drop p.start undo) (map (earlier p.start) (drop count places)) ≡ drop count (states_at now undo places)
+  left_states = earlier_states now undo (drop count places) p.start left_from ∙ sym (drop-map (state_at now undo) count places)
+
+  pub left_within : AreWithin (drop p.start undo) (map (earlier p.start) (drop count places))
+  left_within j d l =
+      let some : j < length (drop count places) = omega (arith, l, length-map (drop count places) (earlier p.start)) in
+      let short : count + j < length places = omega (arith, some, length-drop count places) in
+      let inside = within (count + j) d short in
+      let size = length-drop p.start undo in
+      subst (λ (q : Place). q.start ≤ length (drop p.start undo)) (sym (get_or-map (earlier p.start) (drop count places) j d d some))
+      (subst (λ (q : Place). q.start - p.start ≤ length (drop p.start undo)) (sym (get_or-drop count places j d)) (omega (arith, inside, size)))
+
+  pub left_rising : IsNonDecreasingBy (λ (q : Place). q.start) (map (earlier p.start) (drop count places))
+  left_rising i j d l h =
+      let some : j < length (drop count places) = omega (arith, h, length-map (drop count places) (earlier p.start)) in
+      let less : i < length (drop count places) = omega (arith, some, l) in
+      let short : count + j < length places = omega (arith, some, length-drop count places) in
+      let up = rising (count + i) (count + j) d (omega (arith, l)) short in
+      subst (λ (q : Place). q.start ≤ (get_or (map (earlier p.start) (drop count places)) j d).start) (sym (get_or-map (earlier p.start) (drop count places) i d d less))
+      (subst (λ (q : Place). (get_or (drop count places) i d).start - p.start ≤ q.start) (sym (get_or-map (earlier p.start) (drop count places) j d d some))
+      (subst (λ (q : Place). q.start - p.start ≤ (get_or (drop count places) j d).start - p.start) (sym (get_or-drop count places i d))
+      (subst (λ (q : Place). (get_or places (count + i) d).start - p.start ≤ q.start - p.start) (sym (get_or-drop count places j d)) (omega (arith, up)))))
+
+-- the first places begin earlier, and the others are as they were
+pub record AreEarlier (count i : ℕ) (old now : List Place) : Type 0 where
+  pub same : length now ≡ length old
+  pub below : (k : ℕ) (d : Place) → k < i → k < length old → get_or now k d ≡ earlier count (get_or old k d)
+  pub above : (k : ℕ) (d : Place) → i ≤ k → get_or now k d ≡ get_or old k d
+
+pub one_earlier : (count i : ℕ) (old now : List Place) (p : Place) → AreEarlier count i old now → i < length old → p ≡ earlier count (get_or now i p) → AreEarlier count (i + 1) old (set now i p)
+one_earlier count i old now p h l is = record {
+  same = length-set now i p ∙ h.same;
+  below = λ k d less within. elim (cases_eq k i) [
+    | inl e ↦ subst (λ (j : ℕ). get_or (set now i p) j d ≡ earlier count (get_or old j d)) (sym e)
+        (get_or-set_same now i p d (omega (arith, l, h.same)) ∙ (is ∙ ap (earlier count) (h.above i p (omega arith) ∙ get_or_default old i p d l)))
+    | inr ne ↦ get_or-set_other now i k p d ne ∙ h.below k d (omega (arith, less, ne)) within
+  ];
+  above = λ k d more. (let ne : k ≢ i = omega (arith, more) in get_or-set_other now i k p d ne ∙ h.above k d (omega (arith, more)));
+}
+
+pub all_earlier : (count i : ℕ) (old now : List Place) → AreEarlier count i old now → length old ≤ i → now ≡ map (earlier count) old
+all_earlier count i [] [] h all = refl
+all_earlier count i [] (q ∷ now) h all = absurd (let e = h.same in omega (arith, e))
+all_earlier count i (p ∷ old) now h all =
+    ext_get_or p now (map (earlier count) (p ∷ old)) (h.same ∙ sym (length-map (p ∷ old) (earlier count)))
+    (λ k l. (let short : k < length (p ∷ old) = omega (arith, l, h.same) in
+    h.below k p (omega (arith, short, all)) short ∙ sym (get_or-map (earlier count) (p ∷ old) k p p short)))

@@ -1,5 +1,6 @@
 pub mod Index
 pub mod Present
+pub mod Contents
 pub mod Fan
 pub mod Woken
 pub mod StateLists
@@ -18,7 +19,6 @@ pub mod Building
 pub mod SamePart
 pub mod Moments
 pub mod Held
-pub mod Saving
 pub mod HeldBlock
 pub mod Opening
 pub mod Receive

@@ -1,5 +1,5 @@
 -- What contracts see of a block's states.
-use Rattle.std.specs.Prelude.{◌≡◌, ℕ, ◌<◌, List, map, length}
+use Rattle.std.specs.Prelude.{◌≡◌, ℕ, ◌<◌, List, map, length, vec_len, vec_capacity}
 use Rattle.std.specs.List.{All}
 use Rattle.std.specs.List.Sorted.{IsNonDecreasingBy}
 use Rattle.warp_block.specs.declared.states.Old.{Old}
@@ -27,3 +27,7 @@ pub record FitTogether (s : States) : Type 0 where
   pub within : AreWithin s.undo.items s.saved.items
   pub rising : IsNonDecreasingBy (λ (p : Place). p.start) s.saved.items
   pub olds : All (IsOld (length s.values.items) (length s.contents.items)) s.undo.items
+
+-- one more state can be saved
+abbrev pub HasRoom : States → Type 0
+HasRoom s = vec_len s.saved < vec_capacity s.saved

@@ -1,5 +1,5 @@
 -- Saved states, kept as what brings them back.
-use Rattle.std.specs.Prelude.{ℕ, List, [], ◌∷◌, map, drop, length, slice_set, ◌≤◌}
+use Rattle.std.specs.Prelude.{ℕ, List, [], ◌∷◌, map, drop, length, slice_set, ◌≤◌, ◌-◌}
 use Rattle.std.specs.List.{All}
 use Rattle.gate_values.specs.declared.logic.Logic.{Logic}
 use Rattle.warp_block.specs.declared.states.Old.{Old}
@@ -23,6 +23,10 @@ state_at now undo p = record (back (drop p.start undo) now) { mark = p.mark }
 
 abbrev pub states_at : Saved → List Old → List Place → List Saved
 states_at now undo places = map (state_at now undo) places
+
+-- a place that begins so much earlier
+abbrev pub earlier : ℕ → Place → Place
+earlier count p = record p { start = p.start - count }
 
 -- no place begins past the end
 abbrev pub AreWithin : List Old → List Place → Type 0

@@ -1,5 +1,4 @@
 ghost use Rattle.std.specs.Prelude.{◌≡◌, ◌≢◌, ◌+◌, ◌-◌, ◌≤◌, ◌<◌, ◌↔◌, ◌⊎◌, ℕ, IsTrue, IfOk, IfErr, OnOk, OnErr, Some, None, length, take, drop};
-ghost use Rattle.std.specs.List.Sorted.{IsNonDecreasingBy, IsPartitionPoint};
 ghost use Rattle.warp_block.specs.Limits.{most_horizon};
 ghost use Rattle.warp_block.specs.declared.message.Sign.TheVariants.{Plus, Minus};
 ghost use Rattle.warp_block.specs.Entries.{no_messages};
@@ -16,8 +15,7 @@ use crate::fault::BlockFault;
 use crate::look::Look;
 use crate::message::Message;
 use crate::part::Part;
-use crate::present::Present;
-use crate::state::State;
+use crate::states::States;
 use gate_values::Change;
 use gate_vcd::Stimulus;
 use std::alloc::{AllocError, Global};
@@ -27,8 +25,7 @@ use std::marker::Model;
 #[derive(Debug, Drop)]
 pub struct Block {
     look: Look,
-    saved: Vec<State>,
-    present: Present,
+    states: States,
 }
 
 impl Model for Block {
@@ -62,16 +59,9 @@ impl Block {
     {
         let look = Look::new(alloc, part, stimulus, horizon)?;
         look.law();
-        let first = look.first_state()?;
-        let mut saved = Vec::new(alloc);
-        saved.push(first)?;
+        let states = look.first_states()?;
         look.tell_logged(out)?;
-        let present = Present::newest();
-        Ok(Block {
-            look,
-            saved,
-            present,
-        })
+        Ok(Block { look, states })
     }
 
     /// What is true of every block: its log and saved states are those of running what it has received, in order of
@@ -79,7 +69,7 @@ impl Block {
     pub fn law(&self)
         ensures { IsLawfulProcess self.now }
     {
-        let _ = &self.saved;
+        let _ = &self.states;
     }
 
     /// Takes one message, or antimessage: the number that it names goes up, or down, by one. Where this changes what
@@ -103,8 +93,7 @@ impl Block {
         if self.look.is_straggler(slot, message.time, entry) {
             self.look.roll_back(slot, message.time, entry, out)?;
             self.look.law();
-            keep_until(&mut self.saved, message.time);
-            self.present = Present::newest();
+            self.states.roll_back(message.time);
             return Ok(());
         }
         self.look.take_in(slot, message.time, entry)?;
@@ -142,17 +131,19 @@ impl Block {
         ensures err { OnErr result (self.new ≡ self.old) }
         ensures untold { OnErr result (out.new.items ≡ out.old.items) }
     {
-        self.present.coast(&self.saved, &self.look)?;
-        let state = self.look.next_state(self.present.state(&self.saved), time)?;
-        self.saved.reserve(1)?;
-        self.look.finish(&state.values, &state.contents, time, out)?;
+        self.look.coast(&mut self.states)?;
+        match self.look.pass(time, &mut self.states, out) {
+            Ok(()) => {}
+            Err(error) => {
+                self.states.roll_back(self.look.mark());
+                return Err(error);
+            }
+        }
         self.look.law();
-        if self.present.is_due() {
-            self.saved.push_reserved(state);
-            self.present = Present::newest();
+        if self.states.is_due() {
+            self.states.save();
             return Ok(());
         }
-        self.present = Present::after(state, self.present.since + 1);
         Ok(())
     }
 
@@ -170,7 +161,7 @@ impl Block {
     {
         self.look.may_commit(floor)?;
         self.look.commit(floor);
-        keep_from(&mut self.saved, floor);
+        self.states.keep_from(floor);
         Ok(())
     }
 
@@ -244,32 +235,4 @@ impl Block {
     {
         self.look.next_entry(net, from)
     }
-}
-
-/// Drops the saved states at marks past a time.
-fn keep_until(saved: &mut Vec<State>, time: u64)
-    requires { IsNonDecreasingBy (λ state. state.mark) saved.old.items }
-    ensures { (k : ℕ) × (k ≤ length saved.old.items) × (saved.new.items ≡ take k saved.old.items)
-        × IsPartitionPoint (λ state. state.mark ≤ time) (λ state. time < state.mark) saved.old.items k }
-{
-    let kept = saved.partition_point(|state| state.mark <= time);
-    saved.truncate(kept);
-}
-
-/// Drops the saved states before the newest one at a mark up to a time.
-fn keep_from(saved: &mut Vec<State>, time: u64)
-    requires { IsNonDecreasingBy (λ state. state.mark) saved.old.items }
-    ensures { (k : ℕ) × (k ≤ length saved.old.items) × (saved.new.items ≡ drop (k - 1) saved.old.items)
-        × IsPartitionPoint (λ state. state.mark ≤ time) (λ state. time < state.mark) saved.old.items k }
-{
-    let until = saved.partition_point(|state| state.mark <= time);
-    drop_first(saved, until.saturating_sub(1));
-}
-
-/// Drops the first so many saved states.
-fn drop_first(saved: &mut Vec<State>, count: usize)
-    requires { count ≤ length saved.old.items }
-    ensures { saved.new.items ≡ drop count saved.old.items }
-{
-    saved.drain(..count);
 }

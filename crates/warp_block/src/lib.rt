@@ -22,7 +22,6 @@ mod log;
 mod look;
 mod message;
 mod part;
-mod present;
 mod queue;
 mod state;
 mod states;

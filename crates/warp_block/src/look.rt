@@ -3,9 +3,8 @@ ghost use Rattle.warp_block.specs.Limits.{most_horizon};
 ghost use Rattle.warp_block.specs.declared.message.Sign.TheVariants.{Plus, Minus};
 ghost use Rattle.warp_block.specs.Entries.{no_messages, IsQueue};
 ghost use Rattle.warp_block.specs.Portion.{owns, slot_of, is_driven, is_used};
-ghost use Rattle.warp_block.specs.View.{IsLeast, IsEventTime, IsDone, entry_of, log_of, block_value, is_busy, news_of, earlier_of};
-ghost use Rattle.warp_block.specs.Lawful.{IsLawful, IsSaved};
-ghost use Rattle.warp_block.specs.Saving.{saved_of};
+ghost use Rattle.warp_block.specs.View.{IsLeast, IsEventTime, IsDone, entry_of, log_of, block_value, news_of, earlier_of};
+ghost use Rattle.warp_block.specs.Lawful.{IsLawful};
 ghost use Rattle.warp_block.specs.Advance.{IsQuiet, IsBusyFrom};
 ghost use Rattle.warp_block.specs.Opening.{opening_view, opening_queue};
 ghost use Rattle.warp_block.specs.Receive.{is_for};
@@ -14,6 +13,7 @@ ghost use Rattle.warp_block.specs.Held.{lists_in};
 mod admit;
 mod commit;
 mod emit;
+mod pass;
 mod start;
 mod undo;
 
@@ -23,7 +23,6 @@ use crate::log;
 use crate::message::Message;
 use crate::part::Part;
 use crate::queue::{self, Timed};
-use crate::state::State;
 use gate_values::{Change, Logic};
 use gate_vcd::Stimulus;
 use std::alloc::{AllocError, Global};
@@ -227,32 +226,6 @@ impl Look {
         } else {
             queue::held_at(&self.queues[slot], time)
         }
-    }
-
-    /// The state right after an event time, from one before it since which nothing has happened.
-    pub(crate) fn next_state(&self, last: &State, time: u64) -> Result<State, AllocError>
-        requires lawful { IsSaved self.now (saved_of last.now) }
-        requires before { last.now.mark ≤ self.now.mark }
-        requires from { last.now.mark ≤ time }
-        requires until { time ≤ self.now.horizon }
-        requires quiet { (t : ℕ) → last.now.mark ≤ t → t < time → ¬ IsTrue (is_busy self.now t) }
-        ensures mark { IfOk result (λ state. state.mark ≡ time + 1) }
-        ensures lawful { IfOk result (λ state. IsSaved self.now (saved_of state)) }
-    {
-        let alloc = *self.queues.allocator();
-        let mut values = Vec::with_capacity(alloc, self.part.len())?;
-        for slot in 0..self.part.len() {
-            values.push(self.value(slot, time))?;
-        }
-        let mut contents = Vec::with_capacity(alloc, self.part.len())?;
-        for slot in 0..self.part.len() {
-            contents.push(self.part.next_content(slot, last, &values))?;
-        }
-        Ok(State {
-            mark: time + 1,
-            values,
-            contents,
-        })
     }
 
     /// A copy.

@@ -1,4 +1,4 @@
-ghost use Rattle.std.specs.Prelude.{◌≡◌, ◌<◌, ◌≤◌, ℕ, false, [], if◌then◌else◌, IfOk, OnOk, length, get_or, map, slice_index, vec_len, ◌↔◌, IsTrue};
+ghost use Rattle.std.specs.Prelude.{◌≡◌, ◌<◌, ◌≤◌, ℕ, false, [], if◌then◌else◌, IfOk, IfSome, OnOk, option_map, length, get_or, map, slice_index, vec_len, ◌↔◌, IsTrue};
 ghost use Rattle.std.specs.List.{All};
 ghost use Rattle.std.specs.Cmp.Rules.{comparing};
 ghost use Rattle.std.proofs.Common.{rules};
@@ -8,7 +8,8 @@ ghost use Rattle.gate_netlist.specs.Circuit.{CutFits};
 ghost use Rattle.warp_block.specs.Portion.{IsPortion, slot_of, owns, reads, hears, is_used, is_driven};
 ghost use Rattle.warp_block.specs.PartOf.{part_of};
 ghost use Rattle.warp_block.specs.SamePart.{SameAt, same_part};
-ghost use Rattle.warp_block.specs.Moments.{moment_of, value_in};
+ghost use Rattle.warp_block.specs.Moments.{moment_of};
+ghost use Rattle.warp_block.specs.Contents.{clock_of};
 
 mod build;
 mod fan;
@@ -17,10 +18,9 @@ mod same;
 mod slots;
 
 use crate::cell::{Cell, Span};
-use crate::state::State;
+pub(crate) use fan::Fan;
 use gate_netlist::{Circuit, Cut};
 use gate_values::{Logic, flip, table};
-pub(crate) use fan::Fan;
 use std::alloc::{AllocError, Global};
 use std::marker::Model;
 
@@ -232,26 +232,40 @@ impl Part {
         }
     }
 
-    /// What the flip-flop at a place holds after a moment, whose values are given, from the moment before it.
-    pub(crate) fn next_content(&self, slot: usize, last: &State, values: &[Logic]) -> Logic
+    /// The place of the clock of the flip-flop at a place; none for any other place.
+    pub(crate) fn clock(&self, slot: usize) -> Option<usize>
+        requires { slot < length self.now.nets }
+        ensures place { IfSome result (λ clock. clock < length self.now.nets) }
+        ensures clock { option_map (slice_index self.now.nets) result ≡ clock_of (get_or self.now.sources slot Outside) }
+    {
+        match self.cells[slot] {
+            Cell::Input | Cell::Foreign | Cell::Gate { .. } => None,
+            Cell::Flop { clock, .. } => Some(clock as usize),
+        }
+    }
+
+    /// What the flip-flop at a place holds after its clock has a value, from the values and contents just before.
+    pub(crate) fn next_content(
+        &self,
+        slot: usize,
+        values: &[Logic],
+        contents: &[Logic],
+        edge: Logic,
+    ) -> Logic
         requires slot { slot < length self.now.nets }
         requires values { length values.now ≡ length self.now.nets }
-        requires last_values { vec_len last.now.values ≡ length self.now.nets }
-        requires last_contents { vec_len last.now.contents ≡ length self.now.nets }
-        ensures { result ≡ source_content (get_or self.now.sources slot Outside) (value_in self.now.nets values.now)
-            (moment_of self.now.nets last.now.values.items last.now.contents.items) (slice_index self.now.nets slot) }
+        requires contents { length contents.now ≡ length self.now.nets }
+        ensures { result ≡ source_content (get_or self.now.sources slot Outside) (λ net. edge)
+            (moment_of self.now.nets values.now contents.now) (slice_index self.now.nets slot) }
     {
         match self.cells[slot] {
             Cell::Input | Cell::Foreign | Cell::Gate { .. } => Logic::X,
-            Cell::Flop { d, clock, .. } => {
-                let before = last.values.as_slice();
-                flip(
-                    last.contents[slot],
-                    before[clock as usize],
-                    values[clock as usize],
-                    before[d as usize],
-                )
-            }
+            Cell::Flop { d, clock, .. } => flip(
+                contents[slot],
+                values[clock as usize],
+                edge,
+                values[d as usize],
+            ),
         }
     }
 

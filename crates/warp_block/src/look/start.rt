@@ -1,8 +1,8 @@
-ghost use Rattle.std.specs.Prelude.{◌≡◌, ◌++◌, IfOk, OnOk, OnErr, length, replicate};
+ghost use Rattle.std.specs.Prelude.{◌≡◌, ◌++◌, [], ◌∷◌, IfOk, OnOk, OnErr, length, replicate};
 ghost use Rattle.gate_values.specs.declared.logic.Logic.TheVariants.{X};
 ghost use Rattle.warp_block.specs.declared.message.Sign.TheVariants.{Plus};
 ghost use Rattle.warp_block.specs.Opening.{initial_log};
-ghost use Rattle.warp_block.specs.Saving.{saved_of};
+ghost use Rattle.warp_block.specs.StateLists.{now_of, saved_by, FitTogether};
 ghost use Rattle.warp_block.specs.Lawful.{IsSaved};
 ghost use Rattle.warp_block.specs.Held.{lists_in};
 ghost use Rattle.warp_block.specs.Step.{log_at, told, Extends};
@@ -11,15 +11,19 @@ use super::Look;
 use super::emit::tell;
 use crate::message::{Message, Sign};
 use crate::part::Part;
-use crate::state::State;
+use crate::states::States;
 use gate_values::{Change, Logic};
 use std::alloc::{AllocError, Global};
 
 impl Look {
-    /// The state before time 0: the value of each net is unknown, and each flip-flop has its initial content.
-    pub(crate) fn first_state(&self) -> Result<State, AllocError>
-        ensures mark { IfOk result (λ state. state.mark ≡ 0) }
-        ensures lawful { IfOk result (λ state. IsSaved self.now (saved_of state)) }
+    /// The states of a new block: that before time 0, in which the value of each net is unknown, and each flip-flop has its
+    /// initial content.
+    pub(crate) fn first_states(&self) -> Result<States, AllocError>
+        ensures mark { IfOk result (λ states. (now_of states).mark ≡ 0) }
+        ensures lawful { IfOk result (λ states. IsSaved self.now (now_of states)) }
+        ensures saved { IfOk result (λ states. saved_by states ≡ now_of states ∷ []) }
+        ensures since { IfOk result (λ states. states.since ≡ 0) }
+        ensures fit { IfOk result FitTogether }
     {
         let alloc = *self.queues.allocator();
         let values = unknown(alloc, self.part.len())?;
@@ -27,11 +31,8 @@ impl Look {
         for slot in 0..self.part.len() {
             contents.push(self.part.initial(slot))?;
         }
-        Ok(State {
-            mark: 0,
-            values,
-            contents,
-        })
+        let states = States::new(alloc, values, contents)?;
+        Ok(states)
     }
 
     /// Tells the readers all changes that are logged. After an error nothing is told.

@@ -1,5 +1,4 @@
-use Rattle.std.proofs.Common.{◌≡◌, ◌≢◌, ◌<◌, ◌≤◌, ℕ, true, List, All, map, take, refl, ap, sym, ◌∙◌, subst, arith}
-use Rattle.std.proofs.lemmas.List.{take-map}
+use Rattle.std.proofs.Common.{◌≡◌, ◌≢◌, ◌<◌, ◌≤◌, ℕ, true, List, All, refl, sym, ◌∙◌, subst, arith}
 use Rattle.std.specs.Result.{IfErr}
 use Rattle.std.specs.List.Sorted.{IsPartitionPoint}
 use Rattle.std.proofs.lemmas.Bool.{iff_false}
@@ -9,12 +8,12 @@ use Rattle.warp_block.specs.Portion.{hears}
 use Rattle.warp_block.specs.View.{Process, Saved, effective_at}
 use Rattle.warp_block.specs.Lawful.{IsSaved, AreSaved}
 use Rattle.warp_block.specs.Receive.{IsPut, IsRefusal, refusal_of}
-use Rattle.warp_block.specs.Saving.{saved_of}
+use Rattle.warp_block.specs.StateLists.{now_of, saved_by}
 use Rattle.warp_block.proofs.Slots.{slot_is}
 use Rattle.warp_block.proofs.Sends.{once_nothing, same_logs, same_standing}
-use Rattle.warp_block.proofs.Receiving.{rolled, kept, rolled_saved, kept_saved, refused_memory, states_rise, saved_point, not_late, kept_present}
-use Rattle.warp_block.specs.Present.{newest_of, pending_of}
-use Rattle.warp_block.proofs.Going.{present_newest}
+use Rattle.warp_block.proofs.Receiving.{rolled, kept, rolled_saved, kept_saved, refused_memory, saved_rise, not_late, kept_present}
+use Rattle.warp_block.specs.Present.{newest_of}
+use Rattle.warp_block.proofs.Keeping.{first_floor, at_newest}
 use Rattle.warp_block.proofs.block.Block.receive.Goals as goal
 
 pub roll_back-requires-clause-heard : goal.roll_back-requires-clause-heard
@@ -32,8 +31,16 @@ returns-in_err-roll_back-clause-refused c =
 pub invariant_of-self : goal.invariant_of-self
 invariant_of-self c = rw c.in_err-roll_back.ensures.err c.self.invariant
 
-pub keep_until-requires : goal.keep_until-requires
-keep_until-requires c = states_rise c.self.inside.look c.self.inside.saved.items c.self.invariant.law.saved
+pub roll_back-requires-then-is_straggler-clause-rising : goal.roll_back-requires-then-is_straggler-clause-rising
+roll_back-requires-then-is_straggler-clause-rising c = saved_rise c.self.inside.look (saved_by c.self.inside.states) c.self.invariant.law.saved
+
+pub roll_back-requires-then-is_straggler-clause-first : goal.roll_back-requires-then-is_straggler-clause-first
+roll_back-requires-then-is_straggler-clause-first c = λ d.
+    (let a = c.in-Ok.ensures.ok in
+    let first = first_floor c.self.inside.look c.self.inside.states c.self.invariant d in
+    let low = first.1 in
+    let from = a.from in
+    (first.0, omega (arith, low, from)))
 
 pub invariant_of-self-then-is_straggler : goal.invariant_of-self-then-is_straggler
 invariant_of-self-then-is_straggler c =
@@ -44,17 +51,14 @@ invariant_of-self-then-is_straggler c =
     let put = subst (λ (n : ℕ). IsPut v w n c.args.message.time c.in-Ok.admitted.1) at c.in_ok-roll_back.ensures.put in
     let mark : w.mark ≡ c.args.message.time = c.in_ok-roll_back.ensures.mark in
     let below = (c.is_straggler.ensures.0 c.if-is_straggler.true).0 in
-    let k = c.keep_until.ensures.0 in
-    let items : map saved_of c.keep_until.new.saved.items ≡ take k (map saved_of c.self.inside.saved.items) = ap (map saved_of) c.keep_until.ensures.2 ∙ sym (take-map saved_of k c.self.inside.saved.items) in
-    let point = saved_point c.self.inside.saved.items c.args.message.time k c.keep_until.ensures.3 c.keep_until.ensures.1 in
-    let point_at_mark = subst (λ (t : ℕ). IsPartitionPoint (λ (s : Saved). s.mark ≤ t) (λ (s : Saved). t < s.mark) (map saved_of c.self.inside.saved.items) k) (sym mark) point in
-    let both = rolled_saved v w c.args.message c.in-Ok.admitted.0 c.in-Ok.admitted.1 a put c.self.invariant.law.seen c.law.ensures (map saved_of c.self.inside.saved.items) c.self.invariant.law.states c.self.invariant.law.saved mark (omega (arith, below)) k point_at_mark in
-    let states : All (IsSaved w) (map saved_of c.keep_until.new.saved.items) = subst (λ (ss : List Saved). All (IsSaved w) ss) (sym items) both.0 in
-    let saved : AreSaved w (map saved_of c.keep_until.new.saved.items) = subst (λ (ss : List Saved). AreSaved w ss) (sym items) both.1 in
-    record {
-      law = record { seen = c.law.ensures; states = states; saved = saved };
-      present = rw (c.newest.ensures.pending, c.newest.ensures.since) (present_newest w (map saved_of c.keep_until.new.saved.items) saved states);
-    }
+    let old = c.self.inside.states in
+    let new = c.roll_back-then-is_straggler.new.self in
+    let k = c.roll_back-then-is_straggler.ensures.kept in
+    let point_at_mark = subst (λ (t : ℕ). IsPartitionPoint (λ (s : Saved). s.mark ≤ t) (λ (s : Saved). t < s.mark) (saved_by old) k.0) (sym mark) k.4 in
+    let both = rolled_saved v w c.args.message c.in-Ok.admitted.0 c.in-Ok.admitted.1 a put c.self.invariant.law.seen c.law.ensures (saved_by old) c.self.invariant.law.states c.self.invariant.law.saved mark (omega (arith, below)) k.0 point_at_mark in
+    let states : All (IsSaved w) (saved_by new) = subst (λ (ss : List Saved). All (IsSaved w) ss) (sym k.3) both.0 in
+    let saved : AreSaved w (saved_by new) = subst (λ (ss : List Saved). AreSaved w ss) (sym k.3) both.1 in
+    at_newest w new (record { seen = c.law.ensures; states = states; saved = saved }) c.roll_back-then-is_straggler.ensures.now c.roll_back-then-is_straggler.ensures.since c.roll_back-then-is_straggler.ensures.within
 
 pub returns-then-is_straggler-clause-taken : goal.returns-then-is_straggler-clause-taken
 returns-then-is_straggler-clause-taken c =
@@ -86,10 +90,11 @@ invariant_of-self-2 c =
     let put = subst (λ (n : ℕ). IsPut v w n c.args.message.time c.in-Ok.admitted.1) at c.in_ok-take_in.ensures.put in
     let early = not_late c.args.message.time v.mark (effective_of c.in-Ok.admitted.1) (effective_at v c.args.message.net c.args.message.time)
     (λ late. iff_false c.is_straggler.ensures c.if-is_straggler.false (subst (λ (n : ℕ). (c.args.message.time < v.mark) × (effective_of c.in-Ok.admitted.1 ≢ effective_at v n c.args.message.time)) (sym at) late)) in
-    let both = kept_saved v w c.args.message c.in-Ok.admitted.0 c.in-Ok.admitted.1 a put c.self.invariant.law.seen c.law-2.ensures (map saved_of c.self.inside.saved.items) c.self.invariant.law.states c.self.invariant.law.saved c.in_ok-take_in.ensures.mark early in
+    let both = kept_saved v w c.args.message c.in-Ok.admitted.0 c.in-Ok.admitted.1 a put c.self.invariant.law.seen c.law-2.ensures (saved_by c.self.inside.states) c.self.invariant.law.states c.self.invariant.law.saved c.in_ok-take_in.ensures.mark early in
     record {
       law = record { seen = c.law-2.ensures; states = both.0; saved = both.1 };
-      present = kept_present v w c.args.message c.in-Ok.admitted.0 c.in-Ok.admitted.1 a put c.self.invariant.law.seen c.law-2.ensures (newest_of (map saved_of c.self.inside.saved.items)) (pending_of c.self.inside.present.pending) c.self.inside.present.since
+      fit = c.self.invariant.fit;
+      present = kept_present v w c.args.message c.in-Ok.admitted.0 c.in-Ok.admitted.1 a put c.self.invariant.law.seen c.law-2.ensures (newest_of (saved_by c.self.inside.states)) (now_of c.self.inside.states) c.self.inside.states.since
           c.self.invariant.present c.in_ok-take_in.ensures.mark early;
     }
 

@@ -1,69 +1,95 @@
-use Rattle.std.proofs.Common.{◌≡◌, ◌≢◌, ◌+◌, ◌<◌, ◌++◌, ◌∷◌, [], List, Option, Some, None, map, inl, inr, ap, sym, ◌∙◌, subst, arith}
-use Rattle.std.proofs.lemmas.Bool.{eqb-true, eq-eqb, cases_eq, true≢false}
-use Rattle.std.proofs.lemmas.List.{map-append}
-use Rattle.warp_block.specs.declared.state.State.{State}
+use Rattle.std.proofs.Common.{◌≡◌, ◌≢◌, ◌<◌, ◌≤◌, ℕ, List, Some, inl, inr, true, false, ap, sym, ◌∙◌, subst, arith}
+use Rattle.std.proofs.lemmas.Bool.{eqb-true, eq-eqb, cases_lt, true≢false}
+use Rattle.std.proofs.lemmas.Result.{err_from_is_err_and}
 use Rattle.warp_block.specs.declared.state.TheConstants.{SAVE_EVERY}
-use Rattle.warp_block.specs.Saving.{saved_of}
-use Rattle.warp_block.specs.View.{Saved}
-use Rattle.warp_block.specs.Lawful.{IsLawfulProcess}
-use Rattle.warp_block.specs.Present.{pending_of, IsPresent}
-use Rattle.warp_block.proofs.SavingStep.{one_advanced, one_saved, one_unsaved, one_present}
-use Rattle.warp_block.proofs.Going.{few_present, present_newest}
+use Rattle.warp_block.specs.View.{View, Process, Saved, IsLeast, IsEventTime}
+use Rattle.warp_block.specs.Lawful.{IsSaved}
+use Rattle.warp_block.specs.StateLists.{saved_by}
+use Rattle.warp_block.specs.Present.{AreStates}
+use Rattle.warp_block.proofs.SavingStep.{one_advanced, quiet_before_least}
+use Rattle.warp_block.proofs.Keeping.{AreKept, rising, first_of, none_dropped, back_again, few_since_saved, stepped, saved_too}
 use Rattle.warp_block.proofs.block.Block.step.Goals as goal
 
-pub is_due-requires : goal.is_due-requires
-is_due-requires c = few_present c.self.inside.look (map saved_of c.self.inside.saved.items) (pending_of c.coast.new.self.pending) c.coast.new.self.since c.self.invariant.law.saved (rw c.deref.ensures.value at c.coast.ensures.present)
+pub invariant_of-self : goal.invariant_of-self
+invariant_of-self c = c.coast.ensures.held
 
-pub overflow_add-self-inside : goal.overflow_add-self-inside
-overflow_add-self-inside c =
-    let few : c.coast.new.self.since < 8 = few_present c.self.inside.look (map saved_of c.self.inside.saved.items) (pending_of c.coast.new.self.pending) c.coast.new.self.since c.self.invariant.law.saved (rw c.deref.ensures.value at c.coast.ensures.present) in
-    omega (arith, few)
+pub returns-in_err-coast-clause-err : goal.returns-in_err-coast-clause-err
+returns-in_err-coast-clause-err c =
+    let made : List Saved → Process = λ ss. record { seen = c.self.inside.look; saved = ss } in
+    let p = err_from_is_err_and c.from_residual.result c.from_residual.ensures.1 in
+    rw (p.1) (ap made c.coast.ensures.saved ∙ c.self.view_is)
+
+pub pass-requires-clause-fit : goal.pass-requires-clause-fit
+pass-requires-clause-fit c = c.coast.ensures.held.fit
+
+pub pass-requires-clause-few : goal.pass-requires-clause-few
+pass-requires-clause-few c = few_since_saved c.self.inside.look c.coast.new.states c.coast.ensures.held
+
+pub pass-requires-clause-lawful : goal.pass-requires-clause-lawful
+pass-requires-clause-lawful c = c.coast.ensures.held.present.holds
+
+pub pass-requires-clause-before : goal.pass-requires-clause-before
+pass-requires-clause-before c = c.coast.ensures.held.present.until
+
+pub pass-requires-clause-quiet : goal.pass-requires-clause-quiet
+pass-requires-clause-quiet c = quiet_before_least c.self.inside.look c.args.time (rw (← c.self.view_is) at c.requires)
+
+pub roll_back-requires-clause-within : goal.roll_back-requires-clause-within
+roll_back-requires-clause-within c = c.pass.ensures.fit
+
+pub roll_back-requires-clause-rising : goal.roll_back-requires-clause-rising
+roll_back-requires-clause-rising c = rising c.self.inside.look c.coast.new.states c.pass.new.states c.coast.ensures.held c.pass.ensures.saved
+
+pub roll_back-requires-clause-first : goal.roll_back-requires-clause-first
+roll_back-requires-clause-first c = λ d.
+    (let first = first_of c.self.inside.look c.coast.new.states c.pass.new.states c.coast.ensures.held c.pass.ensures.saved d in
+    let low = first.1 in
+    let mark = c.mark.ensures ∙ ap (λ (v : View). v.mark) c.in-Err.ensures.err in
+    (first.0, omega (arith, low, mark)))
+
+kept_at : (c : goal.After-roll_back) → AreKept (saved_by c.pass.new.states) (saved_by c.roll_back.new.self) c.self.inside.look.mark
+kept_at c = subst (AreKept (saved_by c.pass.new.states) (saved_by c.roll_back.new.self)) (c.mark.ensures ∙ ap (λ (v : View). v.mark) c.in-Err.ensures.err) c.roll_back.ensures.kept
+
+pub invariant_of-self-in-Err : goal.invariant_of-self-in-Err
+invariant_of-self-in-Err c =
+    subst (λ (v : View). AreStates v c.roll_back.new.self) (sym c.in-Err.ensures.err)
+    (back_again c.self.inside.look c.coast.new.states c.pass.new.states c.roll_back.new.self c.coast.ensures.held c.pass.ensures.saved (kept_at c) c.roll_back.ensures.now c.roll_back.ensures.since c.roll_back.ensures.within)
+
+pub returns-in-Err-clause-err : goal.returns-in-Err-clause-err
+returns-in-Err-clause-err c =
+    let made : View → List Saved → Process = λ v ss. record { seen = v; saved = ss } in
+    let look = c.in-Err.ensures.err in
+    let saved = none_dropped c.self.inside.look c.coast.new.states c.pass.new.states c.roll_back.new.self c.coast.ensures.held c.pass.ensures.saved (kept_at c) ∙ c.coast.ensures.saved in
+    (λ i. made (look i) (saved i)) ∙ c.self.view_is
 
 pub invariant_of-self-then-is_due : goal.invariant_of-self-then-is_due
 invariant_of-self-then-is_due c =
-    let w = c.finish.new.self in
-    let due : c.coast.new.self.since + 1 ≡ SAVE_EVERY = eqb-true (c.coast.new.self.since + 1) SAVE_EVERY (sym c.is_due.ensures ∙ c.if-is_due.true) in
-    let items : map saved_of c.push_reserved.new.self.items ≡ map saved_of c.self.inside.saved.items ++ saved_of c.in_ok-state.state ∷ [] =
-    ap (map saved_of) (c.push_reserved.ensures.items ∙ ap (λ (xs : List State). xs ++ c.in_ok-state.state ∷ []) c.in_ok-reserve.ensures.items)
-    ∙ map-append saved_of c.self.inside.saved.items (c.in_ok-state.state ∷ []) in
-    let law = one_saved c.self.inside.look c.finish.new.self c.self.invariant.law.seen c.law.ensures c.finish.ensures.part c.finish.ensures.horizon c.finish.ensures.floor c.finish.ensures.queues
-    c.args.time c.in_ok-finish.ensures.mark (rw (← c.self.view_is) at c.requires) (map saved_of c.self.inside.saved.items) c.self.invariant.law (pending_of c.coast.new.self.pending) c.coast.new.self.since (rw c.deref.ensures.value at c.coast.ensures.present)
-    (rw c.deref.ensures.value at c.in_ok-coast.ensures.caught) (saved_of c.in_ok-state.state) c.in_ok-state.ensures.mark c.in_ok-state.ensures.lawful due in
-    record {
-      law = subst (λ (xs : List Saved). IsLawfulProcess (record { seen = w; saved = xs })) (sym items) law;
-      present = rw (c.newest.ensures.pending, c.newest.ensures.since) (subst (λ (xs : List Saved). IsPresent w xs None 0) (sym items)
-          (present_newest w (map saved_of c.self.inside.saved.items ++ saved_of c.in_ok-state.state ∷ []) law.saved law.states));
-    }
+    let p = c.in-Ok.ensures in
+    let due : c.pass.new.states.since ≡ SAVE_EVERY = eqb-true c.pass.new.states.since SAVE_EVERY (sym c.is_due.ensures ∙ c.if-is_due.true) in
+    saved_too c.self.inside.look c.pass.new.self c.coast.new.states c.pass.new.states c.coast.ensures.held c.law.ensures c.pass.ensures.part c.pass.ensures.horizon c.pass.ensures.floor c.pass.ensures.queues
+    c.args.time p.mark (rw (← c.self.view_is) at c.requires) c.in_ok-coast.ensures.caught c.pass.ensures.saved p.held p.now p.since
+    c.save.new.self due c.save.ensures.now c.save.ensures.saved c.save.ensures.since c.save.ensures.within
 
 pub returns-then-is_due-clause-ok : goal.returns-then-is_due-clause-ok
 returns-then-is_due-clause-ok c =
-    rw (← c.self.view_is) (one_advanced c.self.inside.look c.finish.new.self c.self.invariant.law.seen c.law.ensures c.finish.ensures.part c.finish.ensures.horizon c.finish.ensures.floor c.finish.ensures.queues
-    c.args.time c.in_ok-finish.ensures.mark (rw (← c.self.view_is) at c.requires))
+    rw (← c.self.view_is) (one_advanced c.self.inside.look c.pass.new.self c.self.invariant.law.seen c.law.ensures c.pass.ensures.part c.pass.ensures.horizon c.pass.ensures.floor c.pass.ensures.queues
+    c.args.time c.in-Ok.ensures.mark (rw (← c.self.view_is) at c.requires))
 
 pub returns-then-is_due-clause-sends : goal.returns-then-is_due-clause-sends
-returns-then-is_due-clause-sends c = rw (← c.self.view_is) c.in_ok-finish.ensures.sends
+returns-then-is_due-clause-sends c = rw (← c.self.view_is) c.in-Ok.ensures.sends
 
-pub invariant_of-self-2 : goal.invariant_of-self-2
-invariant_of-self-2 c =
-    let w = c.finish.new.self in
-    let few : c.coast.new.self.since < SAVE_EVERY = few_present c.self.inside.look (map saved_of c.self.inside.saved.items) (pending_of c.coast.new.self.pending) c.coast.new.self.since c.self.invariant.law.saved (rw c.deref.ensures.value at c.coast.ensures.present) in
-    let other : c.coast.new.self.since + 1 ≢ SAVE_EVERY = λ due. true≢false (sym (eq-eqb (c.coast.new.self.since + 1) SAVE_EVERY due) ∙ (sym c.is_due.ensures ∙ c.if-is_due.false)) in
-    let early : c.coast.new.self.since + 1 < SAVE_EVERY = omega (arith, few, other) in
-    let same : map saved_of c.reserve.new.self.items ≡ map saved_of c.self.inside.saved.items = ap (map saved_of) c.in_ok-reserve.ensures.items in
-    record {
-      law = subst (λ (xs : List Saved). IsLawfulProcess (record { seen = w; saved = xs })) (sym same) (one_unsaved c.self.inside.look c.finish.new.self c.self.invariant.law.seen c.law.ensures c.finish.ensures.part c.finish.ensures.horizon c.finish.ensures.floor c.finish.ensures.queues
-          c.args.time c.in_ok-finish.ensures.mark (rw (← c.self.view_is) at c.requires) (map saved_of c.self.inside.saved.items) c.self.invariant.law (pending_of c.coast.new.self.pending) c.coast.new.self.since (rw c.deref.ensures.value at c.coast.ensures.present)
-          (rw c.deref.ensures.value at c.in_ok-coast.ensures.caught) (saved_of c.in_ok-state.state) c.in_ok-state.ensures.mark c.in_ok-state.ensures.lawful early);
-      present = rw (c.after.ensures.pending, c.after.ensures.since) (subst (λ (xs : List Saved). IsPresent w xs (Some (saved_of c.in_ok-state.state)) (c.coast.new.self.since + 1)) (sym same)
-          (one_present c.self.inside.look c.finish.new.self c.self.invariant.law.seen c.law.ensures c.finish.ensures.part c.finish.ensures.horizon c.finish.ensures.floor c.finish.ensures.queues
-          c.args.time c.in_ok-finish.ensures.mark (rw (← c.self.view_is) at c.requires) (map saved_of c.self.inside.saved.items) c.self.invariant.law (pending_of c.coast.new.self.pending) c.coast.new.self.since (rw c.deref.ensures.value at c.coast.ensures.present)
-          (rw c.deref.ensures.value at c.in_ok-coast.ensures.caught) (saved_of c.in_ok-state.state) c.in_ok-state.ensures.mark c.in_ok-state.ensures.lawful));
-    }
+pub invariant_of-self-else-is_due : goal.invariant_of-self-else-is_due
+invariant_of-self-else-is_due c =
+    let p = c.in-Ok.ensures in
+    let other : c.pass.new.states.since ≢ SAVE_EVERY = λ due. true≢false (sym (eq-eqb c.pass.new.states.since SAVE_EVERY due) ∙ (sym c.is_due.ensures ∙ c.if-is_due.false)) in
+    stepped c.self.inside.look c.pass.new.self c.coast.new.states c.pass.new.states c.coast.ensures.held c.law.ensures c.pass.ensures.part c.pass.ensures.horizon c.pass.ensures.floor c.pass.ensures.queues
+    c.args.time p.mark (rw (← c.self.view_is) at c.requires) c.in_ok-coast.ensures.caught c.pass.ensures.saved p.held p.now p.since
+    c.pass.ensures.fit other
 
 pub returns-clause-ok : goal.returns-clause-ok
 returns-clause-ok c =
-    rw (← c.self.view_is) (one_advanced c.self.inside.look c.finish.new.self c.self.invariant.law.seen c.law.ensures c.finish.ensures.part c.finish.ensures.horizon c.finish.ensures.floor c.finish.ensures.queues
-    c.args.time c.in_ok-finish.ensures.mark (rw (← c.self.view_is) at c.requires))
+    rw (← c.self.view_is) (one_advanced c.self.inside.look c.pass.new.self c.self.invariant.law.seen c.law.ensures c.pass.ensures.part c.pass.ensures.horizon c.pass.ensures.floor c.pass.ensures.queues
+    c.args.time c.in-Ok.ensures.mark (rw (← c.self.view_is) at c.requires))
 
 pub returns-clause-sends : goal.returns-clause-sends
-returns-clause-sends c = rw (← c.self.view_is) c.in_ok-finish.ensures.sends
+returns-clause-sends c = rw (← c.self.view_is) c.in-Ok.ensures.sends

@@ -1,5 +1,5 @@
 use Rattle.std.proofs.Common.{sym, ◌∙◌, length, arith}
-use Rattle.std.proofs.lemmas.List.{get_or_read, get_or_default}
+use Rattle.std.proofs.lemmas.List.{get_or_default}
 use Rattle.gate_values.specs.declared.logic.Logic.TheVariants.{Zero, X}
 use Rattle.warp_block.specs.declared.cell.Cell.TheVariants.{Flop}
 use Rattle.warp_block.specs.HeldPart.{CellFits}
@@ -9,17 +9,15 @@ use Rattle.warp_block.proofs.part.Part.next_content.Goals as goal
 pub returns-in-Flop : goal.returns-in-Flop
 returns-in-Flop c =
     let p = c.self.inside in
-    let values = c.args.last.now.values in
-    let contents = c.args.last.now.contents in
+    let values = c.args.values.now in
+    let contents = c.args.contents.now in
     let nets = rw (← c.self.view_is) at c.requires.slot in
     let cell = sym c.index.ensures ∙ c.in-Flop.is in
-    let many = rw (← c.self.view_is) at c.requires.values in
-    let many_values = rw (← c.self.view_is) at c.requires.last_values in
-    let many_contents = rw (← c.self.view_is) at c.requires.last_contents in
+    let many_values = rw (← c.self.view_is) at c.requires.values in
+    let many_contents = rw (← c.self.view_is) at c.requires.contents in
     let fits : CellFits (length p.nets.items) (length p.pins.items) (Flop c.in-Flop.delay c.in-Flop.d c.in-Flop.clock c.in-Flop.init) = fits-at p c.args.slot c.index.result.now _ c.self.invariant nets cell in
-    let own = get_or_read contents.items c.args.slot c.index-in-Flop.result.now (omega (arith, contents.ok.0)) c.index-in-Flop.ensures X in
-    let clock = get_or_default values.items c.in-Flop.clock X Zero (omega (arith, fits.1)) in
-    let given = get_or_default values.items c.in-Flop.d X Zero (omega (arith, fits.0)) in
-    let now = get_or_default c.args.values.now c.in-Flop.clock X Zero (omega (arith, fits.1)) in
-    let e = flop_content p c.self.invariant values.items contents.items c.args.slot c.index.result.now nets c.args.values.now c.in-Flop.delay c.in-Flop.d c.in-Flop.clock c.in-Flop.init cell in
-    rw (← c.self.view_is) (cc (e, own, clock, given, now, c.flip.ensures))
+    let own = get_or_default contents c.args.slot X Zero (omega (arith, nets, many_contents)) in
+    let clock = get_or_default values c.in-Flop.clock X Zero (omega (arith, fits.1, many_values)) in
+    let given = get_or_default values c.in-Flop.d X Zero (omega (arith, fits.0, many_values)) in
+    let e = flop_content p c.self.invariant values contents c.args.slot c.index.result.now nets c.args.edge c.in-Flop.delay c.in-Flop.d c.in-Flop.clock c.in-Flop.init cell in
+    rw (← c.self.view_is) (cc (e, own, clock, given, c.flip.ensures))

@@ -1,6 +1,6 @@
-use Rattle.std.proofs.Common.{ap, sym, ◌∙◌, arith}
-use Rattle.std.proofs.lemmas.List.{get_or_read}
-use Rattle.gate_values.specs.declared.logic.Logic.TheVariants.{X}
+use Rattle.std.proofs.Common.{refl, ap, sym, ◌∙◌, arith}
+use Rattle.std.proofs.lemmas.List.{get_or_default}
+use Rattle.gate_values.specs.declared.logic.Logic.TheVariants.{Zero, X}
 use Rattle.gate_values.specs.Tables.{table_of}
 use Rattle.warp_block.proofs.PartHeld.{gate_output, flop_output, picked_along}
 use Rattle.warp_block.proofs.part.Part.output.Goals as goal
@@ -10,9 +10,8 @@ returns-in_ok-pick-in-Gate c =
     let nets = rw (← c.self.view_is) at c.requires.slot in
     let e = gate_output c.self.inside c.self.invariant c.args.values.now c.args.contents.now c.args.slot c.index.result.now nets
     c.in-Gate.kind c.in-Gate.delay c.in-Gate.pins (sym c.index.ensures ∙ c.in-Gate.is) in
-    let same = picked_along c.args.values.now c.deref-in-Gate.result.now c.self.inside.pins.items c.deref.result.now c.in-Gate.pins
-    c.deref-in-Gate.ensures.value c.deref.ensures.value in
-    rw (← c.self.view_is) (c.table.ensures ∙ ap (table_of c.in-Gate.kind) (c.deref-in-Gate-2.ensures.value ∙ c.in_ok-pick-in-Gate.ensures ∙ same) ∙ sym e)
+    let same = picked_along c.args.values.now c.args.values.now c.self.inside.pins.items c.deref.result.now c.in-Gate.pins refl c.deref.ensures.value in
+    rw (← c.self.view_is) (c.table.ensures ∙ ap (table_of c.in-Gate.kind) (c.deref-in-Gate.ensures.value ∙ c.in_ok-pick-in-Gate.ensures ∙ same) ∙ sym e)
 
 pub returns-in-Flop : goal.returns-in-Flop
 returns-in-Flop c =
@@ -21,5 +20,5 @@ returns-in-Flop c =
     let many = rw (← c.self.view_is) at c.requires.contents in
     let e = flop_output c.self.inside c.self.invariant c.args.values.now contents c.args.slot c.index.result.now nets
     c.in-Flop.delay c.in-Flop.d c.in-Flop.clock c.in-Flop.init (sym c.index.ensures ∙ c.in-Flop.is) in
-    let own = get_or_read contents c.args.slot c.index-in-Flop.result.now (omega (arith, many, nets)) c.index-in-Flop.ensures X in
+    let own = get_or_default contents c.args.slot X Zero (omega (arith, many, nets)) in
     rw (← c.self.view_is) (cc (e, own))

@@ -28,6 +28,7 @@ loop-self-preserved-in-Some c =
           ∙ (ap (λ (os : List Old). back os (now_of c.loop-self.self)) (sym (drop-append-le c.args.start rest (c.in-Some.old ∷ []) enough) ∙ ap (drop c.args.start) (sym popped))
           ∙ c.loop-self.invariant.now)));
       saved = c.put_back.ensures.saved ∙ c.loop-self.invariant.saved;
+      since = c.put_back.ensures.since ∙ c.loop-self.invariant.since;
       values = v.0 ∙ c.loop-self.invariant.values;
       contents = v.1 ∙ c.loop-self.invariant.contents;
     }

@@ -10,6 +10,7 @@ invariant-loop-self l = record {
   olds : All (IsOld (length l.self.values.items) (length l.self.contents.items)) l.self.undo.items;
   now : back (drop l.start l.self.undo.items) (now_of l.self) ≡ back (drop l.start l.initial.self.undo.items) (now_of l.initial.self);
   saved : l.self.saved.items ≡ l.initial.self.saved.items;
+  since : l.self.since ≡ l.initial.self.since;
   values : length l.self.values.items ≡ length l.initial.self.values.items;
   contents : length l.self.contents.items ≡ length l.initial.self.contents.items;
 }

@@ -1,12 +1,13 @@
-use Rattle.std.proofs.Common.{◌<◌, ◌≤◌, length, replicate, ap, sym, ◌∙◌, arith}
+use Rattle.std.proofs.Common.{◌<◌, ◌≤◌, length, replicate, ap, sym, ◌∙◌, subst, arith}
 use Rattle.gate_values.specs.declared.logic.Logic.TheVariants.{X}
 use Rattle.gate_values.specs.Behaviour.{initial_of}
 use Rattle.warp_block.specs.Portion.{source_of}
+use Rattle.warp_block.specs.Lawful.{IsSaved}
 use Rattle.warp_block.specs.Held.{view_of}
 use Rattle.warp_block.proofs.Filling.{map_more, map_all}
 use Rattle.warp_block.proofs.Rows.{source_here}
 use Rattle.warp_block.proofs.Starting.{first_saved}
-use Rattle.warp_block.proofs.look.Look.first_state.Goals as goal
+use Rattle.warp_block.proofs.look.Look.first_states.Goals as goal
 
 pub loop-slot-init : goal.loop-slot-init
 loop-slot-init c = c.in_ok-contents.ensures.items
@@ -22,7 +23,7 @@ pub returns-clause-lawful : goal.returns-clause-lawful
 returns-clause-lawful c =
     let v = view_of c.self.inside in
     let end : length c.self.inside.part.nets ≤ c.loop-slot.slot = omega (arith, c.len-slot-end.ensures.count) in
-    rw (← c.self.view_is)
+    rw (← c.self.view_is) (subst (IsSaved v) (sym c.in_ok-states.ensures.now)
     (first_saved v c.in_ok-values.values.items c.loop-slot.contents.items
     (c.in_ok-values.ensures ∙ ap (λ k. replicate k X) c.len.ensures.count)
-    (map_all (λ n. initial_of (source_of v.part n)) c.self.inside.part.nets c.loop-slot.contents.items c.loop-slot.slot end c.loop-slot.invariant))
+    (map_all (λ n. initial_of (source_of v.part n)) c.self.inside.part.nets c.loop-slot.contents.items c.loop-slot.slot end c.loop-slot.invariant)))

@@ -1,0 +1,10 @@
+use Rattle.std.proofs.Common.{◌≡◌, ◌-◌}
+use Rattle.warp_block.specs.StateLists.{now_of, saved_by}
+use Rattle.warp_block.specs.Present.{AreStates}
+use Rattle.warp_block.proofs.look.Look.coast.Given as goal
+
+abbrev pub invariant-loop : goal.invariant-loop
+invariant-loop l = record { held : AreStates l.self l.states; saved : saved_by l.states ≡ saved_by l.fn.states }
+
+abbrev pub decreases-loop : goal.decreases-loop
+decreases-loop l = l.self.mark - (now_of l.states).mark
