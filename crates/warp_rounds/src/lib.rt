@@ -32,9 +32,3 @@ pub use runs::run;
 pub use site::Site;
 pub use turns::{TurnReport, turn};
 
-#[cfg(test)]
-mod round_tests;
-#[cfg(test)]
-mod run_tests;
-#[cfg(test)]
-mod site_tests;

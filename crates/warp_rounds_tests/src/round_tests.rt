@@ -1,5 +1,5 @@
-use crate::{EndFault, Round};
 use std::test::Fail;
+use warp_rounds::{EndFault, Round};
 
 #[test]
 fn two_seats_draw_three_blocks(rt: HostRuntime) -> Result<(), Fail> {

@@ -1,6 +1,5 @@
 ghost use Rattle.std.specs.Prelude.{◌≤◌};
 
-use crate::{Gate, NoGate, run};
 use Logic::{One, Zero};
 use gate_netlist::{Circuit, Cut, read_bench};
 use gate_values::{Change, Logic};
@@ -13,6 +12,7 @@ use std::sync::atomic::Ordering::SeqCst;
 use std::test::Fail;
 use std::thread::Threads;
 use warp_block::Block;
+use warp_rounds::{Gate, NoGate, run};
 
 const BENCH: &str = "INPUT(P)\nINPUT(Q)\nA = BUFF(P)\nB = BUFF(Q)\nY = AND(A, B)\nZ = NOT(Y)\n";
 
