@@ -30,26 +30,46 @@ pub(crate) const B: u32 = 3;
 
 pub(crate) const Y: u32 = 4;
 
+/// The circuit that two texts give.
+fn circuit_of(alloc: Global, bench: &str, settings: &str) -> Result<Circuit, Fail> {
+    let bench = read_bench(alloc, bench.as_bytes())?;
+    Ok(Circuit::of(alloc, bench, settings.as_bytes())?)
+}
+
+/// The part of a block of a circuit.
+fn cut_out(alloc: Global, circuit: &Circuit, block: u32) -> Result<Part, Fail> {
+    let cut = circuit.cut().ok_or("a cut")?;
+    if !cut.fits(circuit) || block >= cut.blocks() {
+        return Err(Fail::from("a cut of another circuit"));
+    }
+    Ok(Part::of(alloc, circuit, cut, block)?)
+}
+
+/// The part of a block of the circuit that two texts give.
+pub(crate) fn part_of(
+    alloc: Global,
+    bench: &str,
+    settings: &str,
+    block: u32,
+) -> Result<Part, Fail> {
+    let circuit = circuit_of(alloc, bench, settings)?;
+    cut_out(alloc, &circuit, block)
+}
+
 /// A new block of a circuit that three texts give, with a horizon.
 fn block_until(
     alloc: Global,
-    texts: [&str; 3],
+    [bench, settings, stimulus]: [&str; 3],
     block: u32,
     horizon: u64,
     out: &mut Vec<Message>,
 ) -> Result<Block, Fail> {
-    let [bench, settings, stimulus] = texts;
-    let bench = read_bench(alloc, bench.as_bytes())?;
-    let circuit = Circuit::of(alloc, bench, settings.as_bytes())?;
-    let stimulus = read_stimulus(alloc, stimulus.as_bytes(), &circuit)?;
-    let cut = circuit.cut().ok_or("a cut")?;
-    if !cut.fits(&circuit) || block >= cut.blocks() {
-        return Err(Fail::from("a cut of another circuit"));
-    }
     if horizon > MOST_HORIZON {
         return Err(Fail::from("a horizon past the limit"));
     }
-    let part = Part::of(alloc, &circuit, cut, block)?;
+    let circuit = circuit_of(alloc, bench, settings)?;
+    let part = cut_out(alloc, &circuit, block)?;
+    let stimulus = read_stimulus(alloc, stimulus.as_bytes(), &circuit)?;
     Ok(Block::new(alloc, part, &stimulus, horizon, out)?)
 }
 
@@ -179,12 +199,9 @@ fn look_at_both(alloc: Global) -> Result<Look, Fail> {
 #[test]
 fn a_look_shows_times(rt: HostRuntime) -> Result<(), Fail> {
     let look = look_at_both(rt.alloc())?;
-    assert_eq!(rt; (look.mark(), look.floor(), look.horizon()), (3, 0, 10));
-    assert_eq!(rt; (look.next_time(), look.done()), (None, true));
-    assert_eq!(rt;
-        (look.next_entry(A, 0), look.next_entry(A, 2)),
-        (Some(1), None)
-    );
+    assert!(rt; look.mark() == 3 && look.floor() == 0 && look.horizon() == 10);
+    assert!(rt; look.next_time() == None && look.done());
+    assert!(rt; look.next_entry(A, 0) == Some(1) && look.next_entry(A, 2) == None);
     Ok(())
 }
 
@@ -227,12 +244,10 @@ fn an_antimessage_waits_for_its_message(rt: HostRuntime) -> Result<(), Fail> {
 fn a_number_has_a_limit(rt: HostRuntime) {
     let most = 1_000_000_000_000_000_000_000_000_000_000;
     let full = numbers(0, most, 0, 0);
-    assert_eq!(rt;
-        (full.bump(One, Plus), full.bump(One, Minus)),
-        (None, Some(numbers(0, most - 1, 0, 0)))
-    );
-    assert_eq!(rt; full.bump(Z, Minus), Some(numbers(0, most, 0, -1)));
-    assert_eq!(rt; numbers(0, 0, -most, 0).bump(X, Minus), None);
+    assert!(rt; full.bump(One, Plus) == None);
+    assert!(rt; full.bump(One, Minus) == Some(numbers(0, most - 1, 0, 0)));
+    assert!(rt; full.bump(Z, Minus) == Some(numbers(0, most, 0, -1)));
+    assert!(rt; numbers(0, 0, -most, 0).bump(X, Minus) == None);
 }
 
 #[test]

@@ -179,23 +179,31 @@ const TOGGLE_SETTINGS: &str = "[init]\nQ = \"0\"\n[block]\nN = 0\nQ = 1\n";
 
 const TOGGLE_STIMULUS: &str = "$var wire 1 c CK $end $enddefinitions $end #0 0c #3 1c #5 0c #7 1c";
 
-#[test]
-fn initial_contents_are_told_before_the_first_round(rt: HostRuntime) -> Result<(), Fail> {
-    let alloc = rt.alloc();
-    let bench = read_bench(alloc, TOGGLE.as_bytes())?;
-    let circuit = Circuit::of(alloc, bench, TOGGLE_SETTINGS.as_bytes())?;
+/// The toggle's waves up to 10.
+fn toggled<R: Threads + Wait + Sync>(rt: &R, alloc: Global, workers: u32) -> Result<Waves, Fail>
+    requires { (1 ≤ workers) × (workers ≤ 64) }
+{
+    let circuit = toggle(alloc)?;
     let stimulus = read_stimulus(alloc, TOGGLE_STIMULUS.as_bytes(), &circuit)?;
     let cut = circuit.cut().ok_or("a cut")?;
-    if !cut.fits(&circuit) || circuit.nets() != 3 {
-        return Err(Fail::from("another circuit"));
+    if !cut.fits(&circuit) {
+        return Err(Fail::from("a cut of another circuit"));
     }
+    Ok(run(rt, alloc, &circuit, cut, &stimulus, 10, workers, 5, &NoGate)?)
+}
+
+fn toggle(alloc: Global) -> Result<Circuit, Fail> {
+    let bench = read_bench(alloc, TOGGLE.as_bytes())?;
+    Ok(Circuit::of(alloc, bench, TOGGLE_SETTINGS.as_bytes())?)
+}
+
+#[test]
+fn initial_contents_are_told_before_the_first_round(rt: HostRuntime) -> Result<(), Fail> {
     let pair = |time, value| Change { time, value };
     let inverses = [pair(1, One), pair(5, Zero), pair(9, One)];
     let contents = [pair(0, Zero), pair(4, One), pair(8, Zero)];
     for workers in [1, 2] {
-        let waves = run(
-            &rt, alloc, &circuit, cut, &stimulus, 10, workers, 5, &NoGate,
-        )?;
+        let waves = toggled(&rt, rt.alloc(), workers)?;
         if waves.nets() != 3 {
             return Err(Fail::from("other waves"));
         }

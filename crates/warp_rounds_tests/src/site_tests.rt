@@ -21,18 +21,27 @@ const B: u32 = 3;
 
 const Y: u32 = 4;
 
-/// The block of the AND, new, with horizon 10.
-fn block_of_and(alloc: Global) -> Result<Block, Fail> {
+/// The circuit of the pair, with its cut.
+fn pair(alloc: Global) -> Result<Circuit, Fail> {
     let bench = read_bench(alloc, PAIR.as_bytes())?;
-    let circuit = Circuit::of(alloc, bench, PAIR_CUT.as_bytes())?;
-    let stimulus = read_stimulus(alloc, PAIR_UNSET.as_bytes(), &circuit)?;
+    Ok(Circuit::of(alloc, bench, PAIR_CUT.as_bytes())?)
+}
+
+/// The part of block 1.
+fn part_of_and(alloc: Global, circuit: &Circuit) -> Result<Part, Fail> {
     let cut = circuit.cut().ok_or("a cut")?;
-    if !cut.fits(&circuit) || cut.blocks() < 2 {
+    if !cut.fits(circuit) || cut.blocks() < 2 {
         return Err(Fail::from("a cut of another circuit"));
     }
-    let part = Part::of(alloc, &circuit, cut, 1)?;
-    let mut out = Vec::new(alloc);
-    Ok(Block::new(alloc, part, &stimulus, 10, &mut out)?)
+    Ok(Part::of(alloc, circuit, cut, 1)?)
+}
+
+/// The block of the AND, new, with horizon 10.
+fn block_of_and(alloc: Global) -> Result<Block, Fail> {
+    let circuit = pair(alloc)?;
+    let part = part_of_and(alloc, &circuit)?;
+    let stimulus = read_stimulus(alloc, PAIR_UNSET.as_bytes(), &circuit)?;
+    Ok(Block::new(alloc, part, &stimulus, 10, &mut Vec::new(alloc))?)
 }
 
 /// A net becomes One at a time, as a block is told.
@@ -73,14 +82,11 @@ fn a_message_waits_in_the_inbox(rt: HostRuntime) -> Result<(), Fail> {
     let mut out = Vec::new(rt.alloc());
     site.put(&rt, rises(1, A, 1))?;
     let before = site.look(&rt)?;
-    assert_eq!(rt; (before.mark(), before.entry(A, 1)), (0, ones(0)));
+    assert!(rt; before.mark() == 0 && before.entry(A, 1) == ones(0));
     let report = site.visit(&rt, 0, 5, &NoGate, &mut out);
     assert_eq!(rt; report, Ok(TurnReport { least: 11 }));
     let after = site.look(&rt)?;
-    assert_eq!(rt;
-        (after.mark(), after.entry(A, 1), after.done()),
-        (2, ones(1), true)
-    );
+    assert!(rt; after.mark() == 2 && after.entry(A, 1) == ones(1) && after.done());
     assert_eq!(rt; site.into_block().mark(), 2);
     Ok(())
 }
@@ -89,11 +95,12 @@ fn a_message_waits_in_the_inbox(rt: HostRuntime) -> Result<(), Fail> {
 fn a_refused_message_ends_the_visit(rt: HostRuntime) -> Result<(), Fail> {
     let site = Site::new(rt.alloc(), block_of_and(rt.alloc())?);
     let mut out = Vec::new(rt.alloc());
-    site.put_all(&rt, [rises(1, A, 11), rises(1, A, 1)].as_slice())?;
+    site.put(&rt, rises(1, A, 11))?;
+    site.put(&rt, rises(1, A, 1))?;
     let report = site.visit(&rt, 0, 5, &NoGate, &mut out);
     assert_eq!(rt; report, Err(BlockFault::PastHorizon));
     let look = site.look(&rt)?;
-    assert_eq!(rt; (look.mark(), look.entry(A, 1)), (0, ones(0)));
+    assert!(rt; look.mark() == 0 && look.entry(A, 1) == ones(0));
     let report = site.visit(&rt, 0, 5, &NoGate, &mut out);
     assert_eq!(rt; report, Ok(TurnReport { least: 11 }));
     Ok(())
