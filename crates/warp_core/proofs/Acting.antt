@@ -1,23 +1,21 @@
 -- When one block of a world acts and sends, the world stays lawful.
-use Rattle.std.proofs.Common.{◌≡◌, ◌≢◌, ℕ, ℤ, pos, ◌+ℤ◌, ◌+◌, ◌<◌, ◌≤◌, ◌⊎◌, ◌&&◌, ◌==◌, ◌++◌, Bool, true, false, cond, IsTrue, Option, Some, None, List, [], length, get_or, inl, inr, refl, ap, sym, ◌∙◌, subst, arith}
+use Rattle.std.proofs.Common.{◌≡◌, ◌≢◌, ℕ, ℤ, ◌+◌, ◌≤◌, ◌&&◌, ◌==◌, ◌++◌, true, false, cond, Some, List, get_or, inl, inr, ap, sym, ◌∙◌, subst, arith}
 use Rattle.std.specs.List.{All, list_any, count_by}
 use Rattle.std.proofs.lemmas.Bool.{cases_eq}
 use Rattle.std.proofs.lemmas.Int.{ints}
 use Rattle.std.proofs.lemmas.List.Sums.{sum_by-append}
-use Rattle.std.proofs.lemmas.List.Elements.{All-append, All-weaker, All-same}
+use Rattle.std.proofs.lemmas.List.Elements.{All-weaker}
 use Rattle.gate_netlist.specs.Circuit.{Design, CutFits}
 use Rattle.gate_netlist.specs.Cut.{Ownership, owner_of}
 use Rattle.warp_block.specs.declared.message.Message.{Message}
 use Rattle.warp_block.specs.declared.message.Sign.{Sign}
 use Rattle.warp_block.specs.declared.message.Sign.TheVariants.{Plus, Minus}
-use Rattle.warp_block.specs.Lawful.{IsLawful}
-use Rattle.warp_block.specs.Opening.{opening_view}
 use Rattle.warp_block.specs.PartOf.{part_of}
-use Rattle.warp_block.specs.Portion.{Portion, readers_of, is_input}
+use Rattle.warp_block.specs.Portion.{Portion, readers_of}
 use Rattle.warp_block.specs.Sends.{Place, is_change, is_message, is_told, messages, antimessages, standing, IsSendOf, Sends}
-use Rattle.warp_block.specs.View.{View, Process, entry_of, log_of, IsEventTime}
-use Rattle.warp_core.specs.Matched.{no_process, seen_at, EachBlock, IsBlockOf}
-use Rattle.warp_core.specs.World.{Scene, IsHeard, number_at, logged, logged_by, AreAccounted, IsFlying, IsBefore, IsLawfulWorld}
+use Rattle.warp_block.specs.View.{View, Process, log_of}
+use Rattle.warp_core.specs.Matched.{no_process, seen_at}
+use Rattle.warp_core.specs.World.{IsHeard, logged, logged_by, AreAccounted, IsFlying}
 use Rattle.warp_core.specs.Play.{IsOtherwiseSame}
 use Rattle.warp_core.proofs.Hearing.{heard_from, heard_told, told_heard, untold_other}
 

@@ -1,18 +1,17 @@
 -- All blocks of a world commit at its least time.
-use Rattle.std.proofs.Common.{◌≡◌, ℕ, ◌+◌, ◌<◌, ◌≤◌, ◌⊎◌, ◌==◌, true, cond, IsTrue, Option, Some, None, List, length, get_or, inl, inr, refl, ap, sym, ◌∙◌, subst, arith}
-use Rattle.std.specs.List.{All, list_any}
+use Rattle.std.proofs.Common.{◌≡◌, ℕ, ◌<◌, ◌≤◌, ◌==◌, cond, Option, Some, List, length, get_or, inl, inr, ap, sym, ◌∙◌, subst, arith}
+use Rattle.std.specs.List.{list_any}
 use Rattle.std.specs.Option.{IfSome}
 use Rattle.std.proofs.lemmas.Bool.{eqb-true}
 use Rattle.std.proofs.lemmas.List.Folds.{Any-from_list_any}
-use Rattle.gate_values.specs.Changes.{same}
 use Rattle.gate_values.specs.declared.logic.Change.{Change}
 use Rattle.gate_netlist.specs.Cut.{Ownership, IsOwnership, owner_of}
 use Rattle.warp_block.specs.declared.message.Message.{Message}
 use Rattle.warp_block.specs.Commit.{IsCommittable, IsCommitted}
 use Rattle.warp_block.specs.Entries.{number_of}
 use Rattle.warp_block.specs.Lawful.{IsLawful}
-use Rattle.warp_block.specs.Sends.{Place, is_change, messages, antimessages}
-use Rattle.warp_block.specs.View.{View, Process, entry_of, log_of}
+use Rattle.warp_block.specs.Sends.{Place, is_change}
+use Rattle.warp_block.specs.View.{Process}
 use Rattle.warp_core.specs.Matched.{no_process, seen_at, EachBlock}
 use Rattle.warp_core.specs.World.{Scene, number_at, logged, logged_by, AreAccounted, IsBefore, IsLeft, IsLeastTime, IsLawfulWorld}
 use Rattle.warp_core.proofs.Acted.{scene_with}

@@ -1,6 +1,6 @@
 -- A message in flight reaches its block.
-use Rattle.std.proofs.Common.{◌≡◌, ◌≢◌, ℕ, ℤ, pos, negsuc, neg_ℤ, ◌+ℤ◌, ◌≤ℤ◌, ◌+◌, ◌<◌, ◌≤◌, ◌^◌, ◌⊎◌, ◌&&◌, ◌==◌, ◌++◌, nat_lt, int_le, not, is_none, Bool, true, false, cond, IsTrue, Option, Some, None, List, [], length, get_or, take, drop, suc, inl, inr, refl, ap, sym, ◌∙◌, subst, arith}
-use Rattle.std.specs.List.{All, count_by, remove}
+use Rattle.std.proofs.Common.{◌≡◌, ◌≢◌, ℕ, ℤ, pos, negsuc, neg_ℤ, ◌+ℤ◌, ◌≤ℤ◌, ◌+◌, ◌<◌, ◌≤◌, ◌^◌, ◌&&◌, ◌==◌, nat_lt, int_le, not, is_none, Bool, true, false, cond, IsTrue, Option, Some, None, List, length, get_or, take, drop, suc, inl, inr, refl, ap, sym, ◌∙◌, subst, arith}
+use Rattle.std.specs.List.{All, remove}
 use Rattle.std.proofs.lemmas.Bool.{cases_eq, eq-eqb, ne_eqb, and_from, and_parts, true≢false, le-ltb}
 use Rattle.std.proofs.lemmas.Int.{ints}
 use Rattle.std.proofs.lemmas.List.Sums.{sum_by-remove, count_by-le-length}
@@ -20,10 +20,10 @@ use Rattle.warp_block.specs.PartOf.{part_of}
 use Rattle.warp_block.specs.Portion.{Portion, hears, reads, is_input}
 use Rattle.warp_block.specs.Receive.{refusal_of, is_for, does_tell, IsTaken}
 use Rattle.warp_block.specs.Sends.{Place, is_message, same_sign, messages, antimessages, Sends}
-use Rattle.warp_block.specs.View.{View, Process, entry_of, IsEventTime}
+use Rattle.warp_block.specs.View.{View, Process, entry_of}
 use Rattle.warp_block.proofs.Laws.{next_after_receive}
 use Rattle.warp_core.specs.Matched.{seen_at}
-use Rattle.warp_core.specs.World.{Scene, IsHeard, number_at, logged, logged_by, AreAccounted, IsFlying, IsBefore, IsLawfulWorld}
+use Rattle.warp_core.specs.World.{Scene, number_at, logged, logged_by, AreAccounted, IsFlying, IsLawfulWorld}
 use Rattle.warp_core.specs.Play.{IsOtherwiseSame}
 use Rattle.warp_core.proofs.Acting.{same_seen}
 use Rattle.warp_core.proofs.Acted.{IsAct}

@@ -1,24 +1,24 @@
 -- Blocks that have nothing left to do, with nothing in flight, are matched.
-use Rattle.std.proofs.Common.{◌≡◌, ◌≢◌, ℕ, ◌+◌, ◌<◌, ◌≤◌, ◌&&◌, ◌==◌, nat_eq, not, is_some, Bool, true, false, cond, IsTrue, Option, Some, None, Result, Ok, Err, IfErr, List, [], ◌∷◌, length, get_or, inl, inr, refl, ap, sym, ◌∙◌, subst, arith}
+use Rattle.std.proofs.Common.{◌≡◌, ◌≢◌, ℕ, ◌+◌, ◌<◌, ◌≤◌, ◌&&◌, not, is_some, Bool, true, false, IsTrue, Option, Some, None, Result, Ok, Err, IfErr, List, [], ◌∷◌, inl, inr, refl, ap, sym, ◌∙◌, subst, arith}
 use Rattle.std.proofs.lemmas.Bool.{cases_Bool, cases_lt, ne_eqb, and_from}
 use Rattle.gate_values.specs.declared.logic.Logic.{Logic}
 use Rattle.gate_values.specs.declared.logic.Logic.TheVariants.{X}
 use Rattle.gate_values.specs.declared.logic.Change.{Change}
 use Rattle.gate_values.specs.Changes.{pair_at, before_time}
-use Rattle.gate_netlist.specs.Circuit.{nets_of, driver_of, is_input as is_input_driver}
+use Rattle.gate_netlist.specs.Circuit.{driver_of, is_input as is_input_driver}
 use Rattle.gate_netlist.specs.Cut.{IsOwnership, owner_of}
 use Rattle.gate_vcd.specs.Given.{AreItsChanges, changes_of}
-use Rattle.gate_vcd.specs.Waves.{IsWave, IsWaveFrom, IsUntil, end_time}
+use Rattle.gate_vcd.specs.Waves.{IsWaveFrom, end_time}
 use Rattle.warp_block.specs.Entries.{effective_of, no_messages, is_settled}
 use Rattle.warp_block.specs.PartOf.{part_of, part_nets}
 use Rattle.warp_block.specs.Portion.{Portion, slot_of, owns, reads, hears, is_input}
-use Rattle.warp_block.specs.View.{View, entry_of, effective_at, log_of, IsDone}
+use Rattle.warp_block.specs.View.{View, entry_of, log_of}
 use Rattle.warp_block.proofs.Filling.{in_map}
 use Rattle.warp_block.proofs.Settled.{settled-none}
 use Rattle.warp_core.specs.declared.fault.GatherFault.{GatherFault}
 use Rattle.warp_core.specs.declared.fault.GatherFault.TheVariants.{WrongCount, WrongPart, Unfinished, Unsettled, Mismatch, Memory}
 use Rattle.warp_core.specs.Gather.{IsFault, IsGathered}
-use Rattle.warp_core.specs.Matched.{seen_at, EachBlock, AreMatched, told_by, told_of, IsTold}
+use Rattle.warp_core.specs.Matched.{seen_at, AreMatched, told_by, told_of, IsTold}
 use Rattle.warp_core.specs.World.{Scene, IsBefore, IsLeastTime, IsLawfulWorld}
 use Rattle.warp_core.proofs.CommittedAll.{owner_below}
 use Rattle.warp_core.proofs.Finished.{log_wave, given_wave}

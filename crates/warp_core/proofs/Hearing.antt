@@ -1,14 +1,14 @@
 -- Who hears of a net: the other blocks whose gates use it, and these are whom its owner tells.
-use Rattle.std.proofs.Common.{◌≡◌, ◌≢◌, ℕ, ◌<◌, ◌&&◌, ◌||◌, ◌==◌, Bool, true, false, not, cond, Option, Some, None, is_some, List, [], length, get_or, inl, inr, refl, ap, sym, ◌∙◌, subst, arith}
-use Rattle.std.specs.List.{list_any, filter, range_with_len, All}
-use Rattle.std.proofs.lemmas.Bool.{cases_Bool, cases_lt, eqb-true, eq-eqb, ne_eqb, and_parts, and_from, or_right, true≢false}
+use Rattle.std.proofs.Common.{◌≡◌, ◌≢◌, ℕ, ◌<◌, ◌&&◌, ◌||◌, ◌==◌, Bool, true, false, not, cond, Option, Some, None, is_some, List, [], length, inl, inr, refl, ap, sym, ◌∙◌, arith}
+use Rattle.std.specs.List.{list_any, filter, range_with_len}
+use Rattle.std.proofs.lemmas.Bool.{cases_Bool, cases_lt, eqb-true, eq-eqb, ne_eqb, and_parts, and_from, true≢false}
 use Rattle.std.proofs.lemmas.List.{get_or_past}
 use Rattle.std.proofs.lemmas.List.Folds.{Any-from_list_any}
 use Rattle.gate_netlist.specs.Circuit.{Design, CutFits, nets_of, driver_of, is_input as is_input_driver, source_of as circuit_source}
 use Rattle.gate_netlist.specs.Cut.{Ownership, owner_of}
-use Rattle.gate_values.specs.Behaviour.{Source, Outside}
+use Rattle.gate_values.specs.Behaviour.{Outside}
 use Rattle.warp_block.specs.Building.{has}
-use Rattle.warp_block.specs.Portion.{Portion, is_driven, of_net, source_of, owns, reads, hears, is_input, readers_of, slot_of}
+use Rattle.warp_block.specs.Portion.{Portion, is_driven, source_of, owns, reads, hears, is_input, readers_of, slot_of}
 use Rattle.warp_block.specs.PartOf.{is_own, is_owner, is_used_by, part_nets, part_source, part_readers, part_of}
 use Rattle.warp_block.proofs.Slots.{of_net-map, slot_is}
 use Rattle.warp_block.proofs.Filling.{in_map}

@@ -21,3 +21,4 @@ pub mod Played
 pub mod ScheduleWords
 pub mod Scheduling
 pub mod ScheduleRefusals
+pub mod Driving

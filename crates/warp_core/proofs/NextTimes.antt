@@ -1,7 +1,7 @@
 -- The least event time of each block, and of all.
-use Rattle.std.proofs.Common.{◌≡◌, ◌≢◌, ℕ, ◌+◌, ◌<◌, ◌≤◌, ◌⊎◌, ◌==◌, ◌||◌, Bool, true, false, cond, Option, Some, None, List, [], ◌∷◌, ◌++◌, length, get_or, set, take, min, inl, inr, refl, ap, sym, ◌∙◌, subst, arith, IsTrue, unwrap_or}
-use Rattle.std.specs.List.{All, list_any, count_by}
-use Rattle.std.proofs.lemmas.Bool.{cases_eq, cases_lt, eq-eqb}
+use Rattle.std.proofs.Common.{◌≡◌, ℕ, ◌+◌, ◌<◌, ◌≤◌, ◌==◌, ◌||◌, Bool, true, false, cond, Option, Some, None, List, [], ◌∷◌, ◌++◌, length, get_or, set, take, min, inl, inr, refl, ap, sym, ◌∙◌, subst, arith, unwrap_or}
+use Rattle.std.specs.List.{list_any, count_by}
+use Rattle.std.proofs.lemmas.Bool.{cases_eq, cases_lt}
 use Rattle.std.proofs.lemmas.List.{length-set, get_or-set_same, get_or-set_other, get_or_append_left, get_or_push, length_push, length-take-le, get_or-take}
 use Rattle.std.proofs.lemmas.List.Elements.{All-weaker}
 use Rattle.std.proofs.lemmas.List.Sums.{sum_by-cons}
@@ -10,7 +10,7 @@ use Rattle.warp_block.specs.View.{View, Process, IsEventTime, IsLeast}
 use Rattle.warp_core.specs.declared.flight.Soonest.{Soonest}
 use Rattle.warp_core.specs.Kept.{IsSoonest, IsNextTime, AreNextTimes, IsLeastOf}
 use Rattle.warp_core.specs.Matched.{no_process, seen_at}
-use Rattle.warp_core.specs.World.{Scene, IsBefore, IsLeft, IsLeastTime, IsLawfulWorld}
+use Rattle.warp_core.specs.World.{Scene, IsLeastTime, IsLawfulWorld}
 use Rattle.warp_core.specs.Play.{IsOtherwiseSame}
 use Rattle.warp_core.proofs.Acting.{same_seen}
 

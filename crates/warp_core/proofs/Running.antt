@@ -1,6 +1,5 @@
 -- A block finishes event times.
-use Rattle.std.proofs.Common.{◌≡◌, ℕ, ◌+◌, ◌<◌, ◌≤◌, IsTrue, List, [], inl, inr, refl, ap, sym, ◌∙◌, subst, arith}
-use Rattle.std.specs.List.{All}
+use Rattle.std.proofs.Common.{◌≡◌, ℕ, ◌<◌, List, [], inl, inr, ap, sym, ◌∙◌, subst, arith}
 use Rattle.std.proofs.lemmas.Bool.{cases_eq}
 use Rattle.warp_block.specs.declared.message.Message.{Message}
 use Rattle.warp_block.specs.Advance.{IsAdvanced, IsAfterEvent}
@@ -8,10 +7,10 @@ use Rattle.warp_block.specs.Entries.{Received, number_of, entry_in}
 use Rattle.warp_block.specs.Lawful.{IsLawful}
 use Rattle.warp_block.specs.Portion.{Portion, of_net}
 use Rattle.warp_block.specs.Sends.{Place, Sends}
-use Rattle.warp_block.specs.View.{View, Process, entry_of, IsEventTime}
+use Rattle.warp_block.specs.View.{View, Process, entry_of}
 use Rattle.warp_block.proofs.Laws.{none_before_advance}
 use Rattle.warp_core.specs.Matched.{seen_at}
-use Rattle.warp_core.specs.World.{Scene, number_at, AreAccounted, IsLawfulWorld}
+use Rattle.warp_core.specs.World.{Scene, number_at, IsLawfulWorld}
 use Rattle.warp_core.specs.Play.{IsOtherwiseSame}
 use Rattle.warp_core.proofs.Acting.{same_seen}
 use Rattle.warp_core.proofs.Acted.{IsAct}

@@ -1,5 +1,5 @@
 -- Below the least time every entry is settled, and says what its owner, or the stimulus, says.
-use Rattle.std.proofs.Common.{◌≡◌, ◌≢◌, ℕ, ℤ, pos, ◌+ℤ◌, ◌+◌, ◌<◌, ◌≤◌, ◌⊎◌, ◌&&◌, ◌||◌, ◌==◌, nat_eq, not, is_some, Bool, true, false, cond, IsTrue, Option, Some, None, List, [], ◌∷◌, map, length, get_or, inl, inr, refl, ap, sym, ◌∙◌, subst, arith}
+use Rattle.std.proofs.Common.{◌≡◌, ◌≢◌, ℕ, pos, ◌+◌, ◌<◌, ◌≤◌, ◌&&◌, ◌||◌, ◌==◌, not, is_some, Bool, true, false, cond, IsTrue, Option, Some, None, List, [], ◌∷◌, map, inl, inr, refl, ap, sym, ◌∙◌, subst, arith}
 use Rattle.std.specs.List.{All, list_any, count_by}
 use Rattle.std.proofs.lemmas.Bool.{cases_Bool, ne_eqb, eqb-true, and_from}
 use Rattle.std.proofs.lemmas.Int.{ints}
@@ -9,25 +9,24 @@ use Rattle.gate_values.specs.declared.logic.Logic.TheVariants.{Zero, One, X, Z}
 use Rattle.gate_values.specs.declared.logic.Change.{Change}
 use Rattle.gate_values.specs.Changes.{same, pair_at, before_time}
 use Rattle.gate_netlist.specs.Cut.{owner_of}
-use Rattle.gate_vcd.specs.Given.{Given, changes_of}
-use Rattle.gate_vcd.specs.Waves.{IsWave, IsWaveFrom}
+use Rattle.gate_vcd.specs.Given.{changes_of}
+use Rattle.gate_vcd.specs.Waves.{IsWaveFrom}
 use Rattle.warp_block.specs.declared.entry.Entry.{Entry}
 use Rattle.warp_block.specs.declared.message.Message.{Message}
 use Rattle.warp_block.specs.declared.message.Sign.{Sign}
 use Rattle.warp_block.specs.declared.message.Sign.TheVariants.{Plus, Minus}
 use Rattle.warp_block.specs.Entries.{Received, number_of, effective_of, no_messages, one_message, is_settled, entry_in}
-use Rattle.warp_block.specs.Lawful.{IsLawful}
-use Rattle.warp_block.specs.Opening.{message_of, opening_queue, opening_view}
+use Rattle.warp_block.specs.Opening.{message_of, opening_queue}
 use Rattle.warp_block.specs.PartOf.{part_of, part_nets}
-use Rattle.warp_block.specs.Portion.{Portion, slot_of, of_net, owns, reads, hears, is_input}
-use Rattle.warp_block.specs.Sends.{Place, is_change, is_message, same_sign, messages, antimessages}
-use Rattle.warp_block.specs.View.{View, Process, entry_of, log_of, queue_of}
+use Rattle.warp_block.specs.Portion.{Portion, slot_of, owns, reads, hears, is_input}
+use Rattle.warp_block.specs.Sends.{Place, is_change, is_message, same_sign}
+use Rattle.warp_block.specs.View.{View, entry_of, log_of, queue_of}
 use Rattle.warp_block.proofs.Filling.{in_map}
 use Rattle.warp_block.proofs.Settled.{settled-none, settled-one}
 use Rattle.warp_block.proofs.Slots.{slot_is}
 use Rattle.warp_block.proofs.Told.{count-none}
 use Rattle.warp_core.specs.Matched.{seen_at}
-use Rattle.warp_core.specs.World.{Scene, number_at, logged, logged_by, IsBefore, IsLawfulWorld}
+use Rattle.warp_core.specs.World.{Scene, logged, logged_by, IsBefore, IsLawfulWorld}
 use Rattle.warp_core.proofs.Delivering.{entry_from}
 use Rattle.warp_core.proofs.Finished.{log_wave}
 use Rattle.warp_core.proofs.Hearing.{heard_from}

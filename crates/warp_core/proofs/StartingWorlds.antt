@@ -1,13 +1,12 @@
 -- A new world.
-use Rattle.std.proofs.Common.{◌≡◌, ◌≢◌, ℕ, ℤ, pos, ◌+ℤ◌, ◌+◌, ◌<◌, ◌≤◌, ◌&&◌, ◌++◌, Bool, true, false, cond, not, is_some, IsTrue, Option, Some, None, List, [], ◌∷◌, length, get_or, inl, inr, refl, ap, sym, ◌∙◌, subst, arith}
-use Rattle.std.specs.List.{All, list_any}
+use Rattle.std.proofs.Common.{◌≡◌, ◌≢◌, ℕ, pos, ◌+◌, ◌≤◌, ◌++◌, Bool, true, false, cond, not, is_some, Option, Some, None, List, [], ◌∷◌, get_or, inl, inr, refl, ap, sym, ◌∙◌, subst, arith}
+use Rattle.std.specs.List.{All}
 use Rattle.std.proofs.lemmas.Bool.{cases_eq, cases_lt, and_parts}
 use Rattle.std.proofs.lemmas.Int.{ints}
 use Rattle.std.proofs.lemmas.List.{get_or_append_left, get_or_push, get_or_past, length_push}
 use Rattle.std.proofs.lemmas.List.Elements.{All-append, All-same, All-nil, All-weaker}
 use Rattle.gate_values.specs.declared.logic.Logic.{Logic}
 use Rattle.gate_values.specs.declared.logic.Logic.TheVariants.{Zero, One, X, Z}
-use Rattle.gate_values.specs.declared.logic.Change.{Change}
 use Rattle.gate_netlist.specs.Circuit.{Design, CutFits}
 use Rattle.gate_netlist.specs.Cut.{Ownership, owner_of}
 use Rattle.gate_vcd.specs.Given.{Given, Fits}
@@ -18,14 +17,14 @@ use Rattle.warp_block.specs.Entries.{Received, number_of, no_messages, entry_in}
 use Rattle.warp_block.specs.Lawful.{IsLawful}
 use Rattle.warp_block.specs.Opening.{silent_view, opening_view, opening_queue}
 use Rattle.warp_block.specs.PartOf.{part_of, part_nets}
-use Rattle.warp_block.specs.Portion.{Portion, of_net, slot_of, owns, reads, hears, is_input}
-use Rattle.warp_block.specs.Sends.{Place, is_change, IsSendOf, SendsOnce}
+use Rattle.warp_block.specs.Portion.{slot_of, owns, reads, hears, is_input}
+use Rattle.warp_block.specs.Sends.{Place, SendsOnce}
 use Rattle.warp_block.specs.View.{View, Process, entry_of, log_of}
 use Rattle.warp_block.proofs.Filling.{in_map}
 use Rattle.warp_block.proofs.Slots.{of_net-map}
 use Rattle.warp_core.specs.Matched.{no_process, seen_at}
 use Rattle.warp_core.specs.Opened.{AreOpened}
-use Rattle.warp_core.specs.World.{Scene, number_at, logged, logged_by, AreAccounted, IsFlying, IsBefore, IsLawfulWorld, IsNewWorld}
+use Rattle.warp_core.specs.World.{number_at, logged_by, IsFlying, IsBefore, IsLawfulWorld, IsNewWorld}
 use Rattle.warp_core.proofs.Acting.{sent_accounted, sent_flying}
 
 module _ (d : Design) (cut : Ownership) (g : Given) (horizon : ℕ) where

@@ -1,5 +1,5 @@
 -- What contracts see of a world, and what is true of its fields.
-use Rattle.std.specs.Prelude.{◌≡◌, ◌+◌}
+use Rattle.std.specs.Prelude.{◌+◌}
 use Rattle.warp_core.specs.declared.world.World.TheInside.{Inside}
 use Rattle.warp_core.specs.World.{Scene, IsLawfulWorld}
 use Rattle.warp_core.specs.Kept.{IsSoonest, AreNextTimes}

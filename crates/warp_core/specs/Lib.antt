@@ -8,3 +8,4 @@ pub mod Kept
 pub mod HeldWorld
 pub mod Opened
 pub mod Schedule
+pub mod Drive

@@ -1,5 +1,5 @@
 -- The first blocks of a new world.
-use Rattle.std.specs.Prelude.{◌≡◌, ℕ, ℤ, pos, ◌<◌, List, length}
+use Rattle.std.specs.Prelude.{◌≡◌, ℕ, pos, ◌<◌, List, length}
 use Rattle.std.specs.List.{All}
 use Rattle.gate_netlist.specs.Circuit.{Design}
 use Rattle.gate_netlist.specs.Cut.{Ownership}

@@ -5,7 +5,6 @@ use Rattle.gate_netlist.specs.Circuit.{Design, CutFits}
 use Rattle.gate_netlist.specs.Cut.{Ownership, owner_of}
 use Rattle.gate_vcd.specs.Given.{Given, Fits}
 use Rattle.warp_block.specs.declared.message.Message.{Message}
-use Rattle.warp_block.specs.declared.message.Sign.{Sign}
 use Rattle.warp_block.specs.declared.message.Sign.TheVariants.{Plus}
 use Rattle.warp_block.specs.Entries.{number_of}
 use Rattle.warp_block.specs.Lawful.{IsLawful}
@@ -14,7 +13,7 @@ use Rattle.warp_block.specs.Opening.{opening_view}
 use Rattle.warp_block.specs.PartOf.{part_of}
 use Rattle.warp_block.specs.Portion.{hears, is_input}
 use Rattle.warp_block.specs.Sends.{Place, is_change, messages, antimessages}
-use Rattle.warp_block.specs.View.{View, Process, entry_of, log_of, IsEventTime}
+use Rattle.warp_block.specs.View.{Process, entry_of, log_of, IsEventTime}
 use Rattle.warp_core.specs.Matched.{seen_at, EachBlock, IsBlockOf}
 
 -- what a world is of, its blocks in order, and the messages in flight in order

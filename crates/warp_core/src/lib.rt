@@ -3,6 +3,7 @@
 //! A [`World`] holds all blocks of a cut, and the messages in flight between them; any order of [`Event`]s can be played
 //! on it, without threads. Whatever was played, what each block holds and what is in flight to it make up what the
 //! others have logged, so no block ever refuses what it is told. Where nothing is left to do the blocks are matched.
+//! [`drive`] plays rounds until then, at most one more than the horizon, for every order of the blocks.
 //!
 //! [`gather`] joins blocks that have finished into the [`Waves`](gate_vcd::Waves) of the circuit. It answers only
 //! blocks that are matched: each is of its part of the cut, none has anything left to do, and each was told exactly
@@ -11,10 +12,11 @@
 //! cause in the order of [`GatherFault`].
 //!
 //! The definitions stand in `specs/`: `Matched` for matched blocks, `Values` for the circuit's waves, `Gather` for what
-//! is answered, `World` for the law of worlds and the least time, `Play` for events, `Schedule` for the text that
-//! [`read_schedule`] reads as a list of events.
+//! is answered, `World` for the law of worlds and the least time, `Play` for events, `Drive` for rounds, `Schedule` for
+//! the text that [`read_schedule`] reads as a list of events.
 #![tactic(auto)]
 
+mod driver;
 mod event;
 mod fault;
 mod flight;
@@ -22,12 +24,15 @@ mod gathering;
 mod schedule;
 mod world;
 
+pub use driver::{DriveFault, drive};
 pub use event::{Event, PlayFault};
 pub use fault::GatherFault;
 pub use gathering::gather;
 pub use schedule::{ScheduleCause, ScheduleFault, read_schedule, schedule_laws};
 pub use world::World;
 
+#[cfg(test)]
+mod driver_tests;
 #[cfg(test)]
 mod schedule_tests;
 #[cfg(test)]

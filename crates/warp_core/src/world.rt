@@ -183,7 +183,7 @@ impl<'a> World<'a> {
     }
 
     /// The message at a place reaches its block.
-    fn deliver(&mut self, place: usize) -> Result<(), PlayFault>
+    pub(crate) fn deliver(&mut self, place: usize) -> Result<(), PlayFault>
         ensures played { OnOk result (IsPlayed self.old self.new (event.Deliver place)) }
         ensures refused { IfErr result (IsRefused self.old (event.Deliver place)) }
         ensures err { OnErr result (self.new ≡ self.old) }
@@ -207,7 +207,7 @@ impl<'a> World<'a> {
     }
 
     /// A block finishes up to so many event times.
-    fn advance(&mut self, number: u32, steps: u32) -> Result<(), PlayFault>
+    pub(crate) fn advance(&mut self, number: u32, steps: u32) -> Result<(), PlayFault>
         ensures played { OnOk result (IsPlayed self.old self.new (event.Advance number steps)) }
         ensures refused { IfErr result (IsRefused self.old (event.Advance number steps)) }
         ensures after { IfErr result (IsAfterRefusal self.old self.new (event.Advance number steps)) }
@@ -228,7 +228,7 @@ impl<'a> World<'a> {
     }
 
     /// All blocks commit what is below the least time.
-    fn commit(&mut self)
+    pub(crate) fn commit(&mut self)
         ensures played { IsPlayed self.old self.new event.Commit }
         ensures never_earlier { (s : ℕ) → IsBefore self.old s → IsBefore self.new s }
     {

@@ -1,4 +1,4 @@
-use Rattle.std.proofs.Common.{◌≡◌, ◌+◌, ◌<◌, ℕ, length, refl, sym, subst}
+use Rattle.std.proofs.Common.{◌+◌, ◌<◌, refl, sym, subst}
 use Rattle.warp_core.specs.HeldWorld.{scene_of}
 use Rattle.warp_core.specs.Play.{IsCommittedAll}
 use Rattle.warp_core.specs.World.{Scene, IsBefore, IsLeastTime}

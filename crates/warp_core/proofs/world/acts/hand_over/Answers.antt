@@ -2,7 +2,6 @@ use Rattle.std.proofs.Common.{◌<◌, ℕ}
 use Rattle.std.specs.List.{remove}
 use Rattle.warp_block.specs.declared.message.Sign.TheVariants.{Minus}
 use Rattle.warp_block.specs.Sends.{SendsOnce}
-use Rattle.warp_block.specs.View.{View}
 use Rattle.warp_core.proofs.Changing.{between, sends_without}
 use Rattle.warp_core.proofs.world.acts.hand_over.Goals as goal
 

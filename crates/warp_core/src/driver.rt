@@ -1,0 +1,185 @@
+ghost use Rattle.std.specs.Prelude.{◌≡◌, ◌≤◌, ◌<◌, ◌+◌, ◌==◌, ◌↔◌, ℕ, IsTrue, IfOk, IfErr, OnOk, OnErr, length, get_or, take, unwrap_or};
+ghost use Rattle.std.specs.List.{All, count_by};
+ghost use Rattle.gate_netlist.specs.Circuit.{CutFits};
+ghost use Rattle.gate_vcd.specs.Given.{Fits};
+ghost use Rattle.warp_block.specs.Limits.{most_horizon};
+ghost use Rattle.warp_core.specs.Values.{AreCircuitWaves};
+ghost use Rattle.warp_core.specs.World.{IsBefore};
+ghost use Rattle.warp_core.specs.Play.{IsSameCourse};
+ghost use Rattle.warp_core.specs.Drive.{IsOrder, IsPast, IsRaised, IsDriveRefusal, drive_fault_name};
+ghost use Rattle.warp_core.specs.declared.event.PlayFault.TheVariants as play;
+ghost use Rattle.warp_core.specs.declared.driver.DriveFault.TheVariants as fault;
+
+use crate::event::{Event, PlayFault};
+use crate::world::World;
+use gate_netlist::{Circuit, Cut};
+use gate_vcd::{Stimulus, Waves};
+use std::alloc::{AllocError, Global};
+use thiserror::Error;
+
+/// Why a world isn't driven.
+#[derive(Clone, Copy, Debug, PartialEq, Eq, Error)]
+pub enum DriveFault {
+    /// A growth was refused.
+    #[error("Memory")]
+    Memory,
+    /// The order is no permutation of the blocks.
+    #[error("BadOrder")]
+    BadOrder,
+}
+
+impl DriveFault {
+    /// The name of the cause.
+    pub fn name(self) -> &'static str
+        ensures { result.now ≡ drive_fault_name self }
+    {
+        match self {
+            DriveFault::Memory => "Memory",
+            DriveFault::BadOrder => "BadOrder",
+        }
+    }
+}
+
+impl From<AllocError> for DriveFault {
+    ghost from_gives = { λ _ cause. cause ≡ fault.Memory };
+
+    fn from(_: AllocError) -> DriveFault {
+        DriveFault::Memory
+    }
+}
+
+impl<'a> World<'a> {
+    /// All blocks commit; then, block by block in the order, each message in flight for the block reaches it, and it
+    /// finishes one event time. Afterwards the least time is higher, or is still past the horizon.
+    ///
+    /// An order that is no permutation of the blocks is refused, without memory, and nothing has changed then. After
+    /// want of memory the events played stand.
+    pub fn round(&mut self, order: &[u32]) -> Result<(), DriveFault>
+        ensures course { IsSameCourse self.old self.new }
+        ensures ordered { OnOk result (IsOrder self.old.cut.blocks order.now) }
+        ensures raised { OnOk result (IsRaised self.old self.new) }
+        ensures refused { IfErr result (IsDriveRefusal self.old.cut.blocks order.now) }
+        ensures unchanged { IfErr result (λ cause. cause ≡ fault.BadOrder → self.new ≡ self.old) }
+    {
+        if !is_order(order, self.count()) {
+            return Err(DriveFault::BadOrder);
+        }
+        self.law();
+        self.commit();
+        for number in order {
+            match self.turn_for(*number) {
+                Ok(()) => {}
+                Err(_) => return Err(DriveFault::Memory),
+            }
+        }
+        self.law();
+        Ok(())
+    }
+
+    /// Each message in flight for a block reaches it, and it finishes an event time.
+    fn turn_for(&mut self, number: u32) -> Result<(), PlayFault>
+        requires { number < self.old.cut.blocks }
+        ensures course { IsSameCourse self.old self.new }
+        ensures never_earlier { (s : ℕ) → IsBefore self.old s → IsBefore self.new s }
+        ensures past { OnOk result ((t : ℕ) → IsBefore self.old t → IsPast self.new number t) }
+        ensures kept { (t b : ℕ) → b < self.old.cut.blocks → IsBefore self.old t → IsPast self.old b t → IsPast self.new b t }
+    {
+        self.deliver_all(number)?;
+        self.law();
+        let answer = self.advance(number, 1);
+        self.law();
+        answer
+    }
+
+    /// Each message in flight for a block reaches it.
+    fn deliver_all(&mut self, number: u32) -> Result<(), PlayFault>
+        ensures course { IsSameCourse self.old self.new }
+        ensures never_earlier { (s : ℕ) → IsBefore self.old s → IsBefore self.new s }
+        ensures received { OnOk result ((t : ℕ) → IsBefore self.old t → All (λ m. m.block ≡ number → t < m.time) self.new.flight) }
+        ensures kept { (t b : ℕ) → b < self.old.cut.blocks → IsBefore self.old t → IsPast self.old b t → IsPast self.new b t }
+    {
+        let mut place = self.flight().len();
+        while place > 0 {
+            place -= 1;
+            if self.flight()[place].block == number {
+                self.law();
+                self.deliver(place)?;
+                self.law();
+            }
+        }
+        Ok(())
+    }
+}
+
+/// Whether an order is a permutation of so many blocks: each number below the count stands in it once, and no other.
+fn is_order(order: &[u32], count: u32) -> bool
+    ensures { IsTrue result ↔ IsOrder count order.now }
+{
+    if !are_below(order, count) {
+        return false;
+    }
+    for number in 0..count {
+        if !stands_once(order, number) {
+            return false;
+        }
+    }
+    true
+}
+
+fn are_below(order: &[u32], count: u32) -> bool
+    ensures { IsTrue result ↔ All (λ b. b < count) order.now }
+{
+    for number in order {
+        if *number >= count {
+            return false;
+        }
+    }
+    true
+}
+
+fn stands_once(order: &[u32], number: u32) -> bool
+    ensures { IsTrue result ↔ (count_by (λ x. x == number) order.now ≡ 1) }
+{
+    order.iter().filter(|other| **other == number).count() == 1
+}
+
+/// The circuit's waves, by rounds in this order of the blocks, and how many rounds were played: at most one more than
+/// the horizon. The cut and the stimulus fit the circuit; the horizon is at most
+/// [`MOST_HORIZON`](warp_block::MOST_HORIZON).
+///
+/// An order that is no permutation of the blocks is refused first, without memory; else only want of memory is.
+pub fn drive(
+    alloc: Global,
+    circuit: &Circuit,
+    cut: &Cut,
+    stimulus: &Stimulus,
+    horizon: u64,
+    order: &[u32],
+) -> Result<(Waves, u64), DriveFault>
+    requires cut { CutFits circuit.now cut.now }
+    requires stimulus { Fits stimulus.now circuit.now }
+    requires horizon { horizon ≤ most_horizon }
+    ensures ordered { OnOk result (IsOrder cut.now.blocks order.now) }
+    ensures waves { IfOk result (λ driven. AreCircuitWaves circuit.now stimulus.now horizon driven.0) }
+    ensures few { IfOk result (λ driven. driven.1 ≤ horizon + 1) }
+    ensures refused { IfErr result (IsDriveRefusal cut.now.blocks order.now) }
+{
+    if !is_order(order, cut.blocks()) {
+        return Err(DriveFault::BadOrder);
+    }
+    let mut world = World::new(alloc, circuit, cut, stimulus, horizon)?;
+    let mut rounds = 0;
+    let mut least = world.least();
+    while least <= horizon {
+        match world.round(order) {
+            Ok(()) => {}
+            Err(cause) => return Err(cause),
+        }
+        rounds += 1;
+        least = world.least();
+    }
+    match world.finish() {
+        Ok(waves) => Ok((waves, rounds)),
+        Err(_) => Err(DriveFault::Memory),
+    }
+}
