@@ -32,18 +32,18 @@ const NOTHING: Texts = Texts {
 };
 
 #[derive(Clone, Copy)]
-struct Texts {
-    bench: &'static str,
-    settings: &'static str,
-    stimulus: &'static str,
+pub(crate) struct Texts {
+    pub(crate) bench: &'static str,
+    pub(crate) settings: &'static str,
+    pub(crate) stimulus: &'static str,
 }
 
-fn circuit_of(alloc: Global, texts: Texts) -> Result<Circuit, Fail> {
+pub(crate) fn circuit_of(alloc: Global, texts: Texts) -> Result<Circuit, Fail> {
     let bench = read_bench(alloc, texts.bench.as_bytes())?;
     Ok(Circuit::of(alloc, bench, texts.settings.as_bytes())?)
 }
 
-fn cut_of(circuit: &Circuit) -> Result<&Cut, Fail> {
+pub(crate) fn cut_of(circuit: &Circuit) -> Result<&Cut, Fail> {
     let cut = circuit.cut().ok_or("a cut")?;
     if !cut.fits(circuit) {
         return Err(Fail::from("a cut of another circuit"));

@@ -34,6 +34,8 @@ pub use world::World;
 #[cfg(test)]
 mod driver_tests;
 #[cfg(test)]
+mod flight_tests;
+#[cfg(test)]
 mod schedule_tests;
 #[cfg(test)]
 mod tests;

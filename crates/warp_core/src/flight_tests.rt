@@ -1,0 +1,66 @@
+use super::driver_tests::{Texts, circuit_of, cut_of};
+use super::*;
+use Logic::{One, Zero};
+use gate_values::Logic;
+use gate_vcd::read_stimulus;
+use std::alloc::Global;
+use std::test::Fail;
+use warp_block::{Message, Sign};
+
+/// A toggle in two blocks; nets N, Q, CK.
+const TOGGLE: Texts = Texts {
+    bench: "N = NOT(Q)\nQ = DFF(N)\n",
+    settings: "[init]\nQ = \"0\"\n[block]\nN = 0\nQ = 1\n",
+    stimulus: "$var wire 1 c CK $end $enddefinitions $end #0 0c #3 1c",
+};
+
+/// Flip-flops that two other blocks read, of which the first net is in the second block; nets D, P, Q, R, Y, Z, CK.
+const REGISTER: Texts = Texts {
+    bench: "INPUT(D)\nP = DFF(D)\nQ = DFF(D)\nR = DFF(D)\nY = AND(P, Q, R)\nZ = OR(Q, R)\n",
+    settings: "[init]\nP = \"1\"\nQ = \"0\"\nR = \"1\"\n[block]\nP = 1\nQ = 0\nR = 0\nY = 2\nZ = 1\n",
+    stimulus: "$var wire 1 d D $end $var wire 1 c CK $end $enddefinitions $end",
+};
+
+/// What is in flight in a new world.
+fn opening(alloc: Global, texts: Texts) -> Result<Vec<Message>, Fail> {
+    let circuit = circuit_of(alloc, texts)?;
+    let cut = cut_of(&circuit)?;
+    let stimulus = read_stimulus(alloc, texts.stimulus.as_bytes(), &circuit)?;
+    if !cut.fits(&circuit) || !stimulus.fits(&circuit) {
+        return Err(Fail::from("a cut or stimulus of another circuit"));
+    }
+    let world = World::new(alloc, &circuit, cut, &stimulus, 10)?;
+    Ok(Vec::from_slice(alloc, world.flight())?)
+}
+
+#[test]
+fn initial_contents_are_in_flight_by_block_net_and_reader(rt: HostRuntime) -> Result<(), Fail> {
+    let rows: [(Texts, &[(u32, u32, Logic)]); 2] = [
+        (TOGGLE, &[(1, 0, Zero)]),
+        (
+            REGISTER,
+            &[
+                (2, 1, Zero),
+                (2, 2, Zero),
+                (3, 1, One),
+                (3, 2, One),
+                (1, 2, One),
+            ],
+        ),
+    ];
+    for (texts, want) in rows {
+        let flight = opening(rt.alloc(), texts)?;
+        assert_eq!(rt; flight.len(), want.len());
+        for (message, (net, block, value)) in flight.iter().zip(want) {
+            let told = Message {
+                time: 0,
+                block: *block,
+                net: *net,
+                value: *value,
+                sign: Sign::Plus,
+            };
+            assert_eq!(rt; *message, told);
+        }
+    }
+    Ok(())
+}
