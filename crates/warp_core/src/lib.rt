@@ -32,6 +32,8 @@ pub use schedule::{ScheduleCause, ScheduleFault, read_schedule, schedule_laws};
 pub use world::World;
 
 #[cfg(test)]
+mod drawn_tests;
+#[cfg(test)]
 mod driver_tests;
 #[cfg(test)]
 mod flight_tests;

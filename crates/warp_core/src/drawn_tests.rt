@@ -1,0 +1,170 @@
+ghost use Rattle.std.specs.Prelude.{◌<◌};
+
+use super::driver_tests::{Texts, circuit_of, cut_of};
+use super::*;
+use Event::{Advance, Commit, Deliver};
+use gate_netlist::{Circuit, Cut};
+use gate_vcd::{Stimulus, Waves, read_stimulus};
+use std::alloc::Global;
+use std::test::Fail;
+
+/// Three blocks in a ring, and a flip-flop in a ring of two; nets P, C, A, B, Q, Z.
+const RINGS: Texts = Texts {
+    bench: "INPUT(P)\nINPUT(C)\nA = NAND(P, Z)\nB = XOR(A, Q)\nQ = DFF(B)\nZ = NOR(B, C)\n",
+    settings: "[net]\nB = 2\n[clocks]\nQ = \"C\"\n[init]\nQ = \"0\"\n[block]\nA = 0\nQ = 0\nB = 1\nZ = 2\n",
+    stimulus: "$var wire 1 p P $end $var wire 1 c C $end $enddefinitions $end #0 0p 0c #5 1p #7 1c #8 0c #12 1c #14 0c 0p #16 1p #19 1c #20 0c #23 1c",
+};
+
+const HORIZON: u64 = 25;
+
+/// Numbers from a seed that is not 0, as Lehmer's generator gives them.
+#[derive(Drop)]
+pub(crate) struct Dice {
+    state: u32,
+}
+
+impl Dice {
+    pub(crate) fn new(seed: u32) -> Dice {
+        Dice { state: seed }
+    }
+
+    pub(crate) fn roll(&mut self, sides: u32) -> u32
+        requires { 0 < sides }
+    {
+        self.state = (self.state as u64 * 48_271 % 2_147_483_647) as u32;
+        self.state / 16 % sides
+    }
+
+    fn event(&mut self) -> Event {
+        match self.roll(6) {
+            0 => Commit,
+            1 | 2 => Advance {
+                block: self.roll(4),
+                steps: self.roll(4),
+            },
+            _ => Deliver {
+                message: self.roll(8) as usize,
+            },
+        }
+    }
+}
+
+/// Why an event is to be refused.
+fn refusal(world: &World<'_>, event: Event) -> Option<PlayFault> {
+    match event {
+        Deliver { message } if message >= world.flight().len() => Some(PlayFault::NoSuchMessage),
+        Advance { block, .. } if block >= 3 => Some(PlayFault::NoSuchBlock),
+        _ => None,
+    }
+}
+
+/// Plays a hundred drawn events; the answer is how many were refused.
+fn play_drawn(world: &mut World<'_>, dice: &mut Dice) -> Result<u32, Fail> {
+    let mut refused = 0_u32;
+    for _ in 0..100 {
+        let event = dice.event();
+        let least = world.least();
+        match refusal(world, event) {
+            None => world.play(event)?,
+            Some(fault) => {
+                refused = refused.saturating_add(1);
+                if world.play(event) != Err(fault) {
+                    return Err(Fail::from("another refusal"));
+                }
+            }
+        }
+        if world.least() < least {
+            return Err(Fail::from("an earlier least time"));
+        }
+    }
+    Ok(refused)
+}
+
+/// The waves of a world, after rounds until nothing is left.
+fn finished(mut world: World<'_>, order: &[u32]) -> Result<Waves, Fail> {
+    for _ in 0..HORIZON + 1 {
+        if world.least() > HORIZON {
+            break;
+        }
+        world.round(order)?;
+    }
+    Ok(world.finish()?)
+}
+
+/// How many changes waves have.
+fn count(waves: &Waves) -> usize {
+    let mut count = 0_usize;
+    for net in 0..waves.nets() {
+        count = count.saturating_add(waves.changes(net).len());
+    }
+    count
+}
+
+fn are_equal(first: &Waves, second: &Waves) -> bool {
+    if first.nets() != second.nets() {
+        return false;
+    }
+    for net in 0..first.nets() {
+        if first.changes(net) != second.changes(net) {
+            return false;
+        }
+    }
+    true
+}
+
+/// Plays drawn events on a new world, and then rounds: how many events were refused, and the waves.
+fn play_world(
+    alloc: Global,
+    circuit: &Circuit,
+    cut: &Cut,
+    stimulus: &Stimulus,
+    order: &[u32],
+    dice: &mut Dice,
+) -> Result<(u32, Waves), Fail> {
+    if !cut.fits(circuit) || !stimulus.fits(circuit) {
+        return Err(Fail::from("a cut or stimulus of another circuit"));
+    }
+    let mut world = World::new(alloc, circuit, cut, stimulus, HORIZON)?;
+    let refused = play_drawn(&mut world, dice)?;
+    Ok((refused, finished(world, order)?))
+}
+
+/// How many events of a hundred worlds were refused, where the waves of all are these.
+fn play_worlds(
+    alloc: Global,
+    circuit: &Circuit,
+    cut: &Cut,
+    stimulus: &Stimulus,
+    want: &Waves,
+) -> Result<u32, Fail> {
+    let mut dice = Dice::new(1);
+    let mut refused = 0_u32;
+    for order in [[0, 1, 2], [2, 1, 0], [1, 0, 2], [2, 0, 1]] {
+        for _ in 0..25 {
+            let (count, waves) = play_world(alloc, circuit, cut, stimulus, &order, &mut dice)?;
+            refused = refused.saturating_add(count);
+            if !are_equal(&waves, want) {
+                return Err(Fail::from("other waves"));
+            }
+        }
+    }
+    Ok(refused)
+}
+
+#[test]
+fn drawn_events_and_then_rounds_lead_to_the_waves_that_drive_finds(
+    rt: HostRuntime,
+) -> Result<(), Fail> {
+    let alloc = rt.alloc();
+    let circuit = circuit_of(alloc, RINGS)?;
+    let cut = cut_of(&circuit)?;
+    let stimulus = read_stimulus(alloc, RINGS.stimulus.as_bytes(), &circuit)?;
+    if !cut.fits(&circuit) || !stimulus.fits(&circuit) {
+        return Err(Fail::from("a cut or stimulus of another circuit"));
+    }
+    let (waves, _) = drive(alloc, &circuit, cut, &stimulus, HORIZON, &[0, 1, 2])?;
+    assert_eq!(rt; count(&waves), 39);
+    let refused = play_worlds(alloc, &circuit, cut, &stimulus, &waves)?;
+    assert!(rt; refused > 1000 && refused < 9000, "{refused} of 10000");
+    Ok(())
+}
