@@ -38,6 +38,8 @@ mod driver_tests;
 #[cfg(test)]
 mod flight_tests;
 #[cfg(test)]
+mod forged_tests;
+#[cfg(test)]
 mod schedule_tests;
 #[cfg(test)]
 mod tests;
