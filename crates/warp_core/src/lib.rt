@@ -31,17 +31,3 @@ pub use gathering::gather;
 pub use schedule::{ScheduleCause, ScheduleFault, read_schedule, schedule_laws};
 pub use world::World;
 
-#[cfg(test)]
-mod drawn_tests;
-#[cfg(test)]
-mod driver_tests;
-#[cfg(test)]
-mod flight_tests;
-#[cfg(test)]
-mod forged_tests;
-#[cfg(test)]
-mod schedule_tests;
-#[cfg(test)]
-mod tests;
-#[cfg(test)]
-mod world_tests;

@@ -1,7 +1,7 @@
-use super::*;
 use Event::{Advance, Commit, Deliver};
 use ScheduleCause::{BadLine, NumberTooLarge};
 use std::test::Fail;
+use warp_core::{Event, ScheduleCause, ScheduleFault, read_schedule};
 
 /// Texts and the events that they list.
 const READ: [(&str, &[Event]); 7] = [

@@ -1,4 +1,3 @@
-use super::*;
 use Logic::{One, Zero};
 use Sign::{Minus, Plus};
 use gate_netlist::{Circuit, read_bench};
@@ -7,6 +6,7 @@ use gate_vcd::{Waves, read_stimulus};
 use std::alloc::Global;
 use std::test::Fail;
 use warp_block::{Block, Message, Part, Sign};
+use warp_core::{GatherFault, gather};
 
 /// Two buffers, an AND and a NOT; nets P, Q, A, B, Y, Z.
 const PAIR: &str = "INPUT(P)\nINPUT(Q)\nA = BUFF(P)\nB = BUFF(Q)\nY = AND(A, B)\nZ = NOT(Y)\n";

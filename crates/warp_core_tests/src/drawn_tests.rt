@@ -1,12 +1,12 @@
 ghost use Rattle.std.specs.Prelude.{◌<◌};
 
 use super::driver_tests::{Texts, circuit_of, cut_of};
-use super::*;
 use Event::{Advance, Commit, Deliver};
 use gate_netlist::{Circuit, Cut};
 use gate_vcd::{Stimulus, Waves, read_stimulus};
 use std::alloc::Global;
 use std::test::Fail;
+use warp_core::{Event, PlayFault, World, drive};
 
 /// Three blocks in a ring, and a flip-flop in a ring of two; nets P, C, A, B, Q, Z.
 const RINGS: Texts = Texts {

@@ -1,8 +1,8 @@
-use super::*;
 use gate_netlist::{Circuit, Cut, read_bench};
 use gate_vcd::read_stimulus;
 use std::alloc::Global;
 use std::test::Fail;
+use warp_core::{DriveFault, World, drive};
 
 /// Two buffers in block 0, an AND in block 1 and a NOT in block 2.
 const PAIR: Texts = Texts {

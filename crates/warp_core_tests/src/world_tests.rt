@@ -1,4 +1,3 @@
-use super::*;
 use Event::{Advance, Commit, Deliver};
 use Logic::{One, Zero};
 use gate_netlist::{Circuit, read_bench};
@@ -6,6 +5,7 @@ use gate_values::{Change, Logic};
 use gate_vcd::{Stimulus, Waves, read_stimulus};
 use std::alloc::Global;
 use std::test::Fail;
+use warp_core::{Event, GatherFault, PlayFault, World};
 
 /// Two buffers in block 0, an AND in block 1 and a NOT in block 2; nets P, Q, A, B, Y, Z.
 const PAIR: &str = "INPUT(P)\nINPUT(Q)\nA = BUFF(P)\nB = BUFF(Q)\nY = AND(A, B)\nZ = NOT(Y)\n";

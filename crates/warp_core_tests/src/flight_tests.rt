@@ -1,11 +1,11 @@
 use super::driver_tests::{Texts, circuit_of, cut_of};
-use super::*;
 use Logic::{One, Zero};
 use gate_values::Logic;
 use gate_vcd::read_stimulus;
 use std::alloc::Global;
 use std::test::Fail;
 use warp_block::{Message, Sign};
+use warp_core::World;
 
 /// A toggle in two blocks; nets N, Q, CK.
 const TOGGLE: Texts = Texts {
