@@ -14,7 +14,7 @@ NO_THREAD = (3, b"", b"run: no thread\n")
 MOST = 2000
 
 # The modules of tests that draw their calls, too many to be swept.
-DRAWN = {("warp_core_tests", "drawn_tests"), ("warp_core", "forged_tests")}
+DRAWN = {("warp_core_tests", "drawn_tests"), ("warp_core_tests", "forged_tests")}
 
 
 def executable(crate, suffix=""):

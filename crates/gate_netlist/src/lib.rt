@@ -21,8 +21,6 @@ mod nets;
 mod reading;
 mod seed;
 mod settings;
-#[cfg(test)]
-mod settings_tests;
 mod statement;
 mod token;
 
@@ -38,5 +36,3 @@ pub use nets::Nets;
 pub use reading::read_bench;
 pub use seed::TextSeed;
 
-#[cfg(test)]
-mod bench_tests;

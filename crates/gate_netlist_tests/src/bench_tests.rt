@@ -1,4 +1,4 @@
-use super::*;
+use gate_netlist::{Bench, BenchCause, BenchFault, read_bench};
 use std::alloc::{AllocError, Global};
 use std::test::Fail;
 

@@ -1,4 +1,4 @@
-use crate::{Bench, Circuit, Counts, Cut, Driver, SettingsFault, read_bench};
+use gate_netlist::{Bench, Circuit, Counts, Cut, Driver, SettingsFault, read_bench};
 use gate_values::{Kind, Logic};
 use std::alloc::Global;
 use std::test::Fail;
