@@ -29,9 +29,8 @@ abbrev pub IsNoCircuit : (bench settings : List ℕ) → Fault → Type 0
 IsNoCircuit bench text (faults.Bench f) = bench_of bench ≡ Err f
 IsNoCircuit bench text (faults.Settings settings.Memory) = ⊥
 IsNoCircuit bench text (faults.Settings f) = (b : Netlist) × (bench_of bench ≡ Ok b) × IsSettled b text (Err f)
-IsNoCircuit bench text (faults.Stimulus f) = ⊥
-IsNoCircuit bench text (faults.Run f) = ⊥
 IsNoCircuit bench text faults.Memory = Unit {0}
+IsNoCircuit bench text _ = ⊥
 
 abbrev pub IsCircuitAnswer : (bench settings : List ℕ) → Result Design Fault → Type 0
 IsCircuitAnswer bench text (Ok d) = IsCircuitOf bench text d

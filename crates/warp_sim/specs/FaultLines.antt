@@ -12,7 +12,13 @@ use Rattle.gate_vcd.specs.declared.fault.StimFault.{StimFault}
 use Rattle.warp_block.specs.declared.fault.BlockFault.{BlockFault}
 use Rattle.warp_block.specs.declared.fault.BlockFault.TheVariants as block
 use Rattle.warp_core.specs.Gather.{gather_fault_name}
+use Rattle.warp_core.specs.Play.{play_fault_name}
+use Rattle.warp_core.specs.declared.event.PlayFault.{PlayFault}
+use Rattle.warp_core.specs.declared.event.PlayFault.TheVariants as play
+use Rattle.warp_core.specs.Schedule.{schedule_cause_name}
 use Rattle.warp_core.specs.declared.fault.GatherFault.TheVariants as gathering
+use Rattle.warp_core.specs.declared.schedule.fault.ScheduleCause.TheVariants as schedule
+use Rattle.warp_core.specs.declared.schedule.fault.ScheduleFault.{ScheduleFault}
 use Rattle.warp_rounds.specs.declared.fault.RunFault.{RunFault}
 use Rattle.warp_rounds.specs.declared.fault.RunFault.TheVariants as run
 use Rattle.warp_sim.specs.declared.fault.Fault.{Fault}
@@ -48,12 +54,17 @@ fault_line (faults.Bench f) = codes "bench line " ++ decimal f.line ++ codes ": 
 fault_line (faults.Settings f) = codes "settings: " ++ settings_fault_name f
 fault_line (faults.Stimulus f) =
     codes "stimulus " ++ place_word f.cause ++ codes " " ++ decimal f.at ++ codes ": " ++ stim_cause_name f.cause
+fault_line (faults.Schedule f) = codes "schedule line " ++ decimal f.line ++ codes ": " ++ schedule_cause_name f.cause
 fault_line (faults.Run f) = run_fault_line f
+fault_line (faults.Event number cause) = codes "event " ++ decimal number ++ codes ": " ++ play_fault_name cause
+fault_line (faults.Unfinished time) = codes "unfinished at " ++ decimal time
 fault_line faults.Memory = codes "memory"
 
--- a refused text ends the program with 1, a refused run and want of memory with 3
+-- a refused text ends the program with 1, a refused run, a play that comes to no end and want of memory with 3
 abbrev pub status_of : Fault → ℕ
 status_of (faults.Run f) = 3
+status_of (faults.Event number cause) = 3
+status_of (faults.Unfinished time) = 3
 status_of faults.Memory = 3
 status_of _ = 1
 
@@ -67,6 +78,13 @@ settings_fault f = faults.Settings f
 
 abbrev pub stimulus_fault : StimFault → Fault
 stimulus_fault f = elim f.cause [ stimulus.Memory ↦ faults.Memory | _ ↦ faults.Stimulus f ]
+
+abbrev pub schedule_fault : ScheduleFault → Fault
+schedule_fault f = elim f.cause [ schedule.Memory ↦ faults.Memory | _ ↦ faults.Schedule f ]
+
+abbrev pub event_fault : ℕ → PlayFault → Fault
+event_fault number play.Memory = faults.Memory
+event_fault number cause = faults.Event number cause
 
 abbrev pub run_fault : RunFault → Fault
 run_fault run.Memory = faults.Memory

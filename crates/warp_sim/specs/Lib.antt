@@ -3,6 +3,7 @@ pub mod FaultLines
 pub mod Failures
 pub mod Joined
 pub mod Answer
+pub mod Replay
 pub mod CountLines
 pub mod NetLines
 pub mod Replies

@@ -3,6 +3,7 @@ use Rattle.std.specs.Prelude.{◌≡◌, ℕ, List, [], Option, None, Some, Resu
 use Rattle.std.specs.Borrow.{Bor}
 use Rattle.std.specs.declared.alloc.Global.{Global}
 use Rattle.warp_sim.specs.Answer.{IsAnswer, IsCounted, IsListed}
+use Rattle.warp_sim.specs.Replay.{IsReplay}
 use Rattle.warp_sim.specs.CountLines.{count_lines}
 use Rattle.warp_sim.specs.Joined.{lines, before_parting, after_parting}
 use Rattle.gate_netlist.specs.declared.counts.Counts.{Counts}
@@ -12,6 +13,7 @@ use Rattle.warp_sim.specs.declared.fault.Fault.TheVariants as faults
 use Rattle.warp_sim.specs.declared.request.Request.{Request}
 use Rattle.warp_sim.specs.declared.request.Request.TheVariants as requests
 use Rattle.warp_sim.specs.declared.request.Run.{Run}
+use Rattle.warp_sim.specs.declared.request.Replay.{Replay}
 use Rattle.warp_sim.specs.declared.request.Check.{Check}
 use Rattle.warp_sim.specs.declared.request.Listing.{Listing}
 use Rattle.warp_sim.specs.declared.request.Sources.{Sources}
@@ -83,6 +85,20 @@ RunsSources gives (sources.Apart bench stimulus) = RunsApart gives bench.now sti
 abbrev pub Runs : {T : Type 0} → Gives T → Run → Step T
 Runs gives run = Then (FetchesSettings gives run.settings) (λ settings. RunsSources gives run.sources settings.items run.options.until)
 
+abbrev pub IsReplayed : (bench settings stimulus schedule : List ℕ) → Option ℕ → ℕ → Reply → Type 0
+IsReplayed bench settings stimulus schedule blocks until (Ok dump) = IsReplay bench settings stimulus schedule blocks until (Ok dump)
+IsReplayed bench settings stimulus schedule blocks until (Err (failures.Fault fault)) = IsReplay bench settings stimulus schedule blocks until (Err fault)
+IsReplayed bench settings stimulus schedule blocks until (Err _) = ⊥
+
+-- a schedule is played
+abbrev pub Replays : {T : Type 0} → Gives T → Replay → Step T
+Replays gives replay =
+    Then (FetchesSettings gives replay.settings) (λ settings.
+    Then (Fetches gives replay.bench.now) (λ bench.
+    Then (Fetches gives replay.stimulus.now) (λ stimulus.
+    Then (Fetches gives replay.schedule.now) (λ schedule.
+    Ends (IsReplayed bench.items settings.items stimulus.items schedule.items replay.options.blocks replay.options.until)))))
+
 -- the counts are printed; want of memory may keep them from it
 abbrev pub IsCountReply : (bench settings : List ℕ) → Reply → Type 0
 IsCountReply bench settings (Ok text) = (counts : Counts) × (IsCounted bench settings (Ok counts) × (text.items ≡ count_lines counts))
@@ -112,5 +128,6 @@ Lists gives listing =
 abbrev pub Replies : {T : Type 0} → Gives T → Request → Step T
 Replies gives (requests.Help text) = Ends (λ result. IsOkAnd result (λ shown. shown.items ≡ string_bytes text))
 Replies gives (requests.Run run) = Runs gives run
+Replies gives (requests.Replay replay) = Replays gives replay
 Replies gives (requests.Check check) = Checks gives check
 Replies gives (requests.Nets listing) = Lists gives listing

@@ -1,4 +1,4 @@
-//! Why a run ends without a dump.
+//! Why a run or a replay ends without a dump.
 ghost use Rattle.std.specs.Prelude.{◌≡◌, Some};
 ghost use Rattle.warp_sim.specs.FaultLines.{
   place_word,
@@ -7,6 +7,7 @@ ghost use Rattle.warp_sim.specs.FaultLines.{
   bench_fault,
   settings_fault,
   stimulus_fault,
+  schedule_fault,
   run_fault,
   block_fault_name,
 };
@@ -17,28 +18,34 @@ use gate_vcd::{StimCause, StimFault};
 use std::alloc::AllocError;
 use std::fmt;
 use warp_block::BlockFault;
-use warp_core::GatherFault;
+use warp_core::{GatherFault, PlayFault, ScheduleCause, ScheduleFault};
 use warp_rounds::RunFault;
 
-/// Why a run ends without a dump: the text that is refused, with its fault; the fault of the run itself; or want of
-/// memory, whatever part wanted it.
+/// Why a run or a replay ends without a dump: the text that is refused, with its fault; the fault of the run itself; the
+/// event that is refused, by its number from 1, or that a schedule leaves something to do, at a time in the stimulus's
+/// timescale; or want of memory, whatever part wanted it.
 #[derive(Clone, Copy, Debug, PartialEq, Eq)]
 pub enum Fault {
     Bench(BenchFault),
     Settings(SettingsFault),
     Stimulus(StimFault),
+    Schedule(ScheduleFault),
     Run(RunFault),
+    Event { number: u64, cause: PlayFault },
+    Unfinished { time: u64 },
     Memory,
 }
 
 impl Fault {
-    /// The program's exit status: 1 for a refused text, 3 for a refused run and for want of memory.
+    /// The program's exit status: 1 for a refused text, 3 for a run or a replay that comes to no dump, and for want of
+    /// memory.
     pub fn status(&self) -> u8
         ensures { result ≡ status_of self.now }
     {
         match self {
-            Fault::Bench(_) | Fault::Settings(_) | Fault::Stimulus(_) => 1,
-            Fault::Run(_) | Fault::Memory => 3,
+            Fault::Bench(_) | Fault::Settings(_) | Fault::Stimulus(_) | Fault::Schedule(_) => 1,
+            Fault::Run(_) | Fault::Event { .. } | Fault::Unfinished { .. } => 3,
+            Fault::Memory => 3,
         }
     }
 }
@@ -90,6 +97,11 @@ impl fmt::Display for Fault {
                 let cause = fault.cause.name();
                 write!(f, "stimulus {place} {at}: {cause}")
             }
+            Fault::Schedule(fault) => {
+                let line = fault.line;
+                let cause = fault.cause.name();
+                write!(f, "schedule line {line}: {cause}")
+            }
             Fault::Run(RunFault::Block(block)) => {
                 let cause = block_fault_name(*block);
                 write!(f, "run: block {cause}")
@@ -100,6 +112,11 @@ impl fmt::Display for Fault {
                 write!(f, "run: gather {cause}")
             }
             Fault::Run(RunFault::NoThread) => f.write_str("run: no thread"),
+            Fault::Event { number, cause } => {
+                let cause = cause.name();
+                write!(f, "event {number}: {cause}")
+            }
+            Fault::Unfinished { time } => write!(f, "unfinished at {time}"),
             Fault::Run(RunFault::Memory) | Fault::Memory => f.write_str("memory"),
         }
     }
@@ -136,6 +153,17 @@ impl From<StimFault> for Fault {
         match fault.cause {
             StimCause::Memory => Fault::Memory,
             _ => Fault::Stimulus(fault),
+        }
+    }
+}
+
+impl From<ScheduleFault> for Fault {
+    ghost from_gives = { λ part fault. fault ≡ schedule_fault part };
+
+    fn from(fault: ScheduleFault) -> Fault {
+        match fault.cause {
+            ScheduleCause::Memory => Fault::Memory,
+            _ => Fault::Schedule(fault),
         }
     }
 }

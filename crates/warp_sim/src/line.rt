@@ -5,7 +5,7 @@ ghost use Rattle.std.specs.Prelude.{◌≡◌};
 use crate::failure::Failure;
 use crate::fault::Fault;
 use crate::options::{MOST_BLOCKS, MOST_WINDOW, MOST_WORKERS, Options};
-use crate::request::{Check, Listing, Request, Run, Sources};
+use crate::request::{Check, Listing, Replay, Request, Run, Sources};
 use clap::error::ErrorKind;
 use clap::{Arg, ArgAction, ArgMatches, Command, Error, value_parser};
 use std::alloc::{AllocError, Global};
@@ -79,6 +79,23 @@ fn run_command<'a>(alloc: Global) -> Result<Command<'a>, AllocError> {
         .arg(stimulus)
 }
 
+fn replay_command<'a>(alloc: Global) -> Result<Command<'a>, AllocError> {
+    let stimulus = Arg::new(alloc, "STIMULUS")
+        .required(true)
+        .help("The inputs' changes, as VCD");
+    let schedule = Arg::new(alloc, "SCHEDULE")
+        .required(true)
+        .help("The events, a line each");
+    Command::new(alloc, "replay")
+        .about("Plays a schedule of events on a circuit's blocks and writes the value change dump")
+        .arg(until_option(alloc))?
+        .arg(blocks_option(alloc))?
+        .arg(settings_option(alloc))?
+        .arg(bench_argument(alloc, "The circuit; - for standard input"))?
+        .arg(stimulus)?
+        .arg(schedule)
+}
+
 fn check_command<'a>(alloc: Global) -> Result<Command<'a>, AllocError> {
     Command::new(alloc, "check")
         .about("Counts the parts of a circuit")
@@ -100,6 +117,7 @@ fn whole_command<'a>(alloc: Global) -> Result<Command<'a>, AllocError> {
         .subcommand_required(true)
         .arg_required_else_help(true)
         .subcommand(run_command(alloc)?)?
+        .subcommand(replay_command(alloc)?)?
         .subcommand(check_command(alloc)?)?
         .subcommand(nets_command(alloc)?)
 }
@@ -152,6 +170,30 @@ fn run_request<'a>(alloc: Global, found: &ArgMatches<'a>) -> Result<Request<'a>,
     }))
 }
 
+/// What is chosen for a replay, whose schedule stands in place of workers and turns.
+fn replay_options_of<'a>(found: &ArgMatches<'a>) -> Option<Options> {
+    let until = found.get_one::<u64>("until")?;
+    Options::new(until, found.get_one::<u32>("blocks"), 1, 1)
+}
+
+/// The replay that a line asks for; None where it lacks a word, which `clap` refuses before.
+fn replay_of<'a>(found: &ArgMatches<'a>) -> Option<Replay<'a>> {
+    Some(Replay {
+        options: replay_options_of(found)?,
+        settings: found.get_str("settings"),
+        bench: found.get_str("BENCH")?,
+        stimulus: found.get_str("STIMULUS")?,
+        schedule: found.get_str("SCHEDULE")?,
+    })
+}
+
+fn replay_request<'a>(alloc: Global, found: &ArgMatches<'a>) -> Result<Request<'a>, Failure<'a>> {
+    match replay_of(found) {
+        Some(replay) => Ok(Request::Replay(replay)),
+        None => Err(incomplete(alloc)),
+    }
+}
+
 fn check_request<'a>(alloc: Global, found: &ArgMatches<'a>) -> Result<Request<'a>, Failure<'a>> {
     let Some(bench) = found.get_str("BENCH") else {
         return Err(incomplete(alloc));
@@ -190,6 +232,7 @@ pub fn read_line<'a, S: AsStr>(alloc: Global, words: &'a [S]) -> Result<Request<
     };
     match matches.subcommand() {
         Some(("run", found)) => run_request(alloc, found),
+        Some(("replay", found)) => replay_request(alloc, found),
         Some(("check", found)) => check_request(alloc, found),
         Some(("nets", found)) => nets_request(alloc, found),
         _ => Err(incomplete(alloc)),

@@ -2,9 +2,10 @@
 //!
 //! [`simulate_text`] answers the dump of a circuit's values for a bench text (ISCAS'89), a settings text (TOML) and
 //! a stimulus text (IEEE 1364-2005, section 18), or the first fault among them, or that of the run of its blocks;
+//! [`replay_text`] answers the same dump where a schedule of events is played on these blocks to its end;
 //! [`counts_of_texts`] answers what a circuit has, and [`nets_of_texts`] what each of its nets is. [`program`] reads a
 //! command line and the texts that it names, and says the status with which the process ends. What is promised stands
-//! in `specs/`: `Answer` for the dump, `Replies` and `Endings` for the program.
+//! in `specs/`: `Answer` for the dump, `Replay` for schedules, `Replies` and `Endings` for the program.
 #![tactic(auto)]
 
 mod counts;
@@ -26,6 +27,9 @@ mod outside;
 #[cfg(test)]
 mod plain;
 mod program;
+mod replay;
+#[cfg(test)]
+mod replay_tests;
 mod reply;
 mod request;
 #[cfg(test)]
@@ -46,8 +50,9 @@ pub use nets::nets_text;
 pub use options::{MOST_BLOCKS, MOST_WINDOW, MOST_WORKERS, Options};
 pub use outside::{Outside, read_all};
 pub use program::{Ending, answer, execute, program, show};
+pub use replay::replay_text;
 pub use reply::reply_to;
-pub use request::{Check, Listing, Request, Run, Sources};
+pub use request::{Check, Listing, Replay, Request, Run, Sources};
 pub use simulate::{counts_of_texts, nets_of_texts, simulate_text};
 use std::alloc::Global;
 use std::env;

@@ -8,6 +8,8 @@ ghost use Rattle.warp_sim.specs.Replies.{
   RunsApart,
   RunsSources,
   Runs,
+  IsReplayed,
+  Replays,
   IsCountReply,
   Checks,
   IsNetsReply,
@@ -20,7 +22,8 @@ use crate::failure::Failure;
 use crate::fault::Fault;
 use crate::joined::split_joined;
 use crate::options::Options;
-use crate::request::{Check, Listing, Request, Run, Sources};
+use crate::replay::replay_text;
+use crate::request::{Check, Listing, Replay, Request, Run, Sources};
 use crate::simulate::{counts_of_texts, nets_of_texts, simulate_text};
 use crate::texts::{FetchFault, Texts};
 use std::alloc::Global;
@@ -138,6 +141,40 @@ fn reply_to_run<'a, R: Threads + Wait + Sync, T: Texts>(
     )
 }
 
+fn replayed<'a>(
+    alloc: Global,
+    bench: &[u8],
+    settings: &[u8],
+    stimulus: &[u8],
+    schedule: &[u8],
+    options: &Options,
+) -> Result<Vec<u8>, Failure<'a>>
+    ensures { IsReplayed bench.now settings.now stimulus.now schedule.now options.now.blocks options.now.until result }
+{
+    Ok(replay_text(alloc, bench, settings, stimulus, schedule, options)?)
+}
+
+fn reply_to_replay<'a, T: Texts>(
+    alloc: Global,
+    replay: Replay<'a>,
+    texts: &mut T,
+) -> Result<Vec<u8>, Failure<'a>>
+    ensures { Replays T.gives replay.entry texts.old result texts.new }
+{
+    let settings = fetch_settings(alloc, replay.settings, texts)?;
+    let bench = fetch(alloc, replay.bench, texts)?;
+    let stimulus = fetch(alloc, replay.stimulus, texts)?;
+    let schedule = fetch(alloc, replay.schedule, texts)?;
+    replayed(
+        alloc,
+        bench.as_slice(),
+        settings.as_slice(),
+        stimulus.as_slice(),
+        schedule.as_slice(),
+        &replay.options,
+    )
+}
+
 fn counted<'a>(alloc: Global, bench: &[u8], settings: &[u8]) -> Result<Vec<u8>, Failure<'a>>
     ensures { IsCountReply bench.now settings.now result }
 {
@@ -177,7 +214,7 @@ fn reply_to_nets<'a, T: Texts>(
 }
 
 /// What a request is answered: the text to show, or why there is none. The texts that it names
-/// are fetched first, the settings before the bench before the stimulus.
+/// are fetched first, the settings before the bench before the stimulus before the schedule.
 pub fn reply_to<'a, R: Threads + Wait + Sync, T: Texts>(
     rt: &R,
     alloc: Global,
@@ -189,6 +226,7 @@ pub fn reply_to<'a, R: Threads + Wait + Sync, T: Texts>(
     match request {
         Request::Help(text) => Ok(text.into_bytes()),
         Request::Run(run) => reply_to_run(rt, alloc, run, texts),
+        Request::Replay(replay) => reply_to_replay(alloc, replay, texts),
         Request::Check(check) => reply_to_check(alloc, check, texts),
         Request::Nets(listing) => reply_to_nets(alloc, listing, texts),
     }

@@ -7,6 +7,7 @@ pub enum Request<'a> {
     /// To be shown this text.
     Help(String),
     Run(Run<'a>),
+    Replay(Replay<'a>),
     Check(Check<'a>),
     Nets(Listing<'a>),
 }
@@ -24,6 +25,17 @@ pub struct Run<'a> {
 pub enum Sources<'a> {
     Joined,
     Apart { bench: &'a str, stimulus: &'a str },
+}
+
+/// To be shown the dump of a circuit whose blocks play a schedule. Each of the texts has a name; of the options, workers
+/// and window have no effect.
+#[derive(Clone, Copy, Debug)]
+pub struct Replay<'a> {
+    pub options: Options,
+    pub settings: Option<&'a str>,
+    pub bench: &'a str,
+    pub stimulus: &'a str,
+    pub schedule: &'a str,
 }
 
 /// To be shown how many parts a circuit has.

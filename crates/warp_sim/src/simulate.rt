@@ -1,5 +1,5 @@
 //! From three texts to a dump.
-ghost use Rattle.std.specs.Prelude.{◌≡◌, IfOk, IfSome};
+ghost use Rattle.std.specs.Prelude.{◌≡◌, IfOk, IfSome, option_map};
 ghost use Rattle.gate_netlist.specs.Circuit.{CutFits};
 ghost use Rattle.gate_vcd.specs.Given.{Fits};
 ghost use Rattle.warp_core.specs.Values.{AreCircuitWaves};
@@ -17,7 +17,7 @@ use std::thread::Threads;
 use warp_rounds::{Gate, RunFault, run};
 
 /// The circuit of a bench text and a settings text.
-fn circuit_of(alloc: Global, bench: &[u8], settings: &[u8]) -> Result<Circuit, Fault>
+pub(crate) fn circuit_of(alloc: Global, bench: &[u8], settings: &[u8]) -> Result<Circuit, Fault>
     ensures { IsCircuitAnswer bench.now settings.now result }
 {
     let bench = read_bench(alloc, bench)?;
@@ -52,8 +52,9 @@ fn run_cut<G: Gate + Sync, R: Threads + Wait + Sync>(
 }
 
 /// The cut that the settings of a circuit give.
-fn settled_cut(circuit: &Circuit) -> Option<&Cut>
-    ensures { IfSome result (λ cut. CutFits circuit.now cut.now) }
+pub(crate) fn settled_cut(circuit: &Circuit) -> Option<&Cut>
+    ensures cut { option_map (λ cut. cut.now) result ≡ circuit.now.cut }
+    ensures fits { IfSome result (λ cut. CutFits circuit.now cut.now) }
 {
     circuit.law();
     circuit.cut()

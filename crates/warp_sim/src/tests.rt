@@ -6,7 +6,7 @@ use std::sync::Wait;
 use std::test::Fail;
 use std::thread::Threads;
 use warp_block::{BlockFault, MOST_HORIZON};
-use warp_core::GatherFault;
+use warp_core::{GatherFault, PlayFault, ScheduleCause, ScheduleFault};
 use warp_rounds::RunFault;
 
 /// Texts by name; `full` has no memory left, and all other names are unreadable.
@@ -111,6 +111,7 @@ fn lines_are_read_before_any_text(rt: HostRuntime) -> Result<(), Fail> {
         ),
         ("warp_sim run --until 5 - v", 2, "stimulus not expected\n"),
         ("warp_sim run --until 5 full v", 3, "memory\n"),
+        ("warp_sim replay --until 5 b v c", 4, "cannot read b\n"),
         ("warp_sim check b", 4, "cannot read b\n"),
         ("warp_sim check --settings s b", 4, "cannot read s\n"),
         ("warp_sim check -", 4, "cannot read -\n"),
@@ -145,6 +146,9 @@ fn refused_lines_end_with_2(rt: HostRuntime) -> Result<(), Fail> {
         "warp_sim run --until 5 --workers 65 b v",
         "warp_sim run --until 5 --window 0 b v",
         "warp_sim run --until 5 --window 1000001 b v",
+        "warp_sim replay b v c",
+        "warp_sim replay --until 5 b v",
+        "warp_sim replay --until 5 --workers 1 b v c",
         "warp_sim check --workers 1 b",
         "warp_sim check",
         "warp_sim check b v",
@@ -167,6 +171,7 @@ fn help_is_shown_on_standard_output(rt: HostRuntime) -> Result<(), Fail> {
     for line in [
         "warp_sim --help",
         "warp_sim run --help",
+        "warp_sim replay --help",
         "warp_sim check --help",
         "warp_sim nets --help",
     ] {
@@ -245,6 +250,11 @@ fn texts_are_fetched_in_order(rt: HostRuntime) -> Result<(), Fail> {
             "- ",
             "cannot read -\n",
         ),
+        (
+            "warp_sim replay --until 5 --settings s b b c",
+            "s b b c ",
+            "cannot read c\n",
+        ),
         ("warp_sim check --settings s c", "s c ", "cannot read c\n"),
     ] {
         let told = tell(&rt, rt.alloc(), line, &texts)?;
@@ -322,6 +332,11 @@ fn faults_have_their_lines(rt: HostRuntime) -> Result<(), Fail> {
         at: 3,
         cause: StimCause::NotScalar,
     };
+    let line = ScheduleFault {
+        line: 7,
+        cause: ScheduleCause::BadLine,
+    };
+    let cause = PlayFault::NoSuchBlock;
     for (fault, line, status) in [
         (Fault::Bench(bench), "bench line 12: DrivenTwice", 1),
         (
@@ -348,6 +363,9 @@ fn faults_have_their_lines(rt: HostRuntime) -> Result<(), Fail> {
             3,
         ),
         (Fault::Run(RunFault::NoThread), "run: no thread", 3),
+        (Fault::Schedule(line), "schedule line 7: BadLine", 1),
+        (Fault::Event { number: 2, cause }, "event 2: NoSuchBlock", 3),
+        (Fault::Unfinished { time: 9 }, "unfinished at 9", 3),
         (Fault::Memory, "memory", 3),
     ] {
         let text = fault.to_string(rt.alloc())?;

@@ -8,5 +8,5 @@ lent : {A : Type 0} (P : A → Type 0) (lent : Option (Bor A)) (held : Option A)
 lent P None held e h = tt
 lent P (Some x) held e h = let same : held ≡ Some x.now = sym e in rw same at h
 
-pub returns : goal.returns
-returns c = lent _ _ _ c.cut.ensures c.law.ensures.cut
+pub returns-clause-fits : goal.returns-clause-fits
+returns-clause-fits c = lent _ _ _ c.cut.ensures c.law.ensures.cut
