@@ -35,4 +35,3 @@ pub use lines::next_line;
 pub use nets::Nets;
 pub use reading::read_bench;
 pub use seed::TextSeed;
-

@@ -1,4 +1,4 @@
-use gate_netlist::{Bench, BenchCause, BenchFault, read_bench};
+use gate_netlist::{BenchCause, BenchFault, Circuit, Driver, read_bench};
 use std::alloc::{AllocError, Global};
 use std::test::Fail;
 
@@ -57,50 +57,57 @@ fn refuses_the_first_fault(rt: HostRuntime) {
     }
 }
 
-/// The nets of a bench, a line each, and its outputs on a last line.
-fn shown(alloc: Global, bench: &Bench) -> Result<String, AllocError> {
+/// The nets of the circuit of a bench text, a line each, and its outputs on a last line.
+fn shown(alloc: Global, text: &[u8]) -> Result<String, Fail> {
+    let bench = read_bench(alloc, text)?;
+    let circuit = Circuit::of(alloc, bench, b"")?;
+    Ok(listed(alloc, &circuit)?)
+}
+
+fn listed(alloc: Global, circuit: &Circuit) -> Result<String, AllocError> {
     let mut text = String::new(alloc);
-    for (net, definition) in bench.definitions.iter().enumerate() {
-        push_name(&mut text, bench, net)?;
+    for net in 0..circuit.nets() {
+        push_name(&mut text, circuit, net)?;
         text.push_str(" = ")?;
-        push_definition(alloc, &mut text, bench, definition)?;
+        push_driver(alloc, &mut text, circuit, circuit.driver(net))?;
         text.push_str("\n")?;
     }
-    push_names(&mut text, bench, &bench.outputs)?;
+    push_names(&mut text, circuit, circuit.outputs())?;
     Ok(text)
 }
 
-fn push_definition(
+fn push_driver(
     alloc: Global,
     text: &mut String,
-    bench: &Bench,
-    definition: &Definition,
+    circuit: &Circuit,
+    driver: &Driver,
 ) -> Result<(), AllocError> {
-    match definition {
-        Definition::Input => text.push_str("Input"),
-        Definition::Gate { kind, inputs } => {
+    match driver {
+        Driver::Input => text.push_str("Input"),
+        Driver::Gate { kind, inputs } => {
             text.push_str(format!(in alloc; "{kind:?}")?.as_str())?;
-            push_names(text, bench, inputs.as_slice())
+            push_names(text, circuit, inputs.as_slice())
         }
-        Definition::Flop { d } => {
-            text.push_str("Flop ")?;
-            push_name(text, bench, *d as usize)
+        Driver::Flop { d, clock, .. } => {
+            text.push_str("Flop")?;
+            push_names(text, circuit, &[*d, *clock])
         }
     }
 }
 
-fn push_names(text: &mut String, bench: &Bench, nets: &[u32]) -> Result<(), AllocError> {
+fn push_names(text: &mut String, circuit: &Circuit, nets: &[u32]) -> Result<(), AllocError> {
     for net in nets {
         text.push_str(" ")?;
-        push_name(text, bench, *net as usize)?;
+        push_name(text, circuit, *net)?;
     }
     Ok(())
 }
 
-fn push_name(text: &mut String, bench: &Bench, net: usize) -> Result<(), AllocError> {
-    match bench.names.get_index(net) {
-        Some(name) => text.push_str(name.as_str()),
-        None => text.push_str("?"),
+fn push_name(text: &mut String, circuit: &Circuit, net: u32) -> Result<(), AllocError> {
+    if net < circuit.nets() {
+        text.push_str(circuit.name(net))
+    } else {
+        text.push_str("?")
     }
 }
 
@@ -122,7 +129,7 @@ const READ: [(&str, &str); 9] = [
     ),
     (
         "OUTPUT = DFF(1x)\n1x = XNOR(a[0],a[0],OUTPUT)\nINPUT(a[0])#",
-        "OUTPUT = Flop 1x\n1x = Xnor a[0] a[0] OUTPUT\na[0] = Input\n",
+        "OUTPUT = Flop 1x CK\n1x = Xnor a[0] a[0] OUTPUT\na[0] = Input\nCK = Input\n",
     ),
     (
         "INPUT(a)\nINPUT(A)\nOUTPUT(A)\nOUTPUT(a)\nOUTPUT(A)",
@@ -135,19 +142,19 @@ const READ: [(&str, &str); 9] = [
 #[test]
 fn reads_what_the_lines_say(rt: HostRuntime) -> Result<(), Fail> {
     for (text, nets) in READ {
-        let bench = read_bench(rt.alloc(), text.as_bytes())?;
-        assert_eq!(rt; shown(rt.alloc(), &bench)?.as_str(), nets, "{text}");
+        assert_eq!(rt;
+            shown(rt.alloc(), text.as_bytes())?.as_str(),
+            nets,
+            "{text}"
+        );
     }
     Ok(())
 }
 
 #[test]
 fn takes_any_byte_in_a_comment(rt: HostRuntime) -> Result<(), Fail> {
-    let bench = read_bench(
-        rt.alloc(),
-        b"INPUT(a) # \x00\x80\xff\r\x7f#($end\n#\xc3\r\n",
-    )?;
-    assert_eq!(rt; shown(rt.alloc(), &bench)?.as_str(), "a = Input\n");
+    let text = b"INPUT(a) # \x00\x80\xff\r\x7f#($end\n#\xc3\r\n";
+    assert_eq!(rt; shown(rt.alloc(), text)?.as_str(), "a = Input\n");
     Ok(())
 }
 
@@ -177,9 +184,9 @@ const S27_NETS: &str = "G0 = Input
 G1 = Input
 G2 = Input
 G3 = Input
-G5 = Flop G10
-G6 = Flop G11
-G7 = Flop G13
+G5 = Flop G10 CK
+G6 = Flop G11 CK
+G7 = Flop G13 CK
 G14 = Not G0
 G17 = Not G11
 G8 = And G14 G6
@@ -190,12 +197,12 @@ G10 = Nor G14 G11
 G11 = Nor G5 G9
 G12 = Nor G1 G7
 G13 = Nor G2 G12
+CK = Input
  G17";
 
 #[test]
 fn reads_s27(rt: HostRuntime) -> Result<(), Fail> {
-    let bench = read_bench(rt.alloc(), S27.as_bytes())?;
-    assert_eq!(rt; shown(rt.alloc(), &bench)?.as_str(), S27_NETS);
+    assert_eq!(rt; shown(rt.alloc(), S27.as_bytes())?.as_str(), S27_NETS);
     Ok(())
 }
 

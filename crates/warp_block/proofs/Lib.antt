@@ -2,7 +2,6 @@ pub mod Newest
 pub mod Going
 pub mod Keeping
 pub mod Coasting
-pub mod Fans
 pub mod Undoing
 pub mod Told
 pub mod Sends

@@ -1,11 +1,7 @@
-pub mod Index
 pub mod Present
 pub mod Contents
-pub mod Fan
-pub mod Woken
 pub mod StateLists
 pub mod States
-pub mod Agenda
 pub mod Entries
 pub mod Limits
 pub mod Portion

@@ -13,7 +13,6 @@
 //! for calls, `Limits` for the horizon's limit.
 #![tactic(auto)]
 
-mod agenda;
 mod block;
 mod cell;
 mod entry;
@@ -33,4 +32,3 @@ pub use look::{Look, MOST_HORIZON};
 pub use message::{Message, Sign};
 pub use part::Part;
 pub use state::SAVE_EVERY;
-

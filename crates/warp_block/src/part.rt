@@ -12,13 +12,11 @@ ghost use Rattle.warp_block.specs.Moments.{moment_of};
 ghost use Rattle.warp_block.specs.Contents.{clock_of};
 
 mod build;
-mod fan;
 mod readers;
 mod same;
 mod slots;
 
 use crate::cell::{Cell, Span};
-pub(crate) use fan::Fan;
 use gate_netlist::{Circuit, Cut};
 use gate_values::{Logic, flip, table};
 use std::alloc::{AllocError, Global};

@@ -30,4 +30,3 @@ pub use fault::GatherFault;
 pub use gathering::gather;
 pub use schedule::{ScheduleCause, ScheduleFault, read_schedule, schedule_laws};
 pub use world::World;
-

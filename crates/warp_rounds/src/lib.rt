@@ -31,4 +31,3 @@ pub use round::{EndFault, Round, RoundSeat};
 pub use runs::run;
 pub use site::Site;
 pub use turns::{TurnReport, turn};
-
