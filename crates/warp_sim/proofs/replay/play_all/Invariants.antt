@@ -1,7 +1,0 @@
-use Rattle.std.proofs.Common.{take}
-use Rattle.warp_sim.specs.Replay.{ArePlayed}
-use Rattle.warp_sim.proofs.replay.play_all.Given as goal
-
--- the events so far are played
-abbrev pub invariant-loop-place : goal.invariant-loop-place
-invariant-loop-place l = ArePlayed l.fn.world (take l.place l.events) l.world
