@@ -7,16 +7,18 @@ use Rattle.std.proofs.lemmas.List.{length-map, get_or-map, get_or_past}
 use Rattle.std.proofs.lemmas.Slice.Eq.{bytes_eq-Decides}
 use Rattle.std.proofs.lemmas.Slice.Zip.{length-zip, get_or-zip}
 use Rattle.toml.specs.Data.{Members, get_member, as_table}
+use Rattle.gate_values.specs.Words.{word_of}
 use Rattle.gate_netlist.specs.declared.bench.Definition.{Definition}
 use Rattle.gate_netlist.specs.declared.bench.Definition.TheVariants.{Input, Gate, Flop}
 use Rattle.gate_netlist.specs.declared.driver.Driver.TheVariants as driver
 use Rattle.gate_netlist.specs.Netlist.{Netlist, IsDefinition, place_of, any_net}
 use Rattle.gate_netlist.specs.Cut.{IsOwnership}
 use Rattle.gate_netlist.specs.Circuit.{IsCircuit, CutFits, IsDriven, IsDelay, driver_of, is_input, is_clocked_by}
-use Rattle.gate_netlist.specs.Settings.{delay_at, table_at, net_delay, net_block, key_of, greatest_block, clock_name, clock_of_flop, takes_clock, delay_of_key}
+use Rattle.gate_netlist.specs.Settings.{delay_at, table_at, net_delay, net_block, greatest_block, clock_name, clock_of_flop, takes_clock, delay_of_key}
 use Rattle.gate_netlist.specs.Causes.{is_flop_line}
 use Rattle.gate_netlist.specs.Meaning.{with_clock, driver_by, drivers_of, clock_among, delays_of, cut_of, clocked_circuit, circuit_of}
 use Rattle.gate_netlist.specs.Clocked.{HasClocks}
+use Rattle.gate_netlist.specs.Statements.{flop_word}
 use Rattle.gate_netlist.proofs.SettingValues.{unwrap_or_fits, delay_at-IsDelay, delay_of_key-IsDelay, greatest_block-within, block_at-le}
 
 or-last : (b : Bool) → (b || true) ≡ true
@@ -54,11 +56,11 @@ IsDriven-by : (ms : Members) (names : List (List ℕ)) (name : List ℕ) (d : De
     → (is_flop_line d ≡ true → IsSome (place_of names (clock_of_flop ms name))) → IsDriven (length names) (driver_by ms names name d) (net_delay ms name d)
 IsDriven-by ms names name Input h c = refl
 IsDriven-by ms names name (Gate kind inputs) h c =
-    (h.0, h.1, unwrap_or_fits IsDelay (delay_at name (table_at (codes "net") ms)) (delay_of_key ms (key_of kind)) (delay_at-IsDelay name (table_at (codes "net") ms)) (delay_of_key-IsDelay ms (key_of kind)))
+    (h.0, h.1, unwrap_or_fits IsDelay (delay_at name (table_at (codes "net") ms)) (delay_of_key ms (word_of kind)) (delay_at-IsDelay name (table_at (codes "net") ms)) (delay_of_key-IsDelay ms (word_of kind)))
 IsDriven-by ms names name (Flop d) h c = (
   h,
   known_below (place_of names (clock_of_flop ms name)) (length names) (c refl) (position-below (λ other. bytes_eq (clock_of_flop ms name) other) names),
-  unwrap_or_fits IsDelay (delay_at name (table_at (codes "net") ms)) (delay_of_key ms (codes "DFF")) (delay_at-IsDelay name (table_at (codes "net") ms)) (delay_of_key-IsDelay ms (codes "DFF")),
+  unwrap_or_fits IsDelay (delay_at name (table_at (codes "net") ms)) (delay_of_key ms flop_word) (delay_at-IsDelay name (table_at (codes "net") ms)) (delay_of_key-IsDelay ms flop_word),
 )
 
 -- ---- the clock that `clock` names

@@ -8,10 +8,11 @@ use Rattle.toml.specs.Data.{Members, no_members, get_member, as_table}
 use Rattle.toml.specs.View.{view, members_view, table_view}
 use Rattle.toml.specs.declared.value.Value.{Value}
 use Rattle.toml.proofs.Views.{Entry}
+use Rattle.gate_values.specs.Words.{word_of}
 use Rattle.gate_netlist.specs.declared.bench.Definition.{Definition}
 use Rattle.gate_netlist.specs.declared.bench.Definition.TheVariants.{Input, Gate, Flop}
 use Rattle.gate_netlist.specs.Netlist.{any_net}
-use Rattle.gate_netlist.specs.Settings.{as_block, table_at, delay_of_key, key_of, net_delay, greatest_block}
+use Rattle.gate_netlist.specs.Settings.{as_block, table_at, delay_of_key, net_delay, greatest_block}
 use Rattle.gate_netlist.specs.declared.settings.nets.KindDelays.{KindDelays}
 use Rattle.gate_netlist.specs.Meaning.{delays_of}
 use Rattle.gate_netlist.specs.Kinds.{kind_delays, delay_of_kind, members_in, delay_among}
@@ -30,7 +31,7 @@ any-zip-names p [] ds = refl
 any-zip-names p (n ∷ ns) [] = refl
 any-zip-names p (n ∷ ns) (d ∷ ds) = ap (λ b. p (string_bytes n) d || b) (any-zip-names p ns ds)
 
-delay_of_kind-kind_delays : (ms : Members) (k : Kind) → delay_of_kind (kind_delays ms) k ≡ delay_of_key ms (key_of k)
+delay_of_kind-kind_delays : (ms : Members) (k : Kind) → delay_of_kind (kind_delays ms) k ≡ delay_of_key ms (word_of k)
 delay_of_kind-kind_delays ms kind.And = refl
 delay_of_kind-kind_delays ms kind.Nand = refl
 delay_of_kind-kind_delays ms kind.Or = refl

@@ -3,6 +3,8 @@ use Rattle.std.specs.Prelude.{ℕ, Bool, true, false, ◌&&◌, ◌||◌, not, �
 use Rattle.std.specs.List.{list_all}
 use Rattle.std.specs.Option.{option_map_or}
 use Rattle.std.specs.Str.{bytes_eq}
+use Rattle.gate_values.specs.declared.gate.Kind.TheVariants.{And, Nand, Or, Nor, Xor, Xnor, Not, Buff}
+use Rattle.gate_values.specs.Words.{word_of}
 use Rattle.toml.specs.Data.{Data, Members, no_members, member, get_member, as_str, as_table}
 use Rattle.gate_netlist.specs.declared.bench.Definition.{Definition}
 use Rattle.gate_netlist.specs.declared.bench.Definition.TheVariants.{Input, Flop}
@@ -10,6 +12,7 @@ use Rattle.gate_netlist.specs.declared.fault.SettingsFault.{SettingsFault}
 use Rattle.gate_netlist.specs.declared.fault.SettingsFault.TheVariants.{UnknownKey, UnknownNet, BadDelay, BadCut, BadClock, BadInit}
 use Rattle.gate_netlist.specs.Netlist.{Netlist, net_named, any_net}
 use Rattle.gate_netlist.specs.Symbols.{is_letter}
+use Rattle.gate_netlist.specs.Statements.{flop_word}
 use Rattle.gate_netlist.specs.Settings.{as_delay, as_block, as_content, table_at, clock_name, clock_of_flop}
 
 -- the line of an input
@@ -46,9 +49,9 @@ is_unknown_top k d =
 -- a key that `gate` may have
 abbrev pub is_gate_key : List ℕ → Bool
 is_gate_key k =
-    bytes_eq k (codes "AND") || bytes_eq k (codes "NAND") || bytes_eq k (codes "OR")
-    || bytes_eq k (codes "NOR") || bytes_eq k (codes "XOR") || bytes_eq k (codes "XNOR")
-    || bytes_eq k (codes "NOT") || bytes_eq k (codes "BUFF") || bytes_eq k (codes "DFF")
+    bytes_eq k (word_of And) || bytes_eq k (word_of Nand) || bytes_eq k (word_of Or)
+    || bytes_eq k (word_of Nor) || bytes_eq k (word_of Xor) || bytes_eq k (word_of Xnor)
+    || bytes_eq k (word_of Not) || bytes_eq k (word_of Buff) || bytes_eq k flop_word
 
 -- a key that isn't listed, at the top or in `gate`, or a value of another type than its key takes
 abbrev pub has_unknown_key : Members → Bool

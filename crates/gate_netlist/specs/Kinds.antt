@@ -1,10 +1,11 @@
 -- The delays of the kinds of nets, once for a circuit.
-use Rattle.std.specs.Prelude.{ℕ, List, codes, Option, Some, None, unwrap_or, String}
+use Rattle.std.specs.Prelude.{ℕ, List, Option, Some, None, unwrap_or, String}
 use Rattle.std.specs.Borrow.{Bor}
 use Rattle.std.specs.BTreeMap.{BTreeMap}
 use Rattle.std.specs.declared.alloc.Global.{Global}
 use Rattle.gate_values.specs.declared.gate.Kind.{Kind}
 use Rattle.gate_values.specs.declared.gate.Kind.TheVariants as kind
+use Rattle.gate_values.specs.Words.{word_of}
 use Rattle.toml.specs.Data.{Members, no_members}
 use Rattle.toml.specs.View.{table_view}
 use Rattle.toml.specs.declared.value.Value.{Value}
@@ -12,19 +13,20 @@ use Rattle.gate_netlist.specs.declared.bench.Definition.{Definition}
 use Rattle.gate_netlist.specs.declared.bench.Definition.TheVariants.{Input, Gate, Flop}
 use Rattle.gate_netlist.specs.declared.settings.nets.KindDelays.{KindDelays}
 use Rattle.gate_netlist.specs.Settings.{delay_at, delay_of_key}
+use Rattle.gate_netlist.specs.Statements.{flop_word}
 
 -- the delay of each kind: its own, else the default
 abbrev pub kind_delays : Members → KindDelays
 kind_delays ms = record {
-  and = delay_of_key ms (codes "AND");
-  nand = delay_of_key ms (codes "NAND");
-  or = delay_of_key ms (codes "OR");
-  nor = delay_of_key ms (codes "NOR");
-  xor = delay_of_key ms (codes "XOR");
-  xnor = delay_of_key ms (codes "XNOR");
-  not = delay_of_key ms (codes "NOT");
-  buff = delay_of_key ms (codes "BUFF");
-  dff = delay_of_key ms (codes "DFF");
+  and = delay_of_key ms (word_of kind.And);
+  nand = delay_of_key ms (word_of kind.Nand);
+  or = delay_of_key ms (word_of kind.Or);
+  nor = delay_of_key ms (word_of kind.Nor);
+  xor = delay_of_key ms (word_of kind.Xor);
+  xnor = delay_of_key ms (word_of kind.Xnor);
+  not = delay_of_key ms (word_of kind.Not);
+  buff = delay_of_key ms (word_of kind.Buff);
+  dff = delay_of_key ms flop_word;
 }
 
 -- the delay of a kind of gate

@@ -3,12 +3,12 @@ use Rattle.std.specs.Prelude.{◌≡◌, ℕ, max, Bool, false, ◌&&◌, nat_le
 use Rattle.std.specs.Str.{bytes_eq}
 use Rattle.gate_values.specs.declared.logic.Logic.{Logic}
 use Rattle.gate_values.specs.declared.logic.Logic.TheVariants.{Zero, One, X}
-use Rattle.gate_values.specs.declared.gate.Kind.{Kind}
-use Rattle.gate_values.specs.declared.gate.Kind.TheVariants as kind
+use Rattle.gate_values.specs.Words.{word_of}
 use Rattle.toml.specs.Data.{Data, integer, string, Members, no_members, member, get_member, as_str, as_table}
 use Rattle.toml.specs.Parse.{parse_document}
 use Rattle.gate_netlist.specs.declared.bench.Definition.{Definition}
 use Rattle.gate_netlist.specs.declared.bench.Definition.TheVariants.{Input, Gate, Flop}
+use Rattle.gate_netlist.specs.Statements.{flop_word}
 
 -- the bytes are text, and the text is the document
 abbrev pub IsDocument : List ℕ → Members → Type 0
@@ -53,17 +53,6 @@ block_at k ms = option_and_then as_block (get_member k ms)
 abbrev pub content_at : List ℕ → Members → Option Logic
 content_at k ms = option_and_then as_content (get_member k ms)
 
--- the key of a kind of gate
-abbrev pub key_of : Kind → List ℕ
-key_of kind.And = codes "AND"
-key_of kind.Nand = codes "NAND"
-key_of kind.Or = codes "OR"
-key_of kind.Nor = codes "NOR"
-key_of kind.Xor = codes "XOR"
-key_of kind.Xnor = codes "XNOR"
-key_of kind.Not = codes "NOT"
-key_of kind.Buff = codes "BUFF"
-
 -- the delay where no key names the net or its kind: that of `default`, else 1
 abbrev pub default_delay : Members → ℕ
 default_delay ms = unwrap_or (delay_at (codes "default") ms) 1
@@ -75,8 +64,8 @@ delay_of_key ms key = unwrap_or (delay_at key (table_at (codes "gate") ms)) (def
 -- a net's delay: that of its name, else that of its kind; 0 of an input
 abbrev pub net_delay : Members → List ℕ → Definition → ℕ
 net_delay ms name Input = 0
-net_delay ms name (Gate kind inputs) = unwrap_or (delay_at name (table_at (codes "net") ms)) (delay_of_key ms (key_of kind))
-net_delay ms name (Flop d) = unwrap_or (delay_at name (table_at (codes "net") ms)) (delay_of_key ms (codes "DFF"))
+net_delay ms name (Gate kind inputs) = unwrap_or (delay_at name (table_at (codes "net") ms)) (delay_of_key ms (word_of kind))
+net_delay ms name (Flop d) = unwrap_or (delay_at name (table_at (codes "net") ms)) (delay_of_key ms flop_word)
 
 -- a net's block: that of its name, else 0; none of an input
 abbrev pub net_block : Members → List ℕ → Definition → Option ℕ

@@ -3,6 +3,7 @@ use Rattle.std.specs.Prelude.{ℕ, Bool, ◌==◌, nat_le, List, [], ◌∷◌, 
 use Rattle.std.specs.Str.{str_eq_ignore_ascii_case}
 use Rattle.gate_values.specs.declared.gate.Kind.{Kind}
 use Rattle.gate_values.specs.declared.gate.Kind.TheVariants.{And, Nand, Or, Nor, Xor, Xnor, Not, Buff}
+use Rattle.gate_values.specs.Words.{word_of}
 use Rattle.gate_netlist.specs.declared.fault.BenchCause.{BenchCause}
 use Rattle.gate_netlist.specs.declared.fault.BenchCause.TheVariants.{BadLine, BadName, UnknownGate, InputCount}
 use Rattle.gate_netlist.specs.declared.statement.GateWord.{GateWord}
@@ -25,19 +26,23 @@ pub data Statement : Type 0 where
 abbrev pub says : List ℕ → List ℕ → Bool
 says word letters = str_eq_ignore_ascii_case word letters
 
+-- the word of a flip-flop
+abbrev pub flop_word : List ℕ
+flop_word = codes "DFF"
+
 -- what a gate word stands for; BUF is BUFF
 unfoldable pub gate_of : List ℕ → Option GateWord
 gate_of w =
-    if says w (codes "AND") then Some (word.Gate And)
-    else (if says w (codes "NAND") then Some (word.Gate Nand)
-    else (if says w (codes "OR") then Some (word.Gate Or)
-    else (if says w (codes "NOR") then Some (word.Gate Nor)
-    else (if says w (codes "XOR") then Some (word.Gate Xor)
-    else (if says w (codes "XNOR") then Some (word.Gate Xnor)
-    else (if says w (codes "NOT") then Some (word.Gate Not)
-    else (if says w (codes "BUFF") then Some (word.Gate Buff)
+    if says w (word_of And) then Some (word.Gate And)
+    else (if says w (word_of Nand) then Some (word.Gate Nand)
+    else (if says w (word_of Or) then Some (word.Gate Or)
+    else (if says w (word_of Nor) then Some (word.Gate Nor)
+    else (if says w (word_of Xor) then Some (word.Gate Xor)
+    else (if says w (word_of Xnor) then Some (word.Gate Xnor)
+    else (if says w (word_of Not) then Some (word.Gate Not)
+    else (if says w (word_of Buff) then Some (word.Gate Buff)
     else (if says w (codes "BUF") then Some (word.Gate Buff)
-    else (if says w (codes "DFF") then Some word.Flop else None)))))))))
+    else (if says w flop_word then Some word.Flop else None)))))))))
 
 -- one or more names parted by commas, and the closing mark
 unfoldable pub named : List Symbol → Option (List Name)

@@ -32,6 +32,9 @@ pub(crate) enum Statement<'a> {
     },
 }
 
+/// The word of a flip-flop.
+pub(crate) const FLOP_WORD: &str = "DFF";
+
 /// What a gate word stands for.
 #[derive(Clone, Copy)]
 enum GateWord {
@@ -49,31 +52,31 @@ fn says(word: &str, letters: &str) -> bool
 fn gate_of(word: &str) -> Option<GateWord>
     ensures { result ≡ gate_of word.now }
 {
-    if says(word, "AND") {
+    if says(word, Kind::And.word()) {
         return Some(GateWord::Gate(Kind::And));
     }
-    if says(word, "NAND") {
+    if says(word, Kind::Nand.word()) {
         return Some(GateWord::Gate(Kind::Nand));
     }
-    if says(word, "OR") {
+    if says(word, Kind::Or.word()) {
         return Some(GateWord::Gate(Kind::Or));
     }
-    if says(word, "NOR") {
+    if says(word, Kind::Nor.word()) {
         return Some(GateWord::Gate(Kind::Nor));
     }
-    if says(word, "XOR") {
+    if says(word, Kind::Xor.word()) {
         return Some(GateWord::Gate(Kind::Xor));
     }
-    if says(word, "XNOR") {
+    if says(word, Kind::Xnor.word()) {
         return Some(GateWord::Gate(Kind::Xnor));
     }
-    if says(word, "NOT") {
+    if says(word, Kind::Not.word()) {
         return Some(GateWord::Gate(Kind::Not));
     }
-    if says(word, "BUFF") || says(word, "BUF") {
+    if says(word, Kind::Buff.word()) || says(word, "BUF") {
         return Some(GateWord::Gate(Kind::Buff));
     }
-    if says(word, "DFF") {
+    if says(word, FLOP_WORD) {
         return Some(GateWord::Flop);
     }
     None

@@ -1,6 +1,7 @@
 ghost use Rattle.std.specs.Prelude.{◌≡◌, length, count_by};
 ghost use Rattle.std.specs.List.{list_any, list_all};
 ghost use Rattle.gate_values.specs.Tables.{table_of, and_of, or_of, xor_of, HasInputs, is_zero, is_one, is_known};
+ghost use Rattle.gate_values.specs.Words.{word_of};
 
 use crate::logic::{Logic, invert, pass};
 
@@ -15,6 +16,24 @@ pub enum Kind {
     Xnor,
     Not,
     Buff,
+}
+
+impl Kind {
+    /// The word of this kind of gate, in upper case, as netlists in ISCAS'89's form and messages have it.
+    pub fn word(self) -> &'static str
+        ensures { result.now ≡ word_of self }
+    {
+        match self {
+            Kind::And => "AND",
+            Kind::Nand => "NAND",
+            Kind::Or => "OR",
+            Kind::Nor => "NOR",
+            Kind::Xor => "XOR",
+            Kind::Xnor => "XNOR",
+            Kind::Not => "NOT",
+            Kind::Buff => "BUFF",
+        }
+    }
 }
 
 /// What a gate puts out for the values of its inputs: `Not` and `Buff` have exactly one, the others one

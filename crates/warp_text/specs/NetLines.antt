@@ -1,10 +1,10 @@
 -- How the nets of a circuit are printed.
 use Rattle.std.specs.Prelude.{ℕ, zero, suc, List, [], ◌∷◌, ◌++◌, codes, decimal, Option, Some, None, unwrap_or, option_and_then, flat_map}
+use Rattle.gate_values.specs.Words.{word_of}
 use Rattle.gate_netlist.specs.declared.driver.Driver.{Driver}
 use Rattle.gate_netlist.specs.declared.driver.Driver.TheVariants.{Input, Gate, Flop}
 use Rattle.gate_netlist.specs.Circuit.{Design, driver_of, name_of, delay_of}
 use Rattle.gate_netlist.specs.Cut.{owner_of}
-use Rattle.gate_netlist.specs.Settings.{key_of}
 use Rattle.gate_vcd.specs.Codes.{code_of}
 use Rattle.gate_vcd.specs.Dump.{letter}
 
@@ -16,7 +16,7 @@ names_text d (n ∷ ns) = name_of d n ++ flat_map (λ m. codes ", " ++ name_of d
 -- what sets a net, by the names of the nets that it takes
 abbrev pub driver_text : Design → Driver → List ℕ
 driver_text d Input = codes "INPUT"
-driver_text d (Gate kind inputs) = key_of kind ++ codes "(" ++ names_text d inputs ++ codes ")"
+driver_text d (Gate kind inputs) = word_of kind ++ codes "(" ++ names_text d inputs ++ codes ")"
 driver_text d (Flop d_net clock init) =
     codes "DFF(" ++ name_of d d_net ++ codes ") clock " ++ name_of d clock ++ codes " init " ++ letter init ∷ []
 

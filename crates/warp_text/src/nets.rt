@@ -2,30 +2,13 @@
 ghost use Rattle.std.specs.Prelude.{◌≡◌, ◌<◌, ◌++◌, [], ◌∷◌, ℕ, OnOk, IfOk, codes, decimal};
 ghost use Rattle.std.specs.List.{All};
 ghost use Rattle.gate_netlist.specs.Circuit.{nets_of, name_of, IsDriven};
-ghost use Rattle.gate_netlist.specs.Settings.{key_of};
 ghost use Rattle.gate_vcd.specs.Dump.{letter};
 ghost use Rattle.warp_text.specs.NetLines.{names_text, driver_text, block_of, timing_text, head_text, net_line, net_lines};
 
 use gate_netlist::{Circuit, Driver};
-use gate_values::{Kind, Logic};
+use gate_values::Logic;
 use gate_vcd::code;
 use std::alloc::{AllocError, Global};
-
-/// The word of a kind of gate.
-fn kind_word(kind: Kind) -> &'static str
-    ensures { result.now ≡ key_of kind }
-{
-    match kind {
-        Kind::And => "AND",
-        Kind::Nand => "NAND",
-        Kind::Or => "OR",
-        Kind::Nor => "NOR",
-        Kind::Xor => "XOR",
-        Kind::Xnor => "XNOR",
-        Kind::Not => "NOT",
-        Kind::Buff => "BUFF",
-    }
-}
 
 /// The letter of a content.
 fn content_word(content: Logic) -> &'static str
@@ -76,7 +59,7 @@ fn push_driver(text: &mut Vec<u8>, circuit: &Circuit, driver: &Driver) -> Result
     match driver {
         Driver::Input => push_text(text, "INPUT"),
         Driver::Gate { kind, inputs } => {
-            push_text(text, kind_word(*kind))?;
+            push_text(text, kind.word())?;
             push_text(text, "(")?;
             push_names(text, circuit, inputs.as_slice())?;
             push_text(text, ")")

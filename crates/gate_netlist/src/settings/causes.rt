@@ -15,7 +15,9 @@ use super::flops::clock_of_flop;
 use super::values::{block_of, clock_name, content_of, delay_of, table_at, value_at};
 use crate::bench::{Bench, Definition};
 use crate::fault::SettingsFault;
+use crate::statement::FLOP_WORD;
 use crate::token::is_letter;
+use gate_values::Kind;
 use toml::{Table, Value};
 
 /// The least cause for which the document is refused.
@@ -96,15 +98,15 @@ fn some_gate_is_unknown(gates: &Table) -> bool
 fn is_gate_key(key: &str) -> bool
     ensures { result ≡ is_gate_key key.now }
 {
-    key == "AND"
-        || key == "NAND"
-        || key == "OR"
-        || key == "NOR"
-        || key == "XOR"
-        || key == "XNOR"
-        || key == "NOT"
-        || key == "BUFF"
-        || key == "DFF"
+    key == Kind::And.word()
+        || key == Kind::Nand.word()
+        || key == Kind::Or.word()
+        || key == Kind::Nor.word()
+        || key == Kind::Xor.word()
+        || key == Kind::Xnor.word()
+        || key == Kind::Not.word()
+        || key == Kind::Buff.word()
+        || key == FLOP_WORD
 }
 
 /// Whether a key of `net` or `block` names no net, or an input, or one of `clocks` or `init` names no flip-flop.

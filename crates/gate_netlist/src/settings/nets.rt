@@ -8,6 +8,7 @@ ghost use Rattle.gate_netlist.specs.Meaning.{delays_of, owners_of};
 
 use super::values::{block_at, block_of, delay_at, table_at};
 use crate::bench::Definition;
+use crate::statement::FLOP_WORD;
 use gate_values::Kind;
 use std::alloc::{AllocError, Global};
 use toml::Table;
@@ -98,15 +99,15 @@ fn kind_delays(table: &Table) -> KindDelays
     let default = default_delay(table);
     let gates = table_at(table, "gate");
     KindDelays {
-        and: own_delay(gates, "AND", default),
-        nand: own_delay(gates, "NAND", default),
-        or: own_delay(gates, "OR", default),
-        nor: own_delay(gates, "NOR", default),
-        xor: own_delay(gates, "XOR", default),
-        xnor: own_delay(gates, "XNOR", default),
-        not: own_delay(gates, "NOT", default),
-        buff: own_delay(gates, "BUFF", default),
-        dff: own_delay(gates, "DFF", default),
+        and: own_delay(gates, Kind::And.word(), default),
+        nand: own_delay(gates, Kind::Nand.word(), default),
+        or: own_delay(gates, Kind::Or.word(), default),
+        nor: own_delay(gates, Kind::Nor.word(), default),
+        xor: own_delay(gates, Kind::Xor.word(), default),
+        xnor: own_delay(gates, Kind::Xnor.word(), default),
+        not: own_delay(gates, Kind::Not.word(), default),
+        buff: own_delay(gates, Kind::Buff.word(), default),
+        dff: own_delay(gates, FLOP_WORD, default),
     }
 }
 
