@@ -1,19 +1,21 @@
 -- The circuit of a netlist with its flip-flops' clocks has the law of circuits, and its cut that of cuts.
 use Rattle.std.proofs.Common.{◌≡◌, ◌∙◌, ℕ, ◌+◌, ◌<◌, Bool, true, false, not, ◌||◌, nat_lt, List, [], ◌∷◌, length, map, get_or, Option, Some, None, is_some, IsSome, IfSome, unwrap_or, option_map, option_and_then, refl, ap, arith, inl, inr, codes}
-use Rattle.std.specs.List.{zip, list_any, position, position_or_len}
+use Rattle.std.specs.List.{All, range_with_len, zip, list_any, position, position_or_len}
 use Rattle.std.specs.Str.{bytes_eq}
 use Rattle.std.proofs.lemmas.Bool.{cases_Bool, cases_lt, ltb-true, eq-eqb}
 use Rattle.std.proofs.lemmas.List.{length-map, get_or-map, get_or_past}
+use Rattle.std.proofs.lemmas.List.Elements.{All-nil, All-cons}
 use Rattle.std.proofs.lemmas.Slice.Eq.{bytes_eq-Decides}
 use Rattle.std.proofs.lemmas.Slice.Zip.{length-zip, get_or-zip}
 use Rattle.toml.specs.Data.{Members, get_member, as_table}
 use Rattle.gate_values.specs.Words.{word_of}
 use Rattle.gate_netlist.specs.declared.bench.Definition.{Definition}
 use Rattle.gate_netlist.specs.declared.bench.Definition.TheVariants.{Input, Gate, Flop}
+use Rattle.gate_netlist.specs.declared.driver.Driver.{Driver}
 use Rattle.gate_netlist.specs.declared.driver.Driver.TheVariants as driver
 use Rattle.gate_netlist.specs.Netlist.{Netlist, IsDefinition, place_of, any_net}
 use Rattle.gate_netlist.specs.Cut.{IsOwnership}
-use Rattle.gate_netlist.specs.Circuit.{IsCircuit, CutFits, IsDriven, IsDelay, driver_of, is_input, is_clocked_by}
+use Rattle.gate_netlist.specs.Circuit.{Design, IsCircuit, CutFits, IsDriven, IsDelay, nets_of, driver_of, nets_used, readers_among, readers_of, is_input, is_clocked_by}
 use Rattle.gate_netlist.specs.Settings.{delay_at, table_at, net_delay, net_block, greatest_block, clock_name, clock_of_flop, takes_clock, delay_of_key}
 use Rattle.gate_netlist.specs.Causes.{is_flop_line}
 use Rattle.gate_netlist.specs.Meaning.{with_clock, driver_by, drivers_of, clock_among, delays_of, cut_of, clocked_circuit, circuit_of}
@@ -165,6 +167,22 @@ module _ (ms : Members) (b : Netlist) (h : HasClocks ms b) where
     marks = h.marks;
     cut = cut_of_table (option_and_then as_table (get_member (codes "block") ms));
   }
+
+pub length-owners_of : (blocks : Members) (names : List (List ℕ)) (ds : List Definition) → length ds ≡ length names → length (cut_of blocks names ds).owners ≡ length names
+length-owners_of blocks names ds e = length-by_net (net_block blocks) names ds e
+
+-- ---- what drivers use
+
+used_by : (nets : ℕ) (s : Driver) (delay : ℕ) → IsDriven nets s delay → All (λ n. n < nets) (nets_used s)
+used_by nets driver.Input delay h = All-nil (λ n. n < nets)
+used_by nets (driver.Gate kind inputs) delay h = h.1
+used_by nets (driver.Flop d clock init) delay h = All-cons (λ n. n < nets) d (clock ∷ []) h.0 (All-cons (λ n. n < nets) clock [] h.1 (All-nil (λ n. n < nets)))
+
+pub used_below : (d : Design) → IsCircuit d → (g : ℕ) → g < length d.drivers → All (λ n. n < length d.drivers) (nets_used (get_or d.drivers g driver.Input))
+used_below d h g l = rw h.drivers (used_by (nets_of d) (driver_of d g) (get_or d.delays g 0) (h.driven g (omega (arith, h.drivers))))
+
+pub readers_all : {d : Design} → IsCircuit d → map (readers_among d.drivers (length d.drivers)) (range_with_len 0 (length d.drivers)) ≡ map (readers_of d) (range_with_len 0 (nets_of d))
+readers_all {d} h = rw h.drivers refl
 
 pub clocked_circuit-circuit_of : (ms : Members) (more parts b : Netlist) → more ≡ with_clock ms parts → parts ≡ b → clocked_circuit ms more ≡ circuit_of b ms
 unfolding circuit_of

@@ -1,5 +1,5 @@
 -- Names that differ, with one more at the end.
-use Rattle.std.proofs.Common.{◌≡◌, ◌∙◌, ℕ, suc, ◌+◌, ◌<◌, Bool, true, false, cond, eqb, List, [], ◌∷◌, ◌++◌, length, get_or, Option, Some, None, refl, sym, ap, append-nil, arith, inl, inr}
+use Rattle.std.proofs.Common.{◌≡◌, ◌∙◌, ℕ, suc, ◌+◌, ◌<◌, Bool, true, false, cond, eqb, List, [], ◌∷◌, ◌++◌, length, get_or, Option, Some, None, refl, sym, append-nil, arith, inl, inr}
 use Rattle.std.specs.Prelude.{option_to_list}
 use Rattle.std.specs.List.{list_any, position, position_or_len}
 use Rattle.std.specs.Str.{bytes_eq}
@@ -8,7 +8,7 @@ use Rattle.std.proofs.lemmas.List.{length-append, get_or_append_left}
 use Rattle.std.proofs.Math.Seq.{get_or-append_seam}
 use Rattle.std.proofs.lemmas.List.Folds.{position_or_len_push}
 use Rattle.gate_netlist.specs.declared.fault.BenchCause.{BenchCause}
-use Rattle.gate_netlist.specs.Netlist.{place_of, NamesDiffer}
+use Rattle.gate_netlist.specs.Netlist.{NamesDiffer}
 use Rattle.gate_netlist.specs.Bench.{is_among, refusal}
 use Rattle.gate_netlist.proofs.Naming.{place_none, place_some}
 

@@ -1,4 +1,5 @@
 pub mod FirstLine
+pub mod Grouping
 pub mod Accepting
 pub mod Positions
 pub mod EvenCuts
@@ -16,4 +17,6 @@ pub mod Resolving
 pub mod Naming
 pub mod Splitting
 pub mod Words
+pub mod Readers
+pub mod Owning
 pub mod Refusals

@@ -1,5 +1,5 @@
 -- What sets the nets of a circuit, for the definition of values.
-use Rattle.std.proofs.Common.{◌≡◌, ℕ, ◌<◌, ◌≤◌, get_or, refl, arith, inl, inr}
+use Rattle.std.proofs.Common.{ℕ, get_or, arith, inl, inr}
 use Rattle.std.proofs.lemmas.Bool.{cases_lt}
 use Rattle.std.proofs.lemmas.List.{get_or_past}
 use Rattle.gate_values.specs.Behaviour.{IsWellFormed}

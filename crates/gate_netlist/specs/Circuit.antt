@@ -1,6 +1,6 @@
 -- What a circuit is: its nets in order, and what sets each of them.
-use Rattle.std.specs.Prelude.{◌≡◌, ℕ, ◌<◌, ◌≤◌, Bool, true, false, not, nat_eq, List, [], length, get_or, Option, Some, None, is_some, IfSome}
-use Rattle.std.specs.List.{All, IsDistinct, list_any}
+use Rattle.std.specs.Prelude.{◌≡◌, ℕ, ◌<◌, ◌≤◌, Bool, true, false, not, nat_eq, List, [], ◌∷◌, length, get_or, Option, Some, None, is_some, IfSome}
+use Rattle.std.specs.List.{All, IsDistinct, filter, list_any, range_with_len}
 use Rattle.gate_values.specs.Tables.{HasInputs}
 use Rattle.gate_values.specs.Behaviour.{Source}
 use Rattle.gate_netlist.specs.declared.driver.Driver.{Driver}
@@ -43,6 +43,24 @@ is_gate _ = false
 abbrev pub is_flop : Driver → Bool
 is_flop (Flop d clock init) = true
 is_flop _ = false
+
+-- the nets that a driver uses: the inputs of a gate, the data and the clock of a flip-flop
+abbrev pub nets_used : Driver → List ℕ
+nets_used Input = []
+nets_used (Gate kind inputs) = inputs
+nets_used (Flop d clock init) = d ∷ clock ∷ []
+
+-- the net is one of these
+abbrev pub is_one_of : List ℕ → ℕ → Bool
+is_one_of nets n = list_any (λ net. nat_eq net n) nets
+
+-- of the first so many nets those whose gate or flip-flop uses the net, ascending, each once
+abbrev pub readers_among : List Driver → ℕ → ℕ → List ℕ
+readers_among drivers count n = filter (λ g. is_one_of (nets_used (get_or drivers g Input)) n) (range_with_len 0 count)
+
+-- the readers of a net: the nets whose gate or flip-flop uses it
+abbrev pub readers_of : Design → ℕ → List ℕ
+readers_of d n = readers_among d.drivers (nets_of d) n
 
 -- how long a net takes, which only a net that a gate or a flip-flop sets does
 abbrev pub delay_by : Driver → ℕ → Option ℕ

@@ -1,5 +1,5 @@
 -- What is true of a netlist once its flip-flops' clocks are among its nets.
-use Rattle.std.specs.Prelude.{◌≡◌, ℕ, ◌<◌, ◌≤◌, nat_eq, true, List, [], length, get_or, IsSome}
+use Rattle.std.specs.Prelude.{◌≡◌, ℕ, ◌<◌, ◌≤◌, nat_eq, true, [], length, get_or, IsSome}
 use Rattle.std.specs.List.{All, IsDistinct}
 use Rattle.toml.specs.Data.{Members}
 use Rattle.gate_netlist.specs.declared.bench.Definition.TheVariants.{Input}

@@ -7,6 +7,10 @@ pub mod Cut
 pub mod Even
 pub mod Held
 pub mod HeldParts
+pub mod HeldCut
+pub mod Owned
+pub mod Groups
+pub mod Readers
 pub mod Faults
 pub mod Kinds
 pub mod Meaning

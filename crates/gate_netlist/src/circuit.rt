@@ -1,16 +1,18 @@
 ghost use Rattle.std.specs.Prelude.{◌≡◌, ◌<◌, ◌≤◌, length, option_map, option_copied, count_by};
-ghost use Rattle.gate_netlist.specs.Circuit.{nets_of, driver_of, name_of, net_of, delay_of, is_input, is_gate, is_flop, IsCircuit};
+ghost use Rattle.gate_netlist.specs.Circuit.{nets_of, driver_of, name_of, net_of, delay_of, readers_of, is_input, is_gate, is_flop, IsCircuit};
 ghost use Rattle.gate_netlist.specs.Counts.{counts_of};
 ghost use Rattle.gate_netlist.specs.Even.{driven_count};
 ghost use Rattle.gate_netlist.specs.Meaning.{IsAnswer};
 
 mod build;
+mod readers;
 
 use crate::bench::{Bench, Names};
 use crate::counts::Counts;
 use crate::cut::Cut;
 use crate::driver::Driver;
 use crate::fault::SettingsFault;
+use crate::groups::Groups;
 use crate::settings;
 use std::alloc::Global;
 use std::marker::Model;
@@ -21,6 +23,7 @@ pub struct Circuit {
     names: Names,
     drivers: Vec<Driver>,
     delays: Vec<u32>,
+    readers: Groups,
     outputs: Vec<u32>,
     clock: Option<u32>,
     scope: Option<String>,
@@ -28,15 +31,15 @@ pub struct Circuit {
 }
 
 impl Model for Circuit {
-    ghost use Rattle.gate_netlist.specs.Circuit.{Design, IsCircuit};
+    ghost use Rattle.gate_netlist.specs.Circuit.{Design};
 
     ghost Value = { Design };
 
-    ghost use Rattle.gate_netlist.specs.Held.{design_of};
+    ghost use Rattle.gate_netlist.specs.Held.{design_of, IsHeld};
 
     ghost view = { design_of };
 
-    ghost invariant = { λ c. IsCircuit (design_of c) };
+    ghost invariant = { IsHeld };
 }
 
 impl Circuit {
@@ -116,6 +119,14 @@ impl Circuit {
             Driver::Input => None,
             _ => Some(self.delays[net as usize]),
         }
+    }
+
+    /// The nets whose gate or flip-flop uses a net, as input, data or clock: ascending, each once.
+    pub fn readers(&self, net: u32) -> &[u32]
+        requires { net < nets_of self.now }
+        ensures { result.now ≡ readers_of self.now net }
+    {
+        self.readers.get(net)
     }
 
     /// The net that `clock` names; none where no flip-flop takes it.

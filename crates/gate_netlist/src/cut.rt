@@ -1,9 +1,11 @@
-ghost use Rattle.std.specs.Prelude.{◌≡◌, ◌≤◌, ◌↔◌, IsTrue, IfOk};
-ghost use Rattle.gate_netlist.specs.Cut.{owner_of, IsOwnership};
+ghost use Rattle.std.specs.Prelude.{◌≡◌, ◌<◌, ◌≤◌, ◌↔◌, IsTrue, IfOk, length};
+ghost use Rattle.gate_netlist.specs.Cut.{owner_of, own_nets, IsOwnership};
+ghost use Rattle.gate_netlist.specs.Owned.{AreOwned};
 ghost use Rattle.gate_netlist.specs.Circuit.{CutFits};
 ghost use Rattle.gate_netlist.specs.Even.{even_cut};
 
 use crate::circuit::Circuit;
+use crate::groups::{Groups, Keyed};
 use std::alloc::{AllocError, Global};
 use std::marker::Model;
 
@@ -12,25 +14,39 @@ use std::marker::Model;
 pub struct Cut {
     owners: Vec<Option<u32>>,
     blocks: u32,
+    own: Groups,
 }
 
 impl Model for Cut {
-    ghost use Rattle.gate_netlist.specs.Cut.{Ownership, IsOwnership};
+    ghost use Rattle.gate_netlist.specs.Cut.{Ownership};
 
     ghost Value = { Ownership };
 
-    ghost view = { λ cut. record { blocks = cut.blocks; owners = cut.owners.items } };
+    ghost use Rattle.gate_netlist.specs.HeldCut.{ownership_of, IsHeldCut};
 
-    ghost invariant = { λ cut. IsOwnership (record { blocks = cut.blocks; owners = cut.owners.items }) };
+    ghost view = { ownership_of };
+
+    ghost invariant = { IsHeldCut };
 }
 
 impl Cut {
     /// The cut with these owners.
-    pub(crate) fn new(owners: Vec<Option<u32>>, blocks: u32) -> Cut
-        requires { IsOwnership (record { blocks = blocks; owners = owners.items }) }
-        ensures { result ≡ record { blocks = blocks; owners = owners.items } }
+    pub(crate) fn new(
+        alloc: Global,
+        owners: Vec<Option<u32>>,
+        blocks: u32,
+    ) -> Result<Cut, AllocError>
+        requires law { IsOwnership (record { blocks = blocks; owners = owners.items }) }
+        requires within { length owners.items ≤ 1000000 }
+        ensures { IfOk result (λ cut. cut ≡ record { blocks = blocks; owners = owners.items }) }
     {
-        Cut { owners, blocks }
+        let entries = entries_of(alloc, &owners)?;
+        let own = Groups::of(alloc, blocks, &entries)?;
+        Ok(Cut {
+            owners,
+            blocks,
+            own,
+        })
     }
 
     /// What is true of every cut.
@@ -51,7 +67,7 @@ impl Cut {
     {
         circuit.law();
         let owners = even_owners(alloc, circuit, blocks)?;
-        Ok(Cut { owners, blocks })
+        Cut::new(alloc, owners, blocks)
     }
 
     /// The number of blocks, from 1 to 1024.
@@ -73,6 +89,14 @@ impl Cut {
         }
     }
 
+    /// A block's own nets, ascending.
+    pub fn own_nets(&self, block: u32) -> &[u32]
+        requires { block < self.now.blocks }
+        ensures { result.now ≡ own_nets self.now block }
+    {
+        self.own.get(block)
+    }
+
     /// Whether the cut is one of this circuit: of as many nets, where just those that aren't inputs have an owner.
     pub fn fits(&self, circuit: &Circuit) -> bool
         ensures { IsTrue result ↔ CutFits circuit.now self.now }
@@ -87,6 +111,23 @@ impl Cut {
         }
         true
     }
+}
+
+/// Each net that has an owner, under it.
+fn entries_of(alloc: Global, owners: &[Option<u32>]) -> Result<Vec<Keyed>, AllocError>
+    requires { length owners.now ≤ 1000000 }
+    ensures { IfOk result (λ entries. AreOwned owners.now (length owners.now) entries.items) }
+{
+    let mut entries = Vec::with_capacity(alloc, owners.len())?;
+    for (net, owner) in owners.iter().enumerate() {
+        if let Some(block) = owner {
+            entries.push(Keyed {
+                key: *block,
+                number: net as u32,
+            })?;
+        }
+    }
+    Ok(entries)
 }
 
 /// The owners of the even cut.

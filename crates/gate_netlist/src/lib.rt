@@ -15,6 +15,7 @@ mod counts;
 mod cut;
 mod driver;
 mod fault;
+mod groups;
 mod laws;
 mod lines;
 mod nets;

@@ -10,6 +10,7 @@ ghost use Rattle.gate_netlist.specs.HeldParts.{parts_netlist};
 ghost use Rattle.gate_netlist.specs.Meaning.{clock_among, driver_by, drivers_of, cut_of, clocked_circuit, circuit_of};
 
 use super::Circuit;
+use super::readers::readers_of;
 use crate::bench::{Bench, Definition, Names};
 use crate::cut::Cut;
 use crate::driver::Driver;
@@ -46,10 +47,12 @@ fn circuit_of_parts(alloc: Global, parts: Parts, table: &Table) -> Result<Circui
     let scope = scope_of(alloc, table)?;
     let clock = clock_of(table, &names, definitions.as_slice());
     let drivers = drivers_of(alloc, table, &names, definitions)?;
+    let readers = readers_of(alloc, drivers.as_slice())?;
     Ok(Circuit {
         names,
         drivers,
         delays,
+        readers,
         outputs,
         clock,
         scope,
@@ -143,13 +146,15 @@ fn cut_of(
     names: &[String],
     definitions: &[Definition],
 ) -> Result<Option<Cut>, AllocError>
-    requires { length definitions.now ≡ length names.now }
+    requires many { length definitions.now ≡ length names.now }
+    requires within { length names.now ≤ 1000000 }
     ensures { IfOk result (λ cut. cut ≡ option_map (λ blocks. cut_of blocks (map string_bytes names.now) definitions.now) (option_and_then as_table (get_member (codes "block") (table_view table.now)))) }
 {
     match block_table(table) {
         Some(given) => {
             let owners = owners_of(alloc, given, names, definitions)?;
-            Ok(Some(Cut::new(owners, greatest_block(given) + 1)))
+            let cut = Cut::new(alloc, owners, greatest_block(given) + 1)?;
+            Ok(Some(cut))
         }
         None => Ok(None),
     }

@@ -1,4 +1,4 @@
-use Rattle.std.proofs.Common.{◌∙◌, not, ap, refl, string_bytes}
+use Rattle.std.proofs.Common.{not, ap, refl, string_bytes}
 use Rattle.std.specs.Str.{bytes_eq}
 use Rattle.gate_netlist.proofs.Positions.{position-map}
 use Rattle.gate_netlist.proofs.settings.causes.is_missing_clock.Goals as goal

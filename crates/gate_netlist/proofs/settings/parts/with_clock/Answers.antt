@@ -2,7 +2,7 @@ use Rattle.std.proofs.Common.{◌≡◌, ◌∙◌, true, is_some, map, sym, ap,
 use Rattle.std.specs.Str.{bytes_eq}
 use Rattle.toml.specs.View.{table_view}
 use Rattle.gate_netlist.specs.Netlist.{any_net}
-use Rattle.gate_netlist.specs.Settings.{clock_name, takes_clock}
+use Rattle.gate_netlist.specs.Settings.{takes_clock}
 use Rattle.gate_netlist.proofs.Positions.{position-map}
 use Rattle.gate_netlist.proofs.settings.parts.with_clock.Goals as goal
 
