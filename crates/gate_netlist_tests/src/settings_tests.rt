@@ -132,6 +132,30 @@ fn even_owner(alloc: Global, net: u32) -> Result<Option<u32>, SettingsFault> {
     }
 }
 
+/// Whether these are the readers of a net.
+fn has_readers(
+    alloc: Global,
+    bench: &str,
+    net: u32,
+    readers: &[u32],
+) -> Result<bool, SettingsFault> {
+    let circuit = circuit_of(alloc, bench, "")?;
+    if net >= circuit.nets() {
+        return Ok(false);
+    }
+    Ok(circuit.readers(net) == readers)
+}
+
+/// Whether these are a block's own nets in the even cut of s27 into three.
+fn has_own_nets(alloc: Global, block: u32, nets: &[u32]) -> Result<bool, SettingsFault> {
+    let circuit = circuit_of(alloc, S27, "")?;
+    let cut = Cut::even(alloc, &circuit, 3)?;
+    if block >= cut.blocks() {
+        return Ok(false);
+    }
+    Ok(cut.own_nets(block) == nets)
+}
+
 /// Whether the even cut of one bench fits the circuit of another.
 fn fits_another(alloc: Global, bench: &str, other: &str) -> Result<bool, SettingsFault> {
     let circuit = circuit_of(alloc, bench, "")?;
@@ -338,6 +362,18 @@ fn an_even_cut_of_s27(rt: HostRuntime) -> Result<(), Fail> {
     ] {
         assert_eq!(rt; even_owner(rt.alloc(), net)?, owner, "at {net}");
     }
+    Ok(())
+}
+
+#[test]
+fn readers_and_own_nets(rt: HostRuntime) -> Result<(), Fail> {
+    let twice = "INPUT(A)\nY = AND(A, A)\n";
+    assert!(rt; has_readers(rt.alloc(), twice, 0, &[1])?);
+    assert!(rt; has_readers(rt.alloc(), S27, 8, &[])?);
+    assert!(rt; has_readers(rt.alloc(), S27, 9, &[10, 11])?);
+    assert!(rt; has_readers(rt.alloc(), S27, 14, &[5, 8, 13])?);
+    assert!(rt; has_readers(rt.alloc(), S27, 17, &[4, 5, 6])?);
+    assert!(rt; has_own_nets(rt.alloc(), 1, &[9, 10, 11, 12])?);
     Ok(())
 }
 
