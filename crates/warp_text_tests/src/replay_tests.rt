@@ -19,36 +19,45 @@ const IN_THREE: &str = "warp_sim replay --until 10 --settings s b v c";
 
 const IN_ONE: &str = "warp_sim replay --until 10 --blocks 1 --settings s b v c";
 
-/// A line, the two parts of a schedule, and with which status and text it ends.
-const REPLAYS: [(&str, &str, &str, u8, &str); 11] = [
-    (IN_THREE, EVENTS, "advance 2 1", 0, DUMP),
-    (IN_THREE, EVENTS, "", 3, "unfinished at 2\n"),
-    (IN_THREE, "", "", 3, "unfinished at 0\n"),
-    (IN_THREE, "commit\n", "commit\n", 3, "unfinished at 0\n"),
-    (IN_THREE, "deliver 0", "", 3, "event 1: NoSuchMessage\n"),
-    (IN_THREE, "advance 3 1", "", 3, "event 1: NoSuchBlock\n"),
+/// A line, the two parts of a schedule, with which status it ends, and what is written on standard output and error.
+const REPLAYS: [(&str, &str, &str, u8, &str, &str); 11] = [
+    (IN_THREE, EVENTS, "advance 2 1", 0, DUMP, ""),
+    (IN_THREE, EVENTS, "", 3, "", "unfinished at 2\n"),
+    (IN_THREE, "", "", 3, "", "unfinished at 0\n"),
+    (IN_THREE, "commit\n", "commit\n", 3, "", "unfinished at 0\n"),
+    (IN_THREE, "deliver 0", "", 3, "", "event 1: NoSuchMessage\n"),
+    (IN_THREE, "advance 3 1", "", 3, "", "event 1: NoSuchBlock\n"),
     (
         IN_THREE,
         "# c\n\nadvance 0 1\n",
         "advance 7 1",
         3,
+        "",
         "event 2: NoSuchBlock\n",
     ),
-    (IN_THREE, "advance 0", "", 1, "schedule line 1: BadLine\n"),
+    (
+        IN_THREE,
+        "advance 0",
+        "",
+        1,
+        "",
+        "schedule line 1: BadLine\n",
+    ),
     (
         IN_THREE,
         "commit\n",
         "advance 0 4294967296",
         1,
+        "",
         "schedule line 2: NumberTooLarge\n",
     ),
-    (IN_ONE, "advance 0 9", "", 0, DUMP),
-    (IN_ONE, "advance 1 1", "", 3, "event 1: NoSuchBlock\n"),
+    (IN_ONE, "advance 0 9", "", 0, DUMP, ""),
+    (IN_ONE, "advance 1 1", "", 3, "", "event 1: NoSuchBlock\n"),
 ];
 
 #[test]
 fn schedules_are_played(rt: HostRuntime) -> Result<(), Fail> {
-    for (line, events, last, status, text) in REPLAYS {
+    for (line, events, last, status, out, err) in REPLAYS {
         let schedule = format!(in rt.alloc(); "{events}{last}")?;
         let texts = [
             ("b", PAIR.as_bytes()),
@@ -57,8 +66,8 @@ fn schedules_are_played(rt: HostRuntime) -> Result<(), Fail> {
             ("c", schedule.as_bytes()),
         ];
         let told = tell(&rt, rt.alloc(), line, &texts)?;
-        let written = if status == 0 { &told.out } else { &told.err };
-        assert_eq!(rt; written.as_slice(), text.as_bytes(), "{events}{last}");
+        assert_eq!(rt; told.out.as_slice(), out.as_bytes(), "{events}{last}");
+        assert_eq!(rt; told.err.as_slice(), err.as_bytes(), "{events}{last}");
         assert_eq!(rt; told.status, status, "{events}{last}");
         assert_eq!(rt; told.asked.as_str(), "s b v c ", "{events}{last}");
     }
