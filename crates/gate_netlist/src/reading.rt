@@ -14,6 +14,7 @@ use crate::lines::next_line;
 use crate::nets::Nets;
 use crate::seed::TextSeed;
 use crate::statement::{Statement, meaning_of};
+use crate::token::Token;
 use indexmap::IndexSet;
 use std::alloc::{AllocError, Global};
 
@@ -68,11 +69,16 @@ fn net_defined<'a>(statement: &Statement<'a>) -> Option<&'a str>
 
 /// What a line says, after lines that define these nets. The net that it defines goes last.
 #[tactic(auto, unfolding(crate::specs::Bench::stated))]
-fn stated<'a>(alloc: Global, names: &mut Names, line: &'a [u8]) -> Result<Statement<'a>, BenchCause>
+fn stated<'a>(
+    alloc: Global,
+    tokens: &mut Vec<Token<'a>>,
+    names: &mut Names,
+    line: &'a [u8],
+) -> Result<Statement<'a>, BenchCause>
     ensures gives { Gives cause.Memory meant result (stated (names_in names.old) line.now) }
     ensures names { IfOk result (λ s. names_in names.new ≡ names_in names.old ++ option_to_list (net_defined (meant s))) }
 {
-    let statement = meaning_of(alloc, line)?;
+    let statement = meaning_of(alloc, tokens, line)?;
     match net_defined(&statement) {
         None => Ok(statement),
         Some(name) => {
@@ -98,11 +104,12 @@ fn defined_names(alloc: Global, text: &[u8]) -> Result<Names, BenchFault>
     ensures memory { IfErr result MemoryHasNoLine }
 {
     let mut names = IndexSet::with_hasher(alloc, TextSeed::of(text));
+    let mut tokens = Vec::new(alloc);
     let mut number = 1;
     let mut rest = Some(text);
     while let Some(text) = rest {
         let (line, after) = next_line(text);
-        match stated(alloc, &mut names, line) {
+        match stated(alloc, &mut tokens, &mut names, line) {
             Ok(_) => number += 1,
             Err(cause) => return Err(fault_at(number, cause)),
         }
@@ -132,10 +139,15 @@ fn uses_other(names: &Names, statement: &Statement) -> bool
 
 /// What a line says, where each net that it uses is one of these.
 #[tactic(auto, unfolding(crate::specs::Passes::linked))]
-fn linked<'a>(alloc: Global, names: &Names, line: &'a [u8]) -> Result<Statement<'a>, BenchCause>
+fn linked<'a>(
+    alloc: Global,
+    tokens: &mut Vec<Token<'a>>,
+    names: &Names,
+    line: &'a [u8],
+) -> Result<Statement<'a>, BenchCause>
     ensures { Gives cause.Memory meant result (linked (names_in names.now) line.now) }
 {
-    let statement = meaning_of(alloc, line)?;
+    let statement = meaning_of(alloc, tokens, line)?;
     if uses_other(names, &statement) {
         return Err(BenchCause::Undriven);
     }
@@ -247,11 +259,12 @@ fn bench_of(alloc: Global, names: Names, text: &[u8]) -> Result<Bench, BenchFaul
 {
     let mut definitions = Vec::new(alloc);
     let mut marked = Vec::new(alloc);
+    let mut tokens = Vec::new(alloc);
     let mut number = 1;
     let mut rest = Some(text);
     while let Some(text) = rest {
         let (line, after) = next_line(text);
-        match linked(alloc, &names, line) {
+        match linked(alloc, &mut tokens, &names, line) {
             Ok(statement) => {
                 push_definition(alloc, &names, &statement, &mut definitions)?;
                 push_output(&names, &statement, &mut marked)?;

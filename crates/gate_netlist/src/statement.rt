@@ -9,7 +9,7 @@ ghost use Rattle.gate_netlist.specs.Tokens.{symbols_of};
 
 use crate::fault::BenchCause;
 use crate::token::{
-    Token, after_equals, after_open, closes, code_of, has_comma, has_end, is_allowed, tokens,
+    Token, after_equals, after_open, closes, code_of, has_comma, has_end, is_allowed, tokenize,
     word_first,
 };
 use gate_values::Kind;
@@ -207,18 +207,22 @@ fn statement_of<'a>(alloc: Global, tokens: &[Token<'a>]) -> Result<Statement<'a>
     Err(BenchCause::BadLine)
 }
 
-/// What a line says.
+/// What a line says. The buffer is for its tokens.
 #[tactic(auto, unfolding(crate::specs::Statements::meaning_of))]
-pub(crate) fn meaning_of(alloc: Global, line: &[u8]) -> Result<Statement<'_>, BenchCause>
+pub(crate) fn meaning_of<'a>(
+    alloc: Global,
+    tokens: &mut Vec<Token<'a>>,
+    line: &'a [u8],
+) -> Result<Statement<'a>, BenchCause>
     ensures { Gives cause.Memory meant result (meaning_of line.now) }
 {
     let code = code_of(line);
     if !is_allowed(code) {
         return Err(BenchCause::BadName);
     }
-    let tokens = tokens(alloc, code)?;
-    if has_end(&tokens) {
+    tokenize(code, tokens)?;
+    if has_end(tokens) {
         return Err(BenchCause::BadName);
     }
-    statement_of(alloc, &tokens)
+    statement_of(alloc, tokens)
 }

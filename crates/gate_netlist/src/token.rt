@@ -1,10 +1,10 @@
-ghost use Rattle.std.specs.Prelude.{◌≡◌, ◌==◌, ◌<◌, ◌∷◌, ◌++◌, not, length, option_map, option_to_list, IfOk, true};
+ghost use Rattle.std.specs.Prelude.{◌≡◌, ◌==◌, ◌<◌, ◌∷◌, ◌++◌, not, length, option_map, option_to_list, OnOk, true};
 ghost use Rattle.std.specs.List.{list_all, list_any, prefix_len};
 ghost use Rattle.gate_netlist.specs.Symbols.{Word, code_of, mark_of, is_letter, begins_with_letter, is_allowed, is_end, symbols};
 ghost use Rattle.gate_netlist.specs.Splits.{word_first, after_open, has_comma, after_equals, closes};
 ghost use Rattle.gate_netlist.specs.Tokens.{symbol_of, symbols_of};
 
-use std::alloc::{AllocError, Global};
+use std::alloc::AllocError;
 
 /// A mark or a word of a line.
 #[derive(Clone, Copy)]
@@ -109,11 +109,11 @@ fn next_token(code: &[u8]) -> (Option<Token<'_>>, &[u8])
     (mark_of(byte), &code[1..])
 }
 
-/// The marks and words of a line.
-pub(crate) fn tokens(alloc: Global, code: &[u8]) -> Result<Vec<Token<'_>>, AllocError>
-    ensures { IfOk result (λ tokens. symbols_of tokens.items ≡ symbols code.now) }
+/// Puts the marks and words of a line in place of what the buffer holds.
+pub(crate) fn tokenize<'a>(code: &'a [u8], tokens: &mut Vec<Token<'a>>) -> Result<(), AllocError>
+    ensures { OnOk result (symbols_of tokens.new.items ≡ symbols code.now) }
 {
-    let mut tokens = Vec::new(alloc);
+    tokens.clear();
     let mut rest = code;
     while !rest.is_empty() {
         let (token, after) = next_token(rest);
@@ -122,7 +122,7 @@ pub(crate) fn tokens(alloc: Global, code: &[u8]) -> Result<Vec<Token<'_>>, Alloc
         }
         rest = after;
     }
-    Ok(tokens)
+    Ok(())
 }
 
 /// The word in front, and what follows it.
