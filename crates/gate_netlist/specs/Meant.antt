@@ -12,5 +12,5 @@ abbrev pub meant : Written → Statement
 meant written.Nothing = Nothing
 meant (written.Input n) = Input n.now
 meant (written.Output n) = Output n.now
-meant (written.Gate n kind inputs) = Gate n.now kind (names_meant inputs.items)
+meant (written.Gate n kind inputs) = Gate n.now kind (names_meant inputs.now)
 meant (written.Flop n d) = Flop n.now d.now

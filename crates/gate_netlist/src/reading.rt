@@ -13,8 +13,7 @@ use crate::fault::{BenchCause, BenchFault};
 use crate::lines::next_line;
 use crate::nets::Nets;
 use crate::seed::TextSeed;
-use crate::statement::{Statement, meaning_of};
-use crate::token::Token;
+use crate::statement::{Buffers, Statement, meaning_of};
 use indexmap::IndexSet;
 use std::alloc::{AllocError, Global};
 
@@ -55,7 +54,7 @@ fn number_among(names: &Names, name: &str) -> u32
     }
 }
 
-fn net_defined<'a>(statement: &Statement<'a>) -> Option<&'a str>
+fn net_defined<'a>(statement: &Statement<'a, '_>) -> Option<&'a str>
     ensures { option_map (λ name. name.now) result ≡ net_defined (meant statement.now) }
 {
     match statement {
@@ -69,16 +68,16 @@ fn net_defined<'a>(statement: &Statement<'a>) -> Option<&'a str>
 
 /// What a line says, after lines that define these nets. The net that it defines goes last.
 #[tactic(auto, unfolding(crate::specs::Bench::stated))]
-fn stated<'a>(
+fn stated<'a, 'b>(
     alloc: Global,
-    tokens: &mut Vec<Token<'a>>,
+    buffers: &'b mut Buffers<'a>,
     names: &mut Names,
     line: &'a [u8],
-) -> Result<Statement<'a>, BenchCause>
+) -> Result<Statement<'a, 'b>, BenchCause>
     ensures gives { Gives cause.Memory meant result (stated (names_in names.old) line.now) }
     ensures names { IfOk result (λ s. names_in names.new ≡ names_in names.old ++ option_to_list (net_defined (meant s))) }
 {
-    let statement = meaning_of(alloc, tokens, line)?;
+    let statement = meaning_of(buffers, line)?;
     match net_defined(&statement) {
         None => Ok(statement),
         Some(name) => {
@@ -104,12 +103,12 @@ fn defined_names(alloc: Global, text: &[u8]) -> Result<Names, BenchFault>
     ensures memory { IfErr result MemoryHasNoLine }
 {
     let mut names = IndexSet::with_hasher(alloc, TextSeed::of(text));
-    let mut tokens = Vec::new(alloc);
+    let mut buffers = Buffers::new(alloc);
     let mut number = 1;
     let mut rest = Some(text);
     while let Some(text) = rest {
         let (line, after) = next_line(text);
-        match stated(alloc, &mut tokens, &mut names, line) {
+        match stated(alloc, &mut buffers, &mut names, line) {
             Ok(_) => number += 1,
             Err(cause) => return Err(fault_at(number, cause)),
         }
@@ -139,15 +138,14 @@ fn uses_other(names: &Names, statement: &Statement) -> bool
 
 /// What a line says, where each net that it uses is one of these.
 #[tactic(auto, unfolding(crate::specs::Passes::linked))]
-fn linked<'a>(
-    alloc: Global,
-    tokens: &mut Vec<Token<'a>>,
+fn linked<'a, 'b>(
+    buffers: &'b mut Buffers<'a>,
     names: &Names,
     line: &'a [u8],
-) -> Result<Statement<'a>, BenchCause>
+) -> Result<Statement<'a, 'b>, BenchCause>
     ensures { Gives cause.Memory meant result (linked (names_in names.now) line.now) }
 {
-    let statement = meaning_of(alloc, tokens, line)?;
+    let statement = meaning_of(buffers, line)?;
     if uses_other(names, &statement) {
         return Err(BenchCause::Undriven);
     }
@@ -259,12 +257,12 @@ fn bench_of(alloc: Global, names: Names, text: &[u8]) -> Result<Bench, BenchFaul
 {
     let mut definitions = Vec::new(alloc);
     let mut marked = Vec::new(alloc);
-    let mut tokens = Vec::new(alloc);
+    let mut buffers = Buffers::new(alloc);
     let mut number = 1;
     let mut rest = Some(text);
     while let Some(text) = rest {
         let (line, after) = next_line(text);
-        match linked(alloc, &mut tokens, &names, line) {
+        match linked(&mut buffers, &names, line) {
             Ok(statement) => {
                 push_definition(alloc, &names, &statement, &mut definitions)?;
                 push_output(&names, &statement, &mut marked)?;

@@ -1,4 +1,4 @@
-ghost use Rattle.std.specs.Prelude.{◌≡◌, ◌∷◌, option_map, IfOk};
+ghost use Rattle.std.specs.Prelude.{◌≡◌, ◌∷◌, [], option_map, IfOk};
 ghost use Rattle.std.specs.Str.{str_eq_ignore_ascii_case};
 ghost use Rattle.gate_netlist.specs.declared.fault.BenchCause.TheVariants as cause;
 ghost use Rattle.gate_netlist.specs.Gives.{Gives};
@@ -16,15 +16,15 @@ use gate_values::Kind;
 use std::alloc::{AllocError, Global};
 
 /// What a line says.
-#[derive(Drop)]
-pub(crate) enum Statement<'a> {
+#[derive(Clone, Copy)]
+pub(crate) enum Statement<'a, 'b> {
     Nothing,
     Input(&'a str),
     Output(&'a str),
     Gate {
         name: &'a str,
         kind: Kind,
-        inputs: Vec<&'a str>,
+        inputs: &'b [&'a str],
     },
     Flop {
         name: &'a str,
@@ -91,7 +91,7 @@ fn takes(kind: Kind, inputs: usize) -> bool
     }
 }
 
-fn marked<'a>(word: &str, name: &'a str) -> Result<Statement<'a>, BenchCause>
+fn marked<'a, 'b>(word: &str, name: &'a str) -> Result<Statement<'a, 'b>, BenchCause>
     ensures { Gives cause.Memory meant result (marked word.now name.now) }
 {
     if says(word, "INPUT") {
@@ -103,8 +103,12 @@ fn marked<'a>(word: &str, name: &'a str) -> Result<Statement<'a>, BenchCause>
     Err(BenchCause::BadLine)
 }
 
-fn driven<'a>(name: &'a str, word: &str, inputs: Vec<&'a str>) -> Result<Statement<'a>, BenchCause>
-    ensures { Gives cause.Memory meant result (driven name.now (gate_of word.now) (names_meant inputs.entry.items)) }
+fn driven<'a, 'b>(
+    name: &'a str,
+    word: &str,
+    inputs: &'b [&'a str],
+) -> Result<Statement<'a, 'b>, BenchCause>
+    ensures { Gives cause.Memory meant result (driven name.now (gate_of word.now) (names_meant inputs.now)) }
 {
     match gate_of(word) {
         None => Err(BenchCause::UnknownGate),
@@ -114,29 +118,36 @@ fn driven<'a>(name: &'a str, word: &str, inputs: Vec<&'a str>) -> Result<Stateme
             }
             Err(BenchCause::InputCount)
         }
-        Some(GateWord::Flop) => match inputs.as_slice() {
+        Some(GateWord::Flop) => match inputs {
             [d] => Ok(Statement::Flop { name, d: *d }),
             _ => Err(BenchCause::InputCount),
         },
     }
 }
 
-/// The names up to the closing mark, which nothing follows.
+/// Puts the names up to the closing mark, which nothing follows, in place of what the buffer holds.
 #[tactic(auto, using(crate::proofs::Splitting::arguments_reads))]
-fn arguments<'a>(alloc: Global, tokens: &[Token<'a>]) -> Result<Option<Vec<&'a str>>, AllocError>
-    ensures { IfOk result (λ names. option_map (λ ns. names_meant ns.items) names ≡ arguments (symbols_of tokens.now)) }
+fn arguments<'a, 'b>(
+    tokens: &[Token<'a>],
+    names: &'b mut Vec<&'a str>,
+) -> Result<Option<&'b [&'a str]>, AllocError>
+    ensures { IfOk result (λ found. option_map (λ ns. names_meant ns.now) found ≡ arguments (symbols_of tokens.now)) }
 {
+    names.clear();
     if closes(tokens) {
-        return Ok(Some(Vec::new(alloc)));
+        return Ok(Some(names.as_slice()));
     }
-    named(alloc, tokens)
+    named(tokens, names)
 }
 
-/// One or more names parted by commas, and the closing mark.
-fn named<'a>(alloc: Global, tokens: &[Token<'a>]) -> Result<Option<Vec<&'a str>>, AllocError>
-    ensures { IfOk result (λ names. option_map (λ ns. names_meant ns.items) names ≡ named (symbols_of tokens.now)) }
+/// Puts one or more names parted by commas, up to the closing mark, into an empty buffer.
+fn named<'a, 'b>(
+    tokens: &[Token<'a>],
+    names: &'b mut Vec<&'a str>,
+) -> Result<Option<&'b [&'a str]>, AllocError>
+    requires { names.now.items ≡ [] }
+    ensures { IfOk result (λ found. option_map (λ ns. names_meant ns.now) found ≡ named (symbols_of tokens.now)) }
 {
-    let mut names = Vec::new(alloc);
     let mut at = 0;
     while at < tokens.len() {
         let Some((name, after)) = word_first(&tokens[at..]) else {
@@ -144,7 +155,7 @@ fn named<'a>(alloc: Global, tokens: &[Token<'a>]) -> Result<Option<Vec<&'a str>>
         };
         names.push(name)?;
         if closes(after) {
-            return Ok(Some(names));
+            return Ok(Some(names.as_slice()));
         }
         if !has_comma(after) {
             return Ok(None);
@@ -157,7 +168,7 @@ fn named<'a>(alloc: Global, tokens: &[Token<'a>]) -> Result<Option<Vec<&'a str>>
 
 /// `word ( name )`, from behind the opening mark.
 #[tactic(auto, using(crate::proofs::Splitting::marking_reads))]
-fn marking<'a>(word: &str, tokens: &[Token<'a>]) -> Result<Statement<'a>, BenchCause>
+fn marking<'a, 'b>(word: &str, tokens: &[Token<'a>]) -> Result<Statement<'a, 'b>, BenchCause>
     ensures { Gives cause.Memory meant result (statement_of (Word word.now ∷ Open ∷ symbols_of tokens.now)) }
 {
     match word_first(tokens) {
@@ -168,11 +179,11 @@ fn marking<'a>(word: &str, tokens: &[Token<'a>]) -> Result<Statement<'a>, BenchC
 
 /// `name = word ( names )`, from behind the `=`.
 #[tactic(auto, using(crate::proofs::Splitting::defining_reads))]
-fn defining<'a>(
-    alloc: Global,
+fn defining<'a, 'b>(
+    inputs: &'b mut Vec<&'a str>,
     name: &'a str,
     tokens: &[Token<'a>],
-) -> Result<Statement<'a>, BenchCause>
+) -> Result<Statement<'a, 'b>, BenchCause>
     ensures { Gives cause.Memory meant result (statement_of (Word name.now ∷ Equals ∷ symbols_of tokens.now)) }
 {
     let Some((word, rest)) = word_first(tokens) else {
@@ -181,7 +192,7 @@ fn defining<'a>(
     let Some(rest) = after_open(rest) else {
         return Err(BenchCause::BadLine);
     };
-    match arguments(alloc, rest)? {
+    match arguments(rest, inputs)? {
         None => Err(BenchCause::BadLine),
         Some(inputs) => driven(name, word, inputs),
     }
@@ -189,7 +200,10 @@ fn defining<'a>(
 
 /// What marks and words say.
 #[tactic(auto, using(crate::proofs::Splitting::statement_reads))]
-fn statement_of<'a>(alloc: Global, tokens: &[Token<'a>]) -> Result<Statement<'a>, BenchCause>
+fn statement_of<'a, 'b>(
+    inputs: &'b mut Vec<&'a str>,
+    tokens: &[Token<'a>],
+) -> Result<Statement<'a, 'b>, BenchCause>
     ensures { Gives cause.Memory meant result (statement_of (symbols_of tokens.now)) }
 {
     if tokens.is_empty() {
@@ -202,27 +216,42 @@ fn statement_of<'a>(alloc: Global, tokens: &[Token<'a>]) -> Result<Statement<'a>
         return marking(word, rest);
     }
     if let Some(rest) = after_equals(rest) {
-        return defining(alloc, word, rest);
+        return defining(inputs, word, rest);
     }
     Err(BenchCause::BadLine)
 }
 
-/// What a line says. The buffer is for its tokens.
+/// Lists that the lines of a text are read with, one after the other.
+#[derive(Drop)]
+pub(crate) struct Buffers<'a> {
+    tokens: Vec<Token<'a>>,
+    inputs: Vec<&'a str>,
+}
+
+impl<'a> Buffers<'a> {
+    pub(crate) fn new(alloc: Global) -> Buffers<'a> {
+        Buffers {
+            tokens: Vec::new(alloc),
+            inputs: Vec::new(alloc),
+        }
+    }
+}
+
+/// What a line says.
 #[tactic(auto, unfolding(crate::specs::Statements::meaning_of))]
-pub(crate) fn meaning_of<'a>(
-    alloc: Global,
-    tokens: &mut Vec<Token<'a>>,
+pub(crate) fn meaning_of<'a, 'b>(
+    buffers: &'b mut Buffers<'a>,
     line: &'a [u8],
-) -> Result<Statement<'a>, BenchCause>
+) -> Result<Statement<'a, 'b>, BenchCause>
     ensures { Gives cause.Memory meant result (meaning_of line.now) }
 {
     let code = code_of(line);
     if !is_allowed(code) {
         return Err(BenchCause::BadName);
     }
-    tokenize(code, tokens)?;
-    if has_end(tokens) {
+    tokenize(code, &mut buffers.tokens)?;
+    if has_end(&buffers.tokens) {
         return Err(BenchCause::BadName);
     }
-    statement_of(alloc, tokens)
+    statement_of(&mut buffers.inputs, &buffers.tokens)
 }

@@ -7,4 +7,4 @@ use Rattle.gate_netlist.proofs.reading.definition_of.Goals as goal
 
 pub returns-in_ok-numbers_of-in-Gate : goal.returns-in_ok-numbers_of-in-Gate
 returns-in_ok-numbers_of-in-Gate c =
-    rw (c.in-Gate.is, c.new-inputs.ensures, c.in_ok-numbers_of-in-Gate.ensures, c.deref.ensures.value) (ap (λ ns. Some (Gate c.in-Gate.kind ns)) (sym (map-map (number_among (names_in c.args.names.now)) (λ n. n.now) c.in-Gate.inputs.items)))
+    rw (c.in-Gate.is, c.new-inputs.ensures, c.in_ok-numbers_of-in-Gate.ensures) (ap (λ ns. Some (Gate c.in-Gate.kind ns)) (sym (map-map (number_among (names_in c.args.names.now)) (λ n. n.now) c.in-Gate.inputs.now)))

@@ -6,4 +6,4 @@ use Rattle.gate_netlist.proofs.reading.uses_other.Goals as goal
 
 pub returns-in-Gate : goal.returns-in-Gate
 returns-in-Gate c =
-    rw (c.in-Gate.is, c.are_defined.ensures, c.deref.ensures.value) (ap not (sym (list_all-map (is_among (names_in c.args.names.now)) (λ n. n.now) c.in-Gate.inputs.items)))
+    rw (c.in-Gate.is, c.are_defined.ensures) (ap not (sym (list_all-map (is_among (names_in c.args.names.now)) (λ n. n.now) c.in-Gate.inputs.now)))

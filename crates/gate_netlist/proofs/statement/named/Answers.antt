@@ -11,7 +11,7 @@ returns-in_default c =
 
 pub returns-then-closes : goal.returns-then-closes
 returns-then-closes c =
-    rw (c.in_ok-push.ensures.items, map_push _ c.loop-at.names.items c.in-Some.name) (ends_closed (names_meant c.loop-at.names.items) (symbols_of (drop c.loop-at.at c.args.tokens.now)) _ c.in-Some.name.now _ (rw take_rest at c.in-Some.ensures) c.if-closes.ensures c.loop-at.invariant)
+    rw (c.as_slice.ensures.value, c.in_ok-push.ensures.items, map_push _ c.loop-at.names.items c.in-Some.name) (ends_closed (names_meant c.loop-at.names.items) (symbols_of (drop c.loop-at.at c.args.tokens.now)) _ c.in-Some.name.now _ (rw take_rest at c.in-Some.ensures) c.if-closes.ensures c.loop-at.invariant)
 
 pub returns-then-not-has_comma : goal.returns-then-not-has_comma
 returns-then-not-has_comma c =
