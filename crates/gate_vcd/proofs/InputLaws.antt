@@ -3,6 +3,7 @@ use Rattle.std.proofs.Common.{◌≡◌, ℕ, zero, suc, ◌+◌, ◌-◌, ◌<�
 use Rattle.std.proofs.Math.Seq.{drop-append_seam, take-append_seam}
 use Rattle.std.proofs.lemmas.Bool.Decides.{nat_tests}
 use Rattle.std.proofs.lemmas.Option.{same_Some}
+use Rattle.std.specs.Cow.{cow_slice_items}
 use Rattle.std.specs.List.{list_any, find}
 use Rattle.std.specs.Str.{bytes_eq}
 use Rattle.std.proofs.lemmas.List.{map-append, take_more}
@@ -138,14 +139,14 @@ or_false true = refl
 or_false false = refl
 
 -- a variable without an index is noted by its whole text
-pub noted-plain : (v : Held) (name : List ℕ) (old new : Option (List ℕ)) → v.counted ≡ true → is_single (variable v) ≡ true → without_index v.reference.items ≡ None
-    → new ≡ or_else old (cond (bytes_eq name v.reference.items) (Some v.code.now) None) → new ≡ or_else old (code_if (is_scalar_of name (variable v)) v.code.now)
-noted-plain v name old new c s e h = rw (c, s, no_index name v.reference.items e) (h ∙ ap (λ b. or_else old (code_if b v.code.now)) (or_false (bytes_eq name v.reference.items)))
+pub noted-plain : (v : Held) (name : List ℕ) (old new : Option (List ℕ)) → v.counted ≡ true → is_single (variable v) ≡ true → without_index (cow_slice_items v.reference) ≡ None
+    → new ≡ or_else old (cond (bytes_eq name (cow_slice_items v.reference)) (Some v.code.now) None) → new ≡ or_else old (code_if (is_scalar_of name (variable v)) v.code.now)
+noted-plain v name old new c s e h = rw (c, s, no_index name (cow_slice_items v.reference) e) (h ∙ ap (λ b. or_else old (code_if b v.code.now)) (or_false (bytes_eq name (cow_slice_items v.reference))))
 
 -- one with an index also by the text before it
-pub noted-short : (v : Held) (name short : List ℕ) (old mid new : Option (List ℕ)) → v.counted ≡ true → is_single (variable v) ≡ true → without_index v.reference.items ≡ Some short
-    → mid ≡ or_else old (cond (bytes_eq name v.reference.items) (Some v.code.now) None) → new ≡ or_else mid (cond (bytes_eq name short) (Some v.code.now) None) → new ≡ or_else old (code_if (is_scalar_of name (variable v)) v.code.now)
-noted-short v name short old mid new c s e em h = rw (c, s, with_index name v.reference.items short e) (h ∙ rw em (both_noted old (bytes_eq name v.reference.items) (bytes_eq name short) v.code.now))
+pub noted-short : (v : Held) (name short : List ℕ) (old mid new : Option (List ℕ)) → v.counted ≡ true → is_single (variable v) ≡ true → without_index (cow_slice_items v.reference) ≡ Some short
+    → mid ≡ or_else old (cond (bytes_eq name (cow_slice_items v.reference)) (Some v.code.now) None) → new ≡ or_else mid (cond (bytes_eq name short) (Some v.code.now) None) → new ≡ or_else old (code_if (is_scalar_of name (variable v)) v.code.now)
+noted-short v name short old mid new c s e em h = rw (c, s, with_index name (cow_slice_items v.reference) short e) (h ∙ rw em (both_noted old (bytes_eq name (cow_slice_items v.reference)) (bytes_eq name short) v.code.now))
 
 -- the nets from the first on
 module _ (d : Design) (vs : List Variable) where

@@ -5,6 +5,7 @@ use Rattle.gate_vcd.specs.declared.fault.StimCause.TheVariants as causes
 use Rattle.gate_vcd.specs.declared.variable.Variable.{Variable as Held}
 use Rattle.gate_vcd.specs.Tokens.{Token, is_end}
 use Rattle.std.specs.Borrow.{Bor}
+use Rattle.std.specs.Cow.{cow_slice_items}
 use Rattle.std.specs.declared.alloc.Global.{Global}
 use Rattle.gate_vcd.specs.declared.keyword.Keyword.{Keyword}
 use Rattle.gate_vcd.specs.declared.keyword.Keyword.TheVariants as words
@@ -43,7 +44,7 @@ IsBody keyword first old new (Err e) = Fails e (rest_of_command first old)
 
 -- a variable, without where it lies in memory
 abbrev pub variable : Held → Variable
-variable v = record { reference = v.reference.items; code = v.code.now; size = number v.size.now; valued = v.valued; counted = v.counted }
+variable v = record { reference = cow_slice_items v.reference; code = v.code.now; size = number v.size.now; valued = v.valued; counted = v.counted }
 
 abbrev pub variables : List Held → List Variable
 variables vs = map variable vs

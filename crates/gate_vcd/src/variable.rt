@@ -1,4 +1,5 @@
 ghost use Rattle.std.specs.Prelude.{◌≡◌, IfErr, IfOk};
+ghost use Rattle.std.specs.Cow.{cow_slice_items};
 ghost use Rattle.std.specs.List.{concat};
 ghost use Rattle.gate_vcd.specs.declared.fault.StimCause.TheVariants as causes;
 ghost use Rattle.gate_vcd.specs.Commands.{variable};
@@ -12,12 +13,13 @@ use crate::keyword::{begins, is_word};
 use crate::numbers::is_numeral;
 use crate::words::Word;
 use std::alloc::Global;
+use std::borrow::CowSlice;
 
 /// A variable of a stimulus, as far as inputs ask for it.
 #[derive(Drop)]
 pub struct Variable<'a> {
-    /// Its reference text, without a backslash at its beginning.
-    pub reference: Vec<u8>,
+    /// Its reference text, without a backslash at its beginning: a part of the text where it is one word.
+    pub reference: CowSlice<'a, u8>,
     pub code: &'a [u8],
     /// How many bits it has, in decimal digits.
     pub size: &'a [u8],
@@ -52,13 +54,35 @@ fn is_unvalued(kind: &[u8]) -> bool
 }
 
 /// The text without a backslash at its beginning.
-fn unescaped(mut text: Vec<u8>) -> Vec<u8>
+fn unescaped(text: &[u8]) -> &[u8]
+    ensures { result.now ≡ unescaped text.now }
+{
+    if begins(b"\\", text) {
+        &text[1..]
+    } else {
+        text
+    }
+}
+
+/// The same of a text that is owned.
+fn unescaped_vec(mut text: Vec<u8>) -> Vec<u8>
     ensures { result.items ≡ unescaped text.items }
 {
     if begins(b"\\", text.as_slice()) {
         text.remove(0);
     }
     text
+}
+
+/// The reference text of these words, which needs memory only where they are several.
+fn reference_of<'a>(alloc: Global, parts: &[&'a [u8]]) -> Result<CowSlice<'a, u8>, StimFault>
+    ensures ok { IfOk result (λ reference. cow_slice_items reference ≡ unescaped (concat (texts parts.now))) }
+    ensures err { IfErr result (λ e. e ≡ out_of_memory) }
+{
+    match parts {
+        [part] => Ok(CowSlice::Borrowed(unescaped(part))),
+        _ => Ok(CowSlice::Owned(unescaped_vec(joined(alloc, parts)?))),
+    }
 }
 
 /// The variable that a `$var` declares.
@@ -75,9 +99,8 @@ pub fn variable_of<'a>(
             if parts.is_empty() || !is_numeral(size) || !is_code(code) {
                 return Err(first.fault(StimCause::BadVar));
             }
-            let reference = unescaped(joined(alloc, parts)?);
             Ok(Variable {
-                reference,
+                reference: reference_of(alloc, parts)?,
                 code,
                 size,
                 valued: !is_unvalued(kind),
