@@ -5,7 +5,8 @@ use Rattle.std.proofs.lemmas.Grind.{common_steps}
 use Rattle.gate_vcd.specs.declared.fault.StimFault.{StimFault}
 use Rattle.gate_vcd.specs.declared.fault.StimCause.TheVariants as causes
 use Rattle.gate_vcd.specs.Tokens.{Token, is_end, fault_at}
-use Rattle.gate_vcd.specs.Reading.{◌>>=◌, or_fault, Fails}
+use Rattle.gate_netlist.specs.Bench.{◌>>=◌}
+use Rattle.gate_vcd.specs.Reading.{or_fault, Fails}
 use Rattle.gate_vcd.specs.Declarations.{Header, declared, declaring, keyword_of, opens_command, ends_declarations}
 use Rattle.gate_vcd.specs.declared.keyword.Keyword.{Keyword}
 use Rattle.gate_vcd.specs.declared.keyword.Keyword.TheVariants as words

@@ -1,5 +1,5 @@
 -- What is kept of the changes, a change at a time.
-use Rattle.std.proofs.Common.{◌≡◌, ℕ, ◌+◌, ◌<◌, ◌≤◌, Bool, true, false, cond, List, [], ◌∷◌, ◌++◌, length, map, set, get_or, slice_get, replicate, Some, None, Vec, Global, Bor, refl, ap, sym, ◌∙◌, arith, add-one}
+use Rattle.std.proofs.Common.{◌≡◌, ℕ, ◌+◌, ◌<◌, Bool, true, false, cond, List, [], ◌∷◌, ◌++◌, length, set, get_or, slice_get, replicate, Some, None, Vec, Global, Bor, refl, ap, sym, ◌∙◌, arith, add-one}
 use Rattle.std.specs.Str.{bytes_eq}
 use Rattle.std.proofs.lemmas.List.{get_or-map, length-map, map-append, map-set}
 use Rattle.gate_values.specs.declared.logic.Logic.TheVariants.{X}
@@ -7,7 +7,7 @@ use Rattle.gate_values.specs.declared.logic.Change.{Change}
 use Rattle.gate_values.specs.Changes.{changes, latest}
 use Rattle.gate_values.proofs.ChangeLists.{changes-agree}
 use Rattle.gate_vcd.specs.Changes.{Event, Source, changes_with, value_at_place, value_with, last_stamp}
-use Rattle.gate_vcd.specs.Items.{AreGiven, AreHeld, AreKept, AreSettled, Taken, given_after, last_of, reaches, settled}
+use Rattle.gate_vcd.specs.Items.{AreHeld, AreKept, AreSettled, Taken, given_after, last_of, reaches, settled}
 use Rattle.gate_vcd.specs.Lists.{lists_in}
 use Rattle.gate_vcd.specs.Words.{texts}
 use Rattle.gate_vcd.proofs.Keeping.{append-nil, events-none, kept-none, more_changes, one_more, past-more, same_bytes, up_to_with}

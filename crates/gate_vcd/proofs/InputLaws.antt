@@ -11,7 +11,8 @@ use Rattle.std.proofs.lemmas.Slice.Eq.{bytes_eq-Decides}
 use Rattle.gate_vcd.specs.declared.variable.Variable.{Variable as Held}
 use Rattle.gate_vcd.specs.Declarations.{Variable}
 use Rattle.gate_vcd.specs.Commands.{variable, variables}
-use Rattle.gate_vcd.specs.Inputs.{is_single, is_scalar_of, or_else, scalar_code, is_named_for, source_of_net, sources_below}
+use Rattle.std.specs.Option.{option_or}
+use Rattle.gate_vcd.specs.Inputs.{is_single, is_scalar_of, scalar_code, is_named_for, source_of_net, sources_below}
 use Rattle.gate_netlist.specs.Circuit.{Design}
 use Rattle.gate_vcd.specs.declared.fault.StimFault.{StimFault}
 use Rattle.gate_vcd.specs.declared.source.Source.{Source as HeldSource}
@@ -58,33 +59,33 @@ no_sources false old e = e
 
 -- a code is kept for a name that had none
 pub noted : (name other : List ℕ) (code : Bor (List ℕ)) (old : List ℕ → Option (Bor (List ℕ))) (new : Option (Bor (List ℕ))) → is_some (old name) ≡ false → new ≡ cond (bytes_eq name other) (Some code) (old other)
-    → option_map (λ (c : Bor (List ℕ)). c.now) new ≡ or_else (option_map (λ (c : Bor (List ℕ)). c.now) (old other)) (cond (bytes_eq other name) (Some code.now) None)
+    → option_map (λ (c : Bor (List ℕ)). c.now) new ≡ option_or (option_map (λ (c : Bor (List ℕ)). c.now) (old other)) (cond (bytes_eq other name) (Some code.now) None)
 noted name other code old new absent en = rw (en, turned other name) (go (bytes_eq name other) refl)
   where
     no_code : (o : Option (Bor (List ℕ))) → is_some o ≡ false → o ≡ None
     no_code None e = refl
     no_code (Some x) e = cc
 
-    go : (b : Bool) → bytes_eq name other ≡ b → option_map (λ (c : Bor (List ℕ)). c.now) (cond b (Some code) (old other)) ≡ or_else (option_map (λ (c : Bor (List ℕ)). c.now) (old other)) (cond b (Some code.now) None)
-    go false e = elim (old other) as (λ o. option_map (λ (c : Bor (List ℕ)). c.now) o ≡ or_else (option_map (λ (c : Bor (List ℕ)). c.now) o) None) [ None ↦ refl | Some x ↦ refl ]
+    go : (b : Bool) → bytes_eq name other ≡ b → option_map (λ (c : Bor (List ℕ)). c.now) (cond b (Some code) (old other)) ≡ option_or (option_map (λ (c : Bor (List ℕ)). c.now) (old other)) (cond b (Some code.now) None)
+    go false e = elim (old other) as (λ o. option_map (λ (c : Bor (List ℕ)). c.now) o ≡ option_or (option_map (λ (c : Bor (List ℕ)). c.now) o) None) [ None ↦ refl | Some x ↦ refl ]
     go true e = rw (← same_bytes name other e, no_code (old name) absent) refl
 
-find-more : {X : Type 0} (p : X → Bool) (xs : List X) (x : X) → find p (xs ++ x ∷ []) ≡ or_else (find p xs) (cond (p x) (Some x) None)
+find-more : {X : Type 0} (p : X → Bool) (xs : List X) (x : X) → find p (xs ++ x ∷ []) ≡ option_or (find p xs) (cond (p x) (Some x) None)
 find-more p [] x = refl
-find-more p (y ∷ xs) x = elim (p y) as (λ b. cond b (Some y) (find p (xs ++ x ∷ [])) ≡ or_else (cond b (Some y) (find p xs)) (cond (p x) (Some x) None))
+find-more p (y ∷ xs) x = elim (p y) as (λ b. cond b (Some y) (find p (xs ++ x ∷ [])) ≡ option_or (cond b (Some y) (find p xs)) (cond (p x) (Some x) None))
     [ true ↦ refl | false ↦ find-more p xs x ]
 
-code_or_else : (o : Option Variable) (b : Bool) (v : Variable) → option_map (λ (x : Variable). x.code) (or_else o (cond b (Some v) None)) ≡ or_else (option_map (λ (x : Variable). x.code) o) (cond b (Some v.code) None)
-code_or_else None true v = refl
-code_or_else None false v = refl
-code_or_else (Some y) b v = refl
+code_option_or : (o : Option Variable) (b : Bool) (v : Variable) → option_map (λ (x : Variable). x.code) (option_or o (cond b (Some v) None)) ≡ option_or (option_map (λ (x : Variable). x.code) o) (cond b (Some v.code) None)
+code_option_or None true v = refl
+code_option_or None false v = refl
+code_option_or (Some y) b v = refl
 
 -- the first scalar, with one variable more
-code-more : (vs : List Variable) (v : Variable) (name : List ℕ) → scalar_code (vs ++ v ∷ []) name ≡ or_else (scalar_code vs name) (cond (is_scalar_of name v) (Some v.code) None)
-code-more vs v name = rw (find-more (is_scalar_of name) vs v) (code_or_else (find (is_scalar_of name) vs) (is_scalar_of name v) v)
+code-more : (vs : List Variable) (v : Variable) (name : List ℕ) → scalar_code (vs ++ v ∷ []) name ≡ option_or (scalar_code vs name) (cond (is_scalar_of name v) (Some v.code) None)
+code-more vs v name = rw (find-more (is_scalar_of name) vs v) (code_option_or (find (is_scalar_of name) vs) (is_scalar_of name v) v)
 
 pub more_scalars : (name : List ℕ) (all : List Held) (i : ℕ) (item : Held) (old new : Option (List ℕ)) → i < length all → item ≡ get_or all i item → old ≡ scalar_code (variables (take i all)) name
-    → new ≡ or_else old (cond (is_scalar_of name (variable item)) (Some item.code.now) None) → new ≡ scalar_code (variables (take (i + 1) all)) name
+    → new ≡ option_or old (cond (is_scalar_of name (variable item)) (Some item.code.now) None) → new ≡ scalar_code (variables (take (i + 1) all)) name
 more_scalars name all i item old new h e eo en = rw (more_variables all i item h e, code-more (variables (take i all)) (variable item) name, ← eo) en
 
 any-map : {X Y : Type 0} (p : Y → Bool) (f : X → Y) (xs : List X) → list_any p (map f xs) ≡ list_any (λ x. p (f x)) xs
@@ -129,7 +130,7 @@ with_index name text short e =
     (λ h. (bytes_eq-Decides name short).1 (same_Some name short (sym (indexed name) ∙ ap without_index (same_bytes (name ++ index_text) text h) ∙ e)))
     (λ h. (bytes_eq-Decides (name ++ index_text) text).1 (ap (λ n. n ++ index_text) (same_bytes name short h) ∙ sym (whole text short e)))
 
-both_noted : (old : Option (List ℕ)) (a b : Bool) (code : List ℕ) → or_else (or_else old (code_if a code)) (code_if b code) ≡ or_else old (code_if (a || b) code)
+both_noted : (old : Option (List ℕ)) (a b : Bool) (code : List ℕ) → option_or (option_or old (code_if a code)) (code_if b code) ≡ option_or old (code_if (a || b) code)
 both_noted None true b code = refl
 both_noted None false b code = refl
 both_noted (Some x) a b code = refl
@@ -140,12 +141,12 @@ or_false false = refl
 
 -- a variable without an index is noted by its whole text
 pub noted-plain : (v : Held) (name : List ℕ) (old new : Option (List ℕ)) → v.counted ≡ true → is_single (variable v) ≡ true → without_index (cow_slice_items v.reference) ≡ None
-    → new ≡ or_else old (cond (bytes_eq name (cow_slice_items v.reference)) (Some v.code.now) None) → new ≡ or_else old (code_if (is_scalar_of name (variable v)) v.code.now)
-noted-plain v name old new c s e h = rw (c, s, no_index name (cow_slice_items v.reference) e) (h ∙ ap (λ b. or_else old (code_if b v.code.now)) (or_false (bytes_eq name (cow_slice_items v.reference))))
+    → new ≡ option_or old (cond (bytes_eq name (cow_slice_items v.reference)) (Some v.code.now) None) → new ≡ option_or old (code_if (is_scalar_of name (variable v)) v.code.now)
+noted-plain v name old new c s e h = rw (c, s, no_index name (cow_slice_items v.reference) e) (h ∙ ap (λ b. option_or old (code_if b v.code.now)) (or_false (bytes_eq name (cow_slice_items v.reference))))
 
 -- one with an index also by the text before it
 pub noted-short : (v : Held) (name short : List ℕ) (old mid new : Option (List ℕ)) → v.counted ≡ true → is_single (variable v) ≡ true → without_index (cow_slice_items v.reference) ≡ Some short
-    → mid ≡ or_else old (cond (bytes_eq name (cow_slice_items v.reference)) (Some v.code.now) None) → new ≡ or_else mid (cond (bytes_eq name short) (Some v.code.now) None) → new ≡ or_else old (code_if (is_scalar_of name (variable v)) v.code.now)
+    → mid ≡ option_or old (cond (bytes_eq name (cow_slice_items v.reference)) (Some v.code.now) None) → new ≡ option_or mid (cond (bytes_eq name short) (Some v.code.now) None) → new ≡ option_or old (code_if (is_scalar_of name (variable v)) v.code.now)
 noted-short v name short old mid new c s e em h = rw (c, s, with_index name (cow_slice_items v.reference) short e) (h ∙ rw em (both_noted old (bytes_eq name (cow_slice_items v.reference)) (bytes_eq name short) v.code.now))
 
 -- the nets from the first on

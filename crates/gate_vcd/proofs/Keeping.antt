@@ -1,5 +1,5 @@
 -- The lists of changes, a change at a time.
-use Rattle.std.proofs.Common.{◌≡◌, ℕ, zero, suc, ◌+◌, ◌<◌, ◌≤◌, Bool, true, false, not, cond, nat_lt, List, [], ◌∷◌, ◌++◌, length, map, filter, get_or, slice_get, replicate, Some, None, Vec, Global, refl, ap, sym, ◌∙◌, arith, add-one}
+use Rattle.std.proofs.Common.{◌≡◌, ℕ, zero, suc, ◌+◌, ◌<◌, ◌≤◌, Bool, true, false, not, cond, nat_lt, List, [], ◌∷◌, ◌++◌, length, map, filter, get_or, replicate, Some, None, Vec, Global, refl, ap, sym, ◌∙◌, arith, add-one}
 use Rattle.std.specs.List.{AllByRecursion, position, prefix_len}
 use Rattle.std.specs.Str.{bytes_eq}
 use Rattle.std.proofs.lemmas.Bool.Decides.{nat_tests}
@@ -12,11 +12,11 @@ use Rattle.gate_values.specs.declared.logic.Logic.{Logic}
 use Rattle.gate_values.specs.declared.logic.Logic.TheVariants.{X}
 use Rattle.gate_values.specs.declared.logic.Change.{Change}
 use Rattle.gate_values.specs.Changes.{changes, latest}
-use Rattle.gate_vcd.specs.Changes.{Event, Source, changes_with, change_of, value_at_place, value_with, last_stamp}
+use Rattle.gate_vcd.specs.Changes.{Event, Source, changes_with, change_of, value_with, last_stamp}
 use Rattle.gate_vcd.specs.Items.{AreKept}
 use Rattle.gate_vcd.specs.Lists.{lists_in}
 use Rattle.gate_vcd.proofs.Links.{slice_get-within}
-use Rattle.gate_vcd.proofs.Settling.{AreUpTo, settled-changes}
+use Rattle.gate_vcd.proofs.Settling.{AreUpTo}
 
 pub events-none : (es : List Event) → es ++ [] ≡ es
 events-none es = grind (arith, common_steps)

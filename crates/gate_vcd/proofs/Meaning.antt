@@ -18,7 +18,8 @@ use Rattle.gate_vcd.specs.declared.fault.StimFault.{StimFault}
 use Rattle.gate_vcd.specs.declared.fault.StimCause.{StimCause}
 use Rattle.std.proofs.lemmas.Slice.Eq.{bytes_eq-Decides}
 use Rattle.gate_vcd.specs.Tokens.{Token, tokens_of}
-use Rattle.gate_vcd.specs.Reading.{◌>>=◌, Fails}
+use Rattle.gate_netlist.specs.Bench.{◌>>=◌}
+use Rattle.gate_vcd.specs.Reading.{Fails}
 use Rattle.gate_vcd.specs.Declarations.{Header, Variable, no_header, declaring}
 use Rattle.gate_vcd.specs.Changes.{Item, stamp, change, wrong, Event, Source, items, nothing, events_from, stamped, changes_with, value_with, last_stamp}
 use Rattle.gate_vcd.specs.declared.source.Source.{Source as HeldSource}
@@ -26,7 +27,8 @@ use Rattle.gate_vcd.specs.Items.{AreKept}
 use Rattle.gate_vcd.specs.Known.{Sources, is_of, is_taken, is_used, knows, number_of, same_source, source, sources_by, takes}
 use Rattle.gate_vcd.specs.Vectors.{Bit, bit_of, place_in, vector_of}
 use Rattle.gate_vcd.specs.declared.known.KnownCodes.{KnownCodes}
-use Rattle.gate_vcd.specs.Inputs.{bit_source, first_given, is_scalar_of, or_else, scalar_code, source_in, source_of, source_of_net, source_or_fault, sources_below}
+use Rattle.std.specs.Option.{option_or}
+use Rattle.gate_vcd.specs.Inputs.{bit_source, first_given, is_scalar_of, scalar_code, source_in, source_of, source_of_net, source_or_fault, sources_below}
 use Rattle.gate_vcd.specs.Lists.{lists_in, IsRising}
 use Rattle.gate_vcd.specs.Given.{Given, AreItsChanges, Fits, changes_of, value_at}
 use Rattle.gate_vcd.specs.Held.{given_by, AreLaidOut}
@@ -188,7 +190,7 @@ given-known : (bit : Bit) (vs : List Variable) (s : Source) → first_given (sou
 given-known bit [] s e = cc
 given-known bit (v ∷ vs) s e = go (option_and_then (place_in bit) (vector_of v)) e (given-known bit vs s)
   where
-    go : (o : Option ℕ) → or_else (option_map (λ p. record { code = v.code; place = p }) o) (first_given (source_in bit) vs) ≡ Some s → (first_given (source_in bit) vs ≡ Some s → has_code vs s.code ≡ true)
+    go : (o : Option ℕ) → option_or (option_map (λ p. record { code = v.code; place = p }) o) (first_given (source_in bit) vs) ≡ Some s → (first_given (source_in bit) vs ≡ Some s → has_code vs s.code ≡ true)
         → (bytes_eq s.code v.code || has_code vs s.code) ≡ true
     go (Some p) h ih = let own : v.code ≡ s.code = ap (λ (x : Source). x.code) (same_Some _ s h) in rw (← own, (bytes_eq-Decides v.code v.code).1 refl) refl
     go None h ih = rw (ih h) (elim (bytes_eq s.code v.code) as (λ b. (b || true) ≡ true) [ true ↦ refl | false ↦ refl ])
@@ -201,7 +203,7 @@ sourced-known vs name s e = go (scalar_code vs name) refl e
     by None h = cc
     by (Some bit) h = given-known bit vs s h
 
-    go : (o : Option (List ℕ)) → scalar_code vs name ≡ o → or_else (option_map (λ code. record { code = code; place = 0 }) o) (bit_source vs name) ≡ Some s → has_code vs s.code ≡ true
+    go : (o : Option (List ℕ)) → scalar_code vs name ≡ o → option_or (option_map (λ code. record { code = code; place = 0 }) o) (bit_source vs name) ≡ Some s → has_code vs s.code ≡ true
     go (Some code) x h = let own : code ≡ s.code = ap (λ (y : Source). y.code) (same_Some _ s h) in rw (← own) (found-known vs name code x)
     go None x h = by (bit_of name) h
 

@@ -1,5 +1,5 @@
 -- Which places digits reach, and the digits that a code has.
-use Rattle.std.proofs.Common.{◌≡◌, ◌≢◌, ℕ, zero, suc, ◌+◌, ◌-◌, ◌<◌, ◌≤◌, inl, inr, Bool, true, false, not, cond, ◌&&◌, ◌||◌, nat_le, nat_lt, List, [], ◌∷◌, ◌++◌, length, map, set, filter, get_or, slice_get, replicate, Option, Some, None, refl, ap, sym, ◌∙◌, arith, get_or-set_same, get_or-set_other, length-set}
+use Rattle.std.proofs.Common.{◌≡◌, ℕ, zero, suc, ◌<◌, ◌≤◌, inl, inr, Bool, true, false, not, cond, ◌||◌, nat_le, nat_lt, List, [], ◌∷◌, ◌++◌, length, map, set, filter, get_or, slice_get, replicate, Some, refl, ap, sym, ◌∙◌, arith, get_or-set_same, get_or-set_other, length-set}
 use Rattle.std.proofs.lemmas.List.{length-replicate}
 use Rattle.std.proofs.lemmas.Bool.Decides.{nat_tests}
 use Rattle.std.proofs.lemmas.Option.{same_Some}
@@ -12,7 +12,7 @@ use Rattle.gate_values.specs.Changes.{last_value, latest, same}
 use Rattle.gate_values.proofs.ChangeLists.{same_is}
 use Rattle.gate_vcd.specs.Changes.{Event, Source, changes_with, change_of, past_end, value_at_place}
 use Rattle.gate_vcd.specs.Items.{AreGiven, given_after, last_of, reaches}
-use Rattle.gate_vcd.specs.Known.{is_of, last_below}
+use Rattle.gate_vcd.specs.Known.{is_of}
 use Rattle.gate_vcd.proofs.Compared.{cases_eq, le_true, lt_false}
 use Rattle.gate_vcd.proofs.Keeping.{same_bytes}
 use Rattle.gate_vcd.proofs.Settling.{AreUpTo, latest-append}

@@ -1,11 +1,11 @@
 -- Different codes spell different numbers, so that a table holds what was put in it.
-use Rattle.std.proofs.Common.{◌≡◌, ◌≢◌, ℕ, ◌+◌, ◌-◌, ◌*◌, ◌<◌, ◌≤◌, Bool, true, false, cond, ◌&&◌, nat_le, nat_lt, List, [], ◌∷◌, length, get_or, set, Option, Some, None, refl, ap, sym, ◌∙◌, inl, inr, arith, get_or-set_same, get_or-set_other, length-set}
+use Rattle.std.proofs.Common.{◌≡◌, ℕ, ◌+◌, ◌-◌, ◌*◌, ◌<◌, ◌≤◌, Bool, true, false, cond, ◌&&◌, nat_le, nat_lt, List, [], ◌∷◌, length, set, Option, Some, None, refl, sym, ◌∙◌, inl, inr, arith, get_or-set_same, get_or-set_other, length-set}
 use Rattle.std.proofs.lemmas.Bool.Decides.{nat_tests}
 use Rattle.std.proofs.lemmas.Option.{same_Some}
 use Rattle.std.proofs.lemmas.Slice.Eq.{bytes_eq-Decides}
 use Rattle.std.specs.Str.{bytes_eq}
 use Rattle.gate_vcd.specs.Declarations.{is_code}
-use Rattle.gate_vcd.specs.Table.{found_at, is_short, spelled}
+use Rattle.gate_vcd.specs.Table.{found_at, is_short, short_place, spelled}
 use Rattle.gate_vcd.proofs.Compared.{cases_eq}
 use Rattle.gate_vcd.proofs.Keeping.{same_bytes}
 
@@ -47,11 +47,7 @@ short-code room code e =
     let (few, is) = both (nat_le (length code) 4) (is_code code) front in
     (is, grind (arith, nat_tests, within))
 
--- the place of a code in an array with so much room
-abbrev place_of : ℕ → List ℕ → Option ℕ
-place_of room code = cond (is_short room code) (Some (spelled code)) None
-
-placed : (room : ℕ) (code : List ℕ) (place : ℕ) → place_of room code ≡ Some place → (is_short room code ≡ true) × (spelled code ≡ place)
+placed : (room : ℕ) (code : List ℕ) (place : ℕ) → short_place room code ≡ Some place → (is_short room code ≡ true) × (spelled code ≡ place)
 placed room code place e = go (is_short room code) refl e
   where
     go : (b : Bool) → is_short room code ≡ b → cond b (Some (spelled code)) None ≡ Some place → (is_short room code ≡ true) × (spelled code ≡ place)
@@ -59,8 +55,8 @@ placed room code place e = go (is_short room code) refl e
     go false t h = cc
 
 -- a code is put into the array
-pub put-short : (short : List (Option (Option ℕ))) (long : Option (Option ℕ)) (code other : List ℕ) (place : ℕ) (last : Option ℕ) → place_of (length short) code ≡ Some place
-    → found_at (set short place (Some last)) long (place_of (length (set short place (Some last))) other) ≡ cond (bytes_eq code other) (Some last) (found_at short long (place_of (length short) other))
+pub put-short : (short : List (Option (Option ℕ))) (long : Option (Option ℕ)) (code other : List ℕ) (place : ℕ) (last : Option ℕ) → short_place (length short) code ≡ Some place
+    → found_at (set short place (Some last)) long (short_place (length (set short place (Some last))) other) ≡ cond (bytes_eq code other) (Some last) (found_at short long (short_place (length short) other))
 put-short short long code other place last e =
     let (is, spells) = placed (length short) code place e in
     let (visible_code, within) = short-code (length short) code is in
@@ -68,7 +64,7 @@ put-short short long code other place last e =
     rw (length-set short place (Some last)) (go stands is spells visible_code (bytes_eq code other) refl)
   where
     go : place < length short → is_short (length short) code ≡ true → spelled code ≡ place → is_code code ≡ true → (b : Bool) → bytes_eq code other ≡ b
-        → found_at (set short place (Some last)) long (place_of (length short) other) ≡ cond b (Some last) (found_at short long (place_of (length short) other))
+        → found_at (set short place (Some last)) long (short_place (length short) other) ≡ cond b (Some last) (found_at short long (short_place (length short) other))
     go stands is spells vc true t = rw (← same_bytes code other t, is, spells) (get_or-set_same short place (Some last) None stands)
     go stands is spells vc false t = by (is_short (length short) other) refl
       where
@@ -85,10 +81,10 @@ put-short short long code other place last e =
         ]
 
 -- a code is put into the map
-pub put-long : (short : List (Option (Option ℕ))) (old new : Option (Option ℕ)) (code other : List ℕ) (last : Option ℕ) → place_of (length short) code ≡ None → new ≡ cond (bytes_eq code other) (Some last) old
-    → found_at short new (place_of (length short) other) ≡ cond (bytes_eq code other) (Some last) (found_at short old (place_of (length short) other))
+pub put-long : (short : List (Option (Option ℕ))) (old new : Option (Option ℕ)) (code other : List ℕ) (last : Option ℕ) → short_place (length short) code ≡ None → new ≡ cond (bytes_eq code other) (Some last) old
+    → found_at short new (short_place (length short) other) ≡ cond (bytes_eq code other) (Some last) (found_at short old (short_place (length short) other))
 put-long short old new code other last none e = go (bytes_eq code other) refl e
   where
-    go : (b : Bool) → bytes_eq code other ≡ b → new ≡ cond b (Some last) old → found_at short new (place_of (length short) other) ≡ cond b (Some last) (found_at short old (place_of (length short) other))
+    go : (b : Bool) → bytes_eq code other ≡ b → new ≡ cond b (Some last) old → found_at short new (short_place (length short) other) ≡ cond b (Some last) (found_at short old (short_place (length short) other))
     go true t h = rw (← same_bytes code other t, none) h
     go false t h = rw h refl

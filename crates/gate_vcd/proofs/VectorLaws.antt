@@ -1,5 +1,5 @@
 -- The vectors that are kept, and the bits that are found in them.
-use Rattle.std.proofs.Common.{◌≡◌, ℕ, zero, suc, ◌+◌, ◌-◌, ◌<◌, ◌≤◌, Bool, true, false, cond, List, [], ◌∷◌, ◌++◌, length, drop, get_or, slice_get, slice_index, Option, Some, None, option_map, option_and_then, refl, ap, sym, ◌∙◌, subst, arith, length-append}
+use Rattle.std.proofs.Common.{◌≡◌, ℕ, zero, suc, ◌-◌, ◌<◌, ◌≤◌, Bool, true, false, cond, List, [], ◌∷◌, ◌++◌, length, drop, get_or, slice_get, slice_index, Option, Some, None, option_map, option_and_then, refl, ap, sym, ◌∙◌, subst, arith, length-append}
 use Rattle.std.proofs.Math.Seq.{drop-cons}
 use Rattle.std.proofs.lemmas.List.{get_or-map, length-map}
 use Rattle.std.specs.List.{cons_option}
@@ -12,7 +12,8 @@ use Rattle.gate_vcd.specs.Commands.{variable, variables}
 use Rattle.gate_vcd.specs.Declarations.{Variable}
 use Rattle.gate_vcd.specs.Changes.{Source}
 use Rattle.gate_vcd.specs.Vectors.{Vector, Bit, vector_of, place_in}
-use Rattle.gate_vcd.specs.Inputs.{first_given, or_else, source_in}
+use Rattle.std.specs.Option.{option_or}
+use Rattle.gate_vcd.specs.Inputs.{first_given, source_in}
 use Rattle.gate_vcd.specs.Scalars.{AreVectors, Leads, first_in, vector, vectors_of}
 use Rattle.gate_vcd.proofs.Compared.{eq_true, eq_false}
 use Rattle.std.proofs.lemmas.Option.{same_Some}
@@ -44,13 +45,13 @@ found_among bit xs = first_given (λ x. option_map (λ p. record { code = x.1; p
 
 among-cons : (bit : Bit) (v : Variable) (rest : List (Vector × List ℕ)) (o : Option Vector) (more : Option Source) → found_among bit rest ≡ more
     → found_among bit (cons_option (option_and_then (λ (x : Vector). cond (bytes_eq bit.base x.base) (Some (x, v.code)) None) o) rest)
-    ≡ or_else (option_map (λ p. record { code = v.code; place = p }) (option_and_then (place_in bit) o)) more
+    ≡ option_or (option_map (λ p. record { code = v.code; place = p }) (option_and_then (place_in bit) o)) more
 among-cons bit v rest None more e = e
 among-cons bit v rest (Some x) more e = go (bytes_eq bit.base x.base) refl
   where
     go : (b : Bool) → bytes_eq bit.base x.base ≡ b
-        → found_among bit (cons_option (cond b (Some (x, v.code)) None) rest) ≡ or_else (option_map (λ p. record { code = v.code; place = p }) (place_in bit x)) more
-    go true t = ap (or_else (option_map (λ p. record { code = v.code; place = p }) (place_in bit x))) e
+        → found_among bit (cons_option (cond b (Some (x, v.code)) None) rest) ≡ option_or (option_map (λ p. record { code = v.code; place = p }) (place_in bit x)) more
+    go true t = ap (option_or (option_map (λ p. record { code = v.code; place = p }) (place_in bit x))) e
     go false t = rw t e
 
 pub among-all : (bit : Bit) (vs : List Variable) → found_among bit (vectors_of bit.base vs) ≡ first_given (source_in bit) vs

@@ -1,6 +1,6 @@
 -- The changes of a stimulus, after its declarations.
 use Rattle.std.specs.Prelude.{ℕ, ◌-◌, Bool, not, ◌&&◌, ◌||◌, nat_lt, nat_eq, if◌then◌else◌, List, [], ◌∷◌, ◌++◌, length, take, drop, get_or, filter, map, codes, Option, Some, None, is_some, unwrap_or, Result, Ok, Err}
-use Rattle.std.specs.List.{list_all}
+use Rattle.std.specs.List.{list_all, starts_with}
 use Rattle.std.specs.Str.{bytes_eq}
 use Rattle.gate_values.specs.declared.logic.Logic.{Logic}
 use Rattle.gate_values.specs.declared.logic.Logic.TheVariants as logic
@@ -12,9 +12,8 @@ use Rattle.gate_vcd.specs.declared.fault.StimCause.TheVariants as causes
 use Rattle.gate_vcd.specs.declared.form.Form.{Form}
 use Rattle.gate_vcd.specs.declared.form.Form.TheVariants as forms
 use Rattle.gate_vcd.specs.Tokens.{Token, is_end, fault_at}
-use Rattle.gate_vcd.specs.Reading.{◌>>=◌}
+use Rattle.gate_netlist.specs.Bench.{◌>>=◌}
 use Rattle.gate_vcd.specs.Numbers.{is_numeral, number}
-use Rattle.gate_vcd.specs.Declarations.{begins}
 
 -- the value that a byte writes
 abbrev pub value_of : ℕ → Option Logic
@@ -47,7 +46,7 @@ form_by first rest =
 
 abbrev pub form_of : List ℕ → Form
 form_of text =
-    if begins (codes "$") text then (if is_mark text then forms.Mark else forms.Command)
+    if starts_with nat_eq text (codes "$") then (if is_mark text then forms.Mark else forms.Command)
     else form_by (get_or text 0 0) (drop 1 text)
 
 -- What stands among the changes: a stamp; a change of a code to digits, or one that is read over, by its

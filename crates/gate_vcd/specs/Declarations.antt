@@ -1,6 +1,6 @@
 -- The declarations of a stimulus: its timescale, and its variables with the scopes that they stand in.
-use Rattle.std.specs.Prelude.{ℕ, ◌-◌, Bool, true, false, not, ◌&&◌, ◌||◌, nat_le, if◌then◌else◌, List, [], ◌∷◌, ◌++◌, length, take, drop, get_or, codes, Option, Some, None, option_map, Result, Ok, Err}
-use Rattle.std.specs.List.{list_all, concat}
+use Rattle.std.specs.Prelude.{ℕ, ◌-◌, Bool, true, false, not, ◌&&◌, ◌||◌, nat_eq, nat_le, if◌then◌else◌, List, [], ◌∷◌, ◌++◌, length, take, drop, get_or, codes, Option, Some, None, option_map, Result, Ok, Err}
+use Rattle.std.specs.List.{list_all, concat, starts_with}
 use Rattle.std.specs.Str.{bytes_eq}
 use Rattle.gate_vcd.specs.declared.fault.StimFault.{StimFault}
 use Rattle.gate_vcd.specs.declared.fault.StimCause.TheVariants as causes
@@ -11,7 +11,8 @@ use Rattle.gate_vcd.specs.declared.keyword.Keyword.{Keyword}
 use Rattle.gate_vcd.specs.declared.keyword.Keyword.TheVariants as words
 use Rattle.gate_vcd.specs.Timescales.{unit_name, default_timescale}
 use Rattle.gate_vcd.specs.Tokens.{Token, is_end, fault_at}
-use Rattle.gate_vcd.specs.Reading.{◌>>=◌, or_fault}
+use Rattle.gate_netlist.specs.Bench.{◌>>=◌}
+use Rattle.gate_vcd.specs.Reading.{or_fault}
 use Rattle.gate_vcd.specs.Numbers.{is_numeral, number}
 
 -- A variable: its reference text, its code and its size; whether its changes have bits, and whether it counts.
@@ -58,16 +59,12 @@ unit_of text =
 abbrev pub scaled : ℕ → List ℕ → Option Timescale
 scaled number text = option_map (λ unit. record { number = number; unit = unit }) (unit_of text)
 
--- whether a text begins with another
-abbrev pub begins : List ℕ → List ℕ → Bool
-begins front text = bytes_eq (take (length front) text) front
-
 -- 1, 10 or 100 and a unit
 unfoldable pub timescale_of : List ℕ → Option Timescale
 timescale_of text =
-    if begins (codes "100") text then scaled 100 (drop 3 text)
-    else if begins (codes "10") text then scaled 10 (drop 2 text)
-    else if begins (codes "1") text then scaled 1 (drop 1 text)
+    if starts_with nat_eq text (codes "100") then scaled 100 (drop 3 text)
+    else if starts_with nat_eq text (codes "10") then scaled 10 (drop 2 text)
+    else if starts_with nat_eq text (codes "1") then scaled 1 (drop 1 text)
     else None
 
 -- the names of all open scopes, joined by dots
@@ -94,7 +91,7 @@ is_code text = list_all (λ b. nat_le 33 b && nat_le b 126) text
 
 -- a name is escaped by a backslash before it
 abbrev pub unescaped : List ℕ → List ℕ
-unescaped text = if begins (codes "\\") text then drop 1 text else text
+unescaped text = if starts_with nat_eq text (codes "\\") then drop 1 text else text
 
 -- a variable: type, size, code, and one or more tokens of reference
 abbrev pub variable_of : Bool → List (List ℕ) → Option Variable
@@ -119,7 +116,7 @@ ends_declarations _ = false
 
 -- a command begins with `$`
 abbrev pub opens_command : List ℕ → Bool
-opens_command text = begins (codes "$") text && not (is_end text)
+opens_command text = starts_with nat_eq text (codes "$") && not (is_end text)
 
 -- The declarations of these tokens after a header, in a command or between two: the whole header, and the
 -- tokens after the declarations.

@@ -1,19 +1,20 @@
 -- Where each input of a circuit takes its values from.
 use Rattle.std.specs.Prelude.{ℕ, zero, suc, Bool, ◌&&◌, ◌||◌, nat_eq, if◌then◌else◌, List, [], ◌∷◌, ◌++◌, codes, Option, Some, None, option_map, option_and_then, Result, Ok, Err}
-use Rattle.std.specs.List.{list_any, find}
+use Rattle.std.specs.List.{list_any, find, starts_with}
+use Rattle.std.specs.Option.{option_or}
 use Rattle.std.specs.Str.{bytes_eq}
 use Rattle.gate_netlist.specs.Circuit.{Design, driver_of, name_of, is_input}
 use Rattle.gate_vcd.specs.declared.fault.StimFault.{StimFault}
 use Rattle.gate_vcd.specs.declared.fault.StimCause.{StimCause}
 use Rattle.gate_vcd.specs.declared.fault.StimCause.TheVariants as causes
-use Rattle.gate_vcd.specs.Reading.{◌>>=◌}
-use Rattle.gate_vcd.specs.Declarations.{Variable, begins}
+use Rattle.gate_netlist.specs.Bench.{◌>>=◌}
+use Rattle.gate_vcd.specs.Declarations.{Variable}
 use Rattle.gate_vcd.specs.Changes.{Source}
 use Rattle.gate_vcd.specs.Vectors.{Bit, bit_of, place_in, vector_of}
 
 -- a variable is named for a net, alone or with an index
 abbrev pub is_named_for : List ℕ → Variable → Bool
-is_named_for name v = v.counted && (bytes_eq name v.reference || begins (name ++ codes "[") v.reference)
+is_named_for name v = v.counted && (bytes_eq name v.reference || starts_with nat_eq v.reference (name ++ codes "["))
 
 -- one bit wide
 abbrev pub is_single : Variable → Bool
@@ -23,15 +24,10 @@ is_single v = nat_eq v.size 1 && v.valued
 abbrev pub is_scalar_of : List ℕ → Variable → Bool
 is_scalar_of name v = (v.counted && is_single v) && (bytes_eq name v.reference || bytes_eq (name ++ codes "[0:0]") v.reference)
 
--- the first, or the other where there is no first
-abbrev pub or_else : {A : Type 0} → Option A → Option A → Option A
-or_else (Some x) y = Some x
-or_else None y = y
-
 -- what the first of these gives that gives something
 abbrev pub first_given : {X Y : Type 0} → (X → Option Y) → List X → Option Y
 first_given f [] = None
-first_given f (x ∷ xs) = or_else (f x) (first_given f xs)
+first_given f (x ∷ xs) = option_or (f x) (first_given f xs)
 
 -- the code of the first scalar of a net
 abbrev pub scalar_code : List Variable → List ℕ → Option (List ℕ)
@@ -51,7 +47,7 @@ bit_source vs name = option_and_then (λ bit. first_given (source_in bit) vs) (b
 
 -- a net takes the first scalar of its name, and where there is none the first vector of which it is a bit
 abbrev pub source_of : List Variable → List ℕ → Option Source
-source_of vs name = or_else (scalar_source vs name) (bit_source vs name)
+source_of vs name = option_or (scalar_source vs name) (bit_source vs name)
 
 -- why an input has no source
 abbrev pub cause_without : List Variable → List ℕ → StimCause

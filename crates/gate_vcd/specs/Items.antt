@@ -10,7 +10,8 @@ use Rattle.gate_values.specs.Changes.{changes, same}
 use Rattle.gate_vcd.specs.declared.fault.StimFault.{StimFault}
 use Rattle.gate_vcd.specs.declared.fault.StimCause.TheVariants as causes
 use Rattle.gate_vcd.specs.Faults.{out_of_memory}
-use Rattle.gate_vcd.specs.Reading.{◌>>=◌, Fails}
+use Rattle.gate_netlist.specs.Bench.{◌>>=◌}
+use Rattle.gate_vcd.specs.Reading.{Fails}
 use Rattle.gate_vcd.specs.declared.known.KnownCodes.{KnownCodes}
 use Rattle.gate_vcd.specs.declared.items.Item.{Item as Read}
 use Rattle.gate_vcd.specs.declared.items.Item.TheVariants as read

@@ -5,11 +5,6 @@ use Rattle.gate_vcd.specs.declared.fault.StimCause.{StimCause}
 use Rattle.gate_vcd.specs.Faults.{out_of_memory}
 use Rattle.gate_vcd.specs.Tokens.{Token, fault_at}
 
-infixl 10 ◌>>=◌
-abbrev pub ◌>>=◌ : {A B : Type 0} → Result A StimFault → (A → Result B StimFault) → Result B StimFault
-(Ok x) >>= f = f x
-(Err e) >>= f = Err e
-
 -- what there is, or a refusal at a token
 abbrev pub or_fault : {A : Type 0} → Option A → Token → StimCause → Result A StimFault
 or_fault (Some x) t cause = Ok x

@@ -1,10 +1,10 @@
 -- How far the text of a scope is along the one that is asked for.
 use Rattle.std.specs.Prelude.{◌≡◌, ℕ, ◌+◌, Bool, false, ◌&&◌, nat_lt, nat_eq, List, [], map, length, drop, get_or, if◌then◌else◌, Option, Some, None, unwrap_or}
-use Rattle.gate_vcd.specs.Declarations.{begins}
+use Rattle.std.specs.List.{starts_with}
 
 -- where a text ends in the one that is asked for, which begins with it
 abbrev pub along : List ℕ → List ℕ → Option ℕ
-along asked path = if begins path asked then Some (length path) else None
+along asked path = if starts_with nat_eq asked path then Some (length path) else None
 
 -- these are the ends of the open scopes
 abbrev pub AreAlong : Option (List ℕ) → List (Option ℕ) → List (List ℕ) → Type 0
@@ -12,7 +12,7 @@ AreAlong asked ends scopes = ends ≡ map (along (unwrap_or asked [])) scopes
 
 -- where a name ends in a text from a place on, if it stands there
 abbrev pub end_in : List ℕ → ℕ → List ℕ → Option ℕ
-end_in asked from name = if begins name (drop from asked) then Some (from + length name) else None
+end_in asked from name = if starts_with nat_eq (drop from asked) name then Some (from + length name) else None
 
 -- where the path of a new scope ends: in the scope with this end, or in none
 abbrev pub next_end : List ℕ → Option (Option ℕ) → List ℕ → Option ℕ

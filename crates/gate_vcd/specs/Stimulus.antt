@@ -9,7 +9,8 @@ use Rattle.gate_netlist.specs.Circuit.{Design, nets_of}
 use Rattle.gate_vcd.specs.declared.fault.StimFault.{StimFault}
 use Rattle.gate_vcd.specs.declared.timescale.Timescale.{Timescale}
 use Rattle.gate_vcd.specs.Tokens.{tokens_of}
-use Rattle.gate_vcd.specs.Reading.{◌>>=◌, Fails}
+use Rattle.gate_netlist.specs.Bench.{◌>>=◌}
+use Rattle.gate_vcd.specs.Reading.{Fails}
 use Rattle.gate_vcd.specs.Declarations.{Variable, no_header, declaring}
 use Rattle.gate_vcd.specs.Changes.{Event, Source, items, nothing, events_from, value_with, last_stamp}
 use Rattle.gate_vcd.specs.Inputs.{sources_below}

@@ -2,8 +2,7 @@
 use Rattle.std.specs.Prelude.{ℕ, ◌+◌, ◌-◌, ◌*◌, Bool, ◌&&◌, nat_le, nat_lt, if◌then◌else◌, List, [], ◌∷◌, length, get_or, Option, Some, None}
 use Rattle.std.specs.Borrow.{Bor}
 use Rattle.std.specs.Str.{bytes_eq}
-use Rattle.indexmap.specs.IndexMap.{IndexMap, get_by}
-use Rattle.gate_netlist.specs.declared.seed.TextSeed.{TextSeed}
+use Rattle.indexmap.specs.IndexMap.{get_by}
 use Rattle.gate_vcd.specs.declared.table.CodeTable.{CodeTable}
 use Rattle.gate_vcd.specs.Declarations.{is_code}
 
@@ -16,8 +15,9 @@ spelled (b ∷ bs) = (b - 32) + 94 * spelled bs
 abbrev pub is_short : ℕ → List ℕ → Bool
 is_short room code = (nat_le (length code) 4 && is_code code) && nat_lt (spelled code) room
 
-abbrev pub place_in : CodeTable → List ℕ → Option ℕ
-place_in table code = if is_short (length table.short.items) code then Some (spelled code) else None
+-- where a code stands in an array with so much room, if it does
+abbrev pub short_place : ℕ → List ℕ → Option ℕ
+short_place room code = if is_short room code then Some (spelled code) else None
 
 -- what stands in the array at a place, or in the map where there is no place
 abbrev pub found_at : List (Option (Option ℕ)) → Option (Option ℕ) → Option ℕ → Option (Option ℕ)
@@ -26,4 +26,4 @@ found_at short long (Some place) = get_or short place None
 
 -- what is kept of a code; nothing where it isn't known
 unfoldable pub found_in : CodeTable → List ℕ → Option (Option ℕ)
-found_in table code = found_at table.short.items (get_by (λ (k : Bor (List ℕ)). bytes_eq code k.now) table.long) (place_in table code)
+found_in table code = found_at table.short.items (get_by (λ (k : Bor (List ℕ)). bytes_eq code k.now) table.long) (short_place (length table.short.items) code)

@@ -1,11 +1,11 @@
 -- Which variables are vectors, and which nets are bits of them.
 use Rattle.std.specs.Prelude.{ℕ, ◌+◌, ◌-◌, Bool, not, ◌&&◌, ◌||◌, nat_le, nat_eq, if◌then◌else◌, List, length, take, drop, codes, Option, Some, None, option_map, option_and_then, position}
 use Rattle.std.specs.Int.{abs_diff}
-use Rattle.std.specs.List.{ends_with}
+use Rattle.std.specs.List.{ends_with, starts_with}
 use Rattle.std.specs.Path.{rfind_below}
 use Rattle.std.specs.Str.{bytes_eq}
 use Rattle.gate_vcd.specs.Numbers.{is_numeral, number_up_to}
-use Rattle.gate_vcd.specs.Declarations.{Variable, begins}
+use Rattle.gate_vcd.specs.Declarations.{Variable}
 
 -- the greatest number of a bit
 abbrev pub last_bit : ℕ
@@ -63,7 +63,7 @@ pub record Bit : Type 0 where
 
 -- digits without leading zeros
 abbrev pub is_plain : List ℕ → Bool
-is_plain digits = not (begins (codes "0") digits) || nat_eq (length digits) 1
+is_plain digits = not (starts_with nat_eq digits (codes "0")) || nat_eq (length digits) 1
 
 abbrev pub index_in : List ℕ → Option ℕ
 index_in text = if is_plain text then number_in text else None

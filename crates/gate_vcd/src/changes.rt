@@ -120,7 +120,7 @@ fn nothing_taken<'a>(alloc: Global, count: usize) -> Result<Taken<'a>, StimFault
 }
 
 /// The place of the source of a number.
-fn place_of(sources: &[Source], number: usize) -> u64
+fn place_at(sources: &[Source], number: usize) -> u64
     requires { number < length sources.now }
     ensures { (s : TextSource) → slice_get (map source sources.now) number ≡ Some s → result ≡ s.place }
 {
@@ -163,7 +163,7 @@ fn settle_code(
     let sources = codes.used.as_slice();
     let mut next = Some(last);
     while let Some(number) = next {
-        let place = place_of(sources, number);
+        let place = place_at(sources, number);
         if !reaches(had, digits, place) {
             return Ok(());
         }

@@ -2,7 +2,7 @@ ghost use Rattle.std.specs.Prelude.{◌≡◌, take, drop};
 ghost use Rattle.gate_vcd.specs.Changes.{is_mark, form_by, form_of};
 
 use crate::digits::{are_values, value_of};
-use crate::keyword::{begins, is_end, is_word};
+use crate::keyword::{is_end, is_word};
 use crate::numbers::is_numeral;
 
 /// What a word among the changes of a stimulus is.
@@ -73,7 +73,7 @@ fn form_by(first: u8, rest: &[u8]) -> Form
 pub fn form_of(text: &[u8]) -> Form
     ensures { result ≡ form_of text.now }
 {
-    if begins(b"$", text) {
+    if text.starts_with(b"$") {
         return if is_mark(text) {
             Form::Mark
         } else {

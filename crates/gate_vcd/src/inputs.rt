@@ -1,17 +1,17 @@
-ghost use Rattle.std.specs.Prelude.{◌≡◌, ◌<◌, ◌++◌, ℕ, List, Err, None, Ok, Some, codes, option_and_then, option_map, IfErr, IfOk, MatchResult, OnOk, if◌then◌else◌};
-ghost use Rattle.std.specs.List.{list_any};
+ghost use Rattle.std.specs.Prelude.{◌≡◌, ◌<◌, ◌++◌, ℕ, List, Err, None, Ok, Some, codes, nat_eq, option_and_then, option_map, IfErr, IfOk, MatchResult, OnOk, if◌then◌else◌};
+ghost use Rattle.std.specs.List.{list_any, starts_with};
 ghost use Rattle.std.specs.Str.{bytes_eq};
 ghost use Rattle.gate_netlist.specs.Circuit.{nets_of, driver_of, is_input};
 ghost use Rattle.gate_vcd.specs.Commands.{variable as variable_of, variables};
-ghost use Rattle.gate_vcd.specs.Declarations.{begins};
 ghost use Rattle.gate_vcd.specs.Faults.{out_of_memory};
-ghost use Rattle.gate_vcd.specs.Inputs.{is_named_for, is_single, is_scalar_of, or_else, bit_source, source_of, cause_without, source_or_fault, source_of_net, sources_below};
+ghost use Rattle.std.specs.Option.{option_or};
+ghost use Rattle.gate_vcd.specs.Inputs.{is_named_for, is_single, is_scalar_of, bit_source, source_of, cause_without, source_or_fault, source_of_net, sources_below};
 ghost use Rattle.gate_vcd.specs.Known.{number_of, source, source_by, sources_by};
 ghost use Rattle.gate_vcd.specs.Scalars.{AreInputs, AreScalars, code_if, code_in, numbers_of, without_index};
 ghost use Rattle.gate_vcd.specs.Sought.{IsGiven};
 
 use crate::fault::{StimCause, StimFault};
-use crate::keyword::{begins, is_word};
+use crate::keyword::is_word;
 use crate::numbers::number_up_to;
 use crate::source::Source;
 use crate::variable::Variable;
@@ -26,7 +26,7 @@ fn note<'v, 'a>(
     name: &'v [u8],
     code: &'a [u8],
 ) -> Result<(), StimFault>
-    ensures ok { (other : List ℕ) → OnOk result (code_in scalars.new other ≡ or_else (code_in scalars.old other) (if bytes_eq other name.now then Some code.now else None)) }
+    ensures ok { (other : List ℕ) → OnOk result (code_in scalars.new other ≡ option_or (code_in scalars.old other) (if bytes_eq other name.now then Some code.now else None)) }
     ensures err { IfErr result (λ e. e ≡ out_of_memory) }
 {
     if !scalars.contains_key(name) {
@@ -53,7 +53,7 @@ fn note_variable<'v, 'a>(
     scalars: &mut IndexMap<&'v [u8], &'a [u8], TextSeed>,
     variable: &'v Variable<'a>,
 ) -> Result<(), StimFault>
-    ensures ok { (name : List ℕ) → OnOk result (code_in scalars.new name ≡ or_else (code_in scalars.old name) (code_if (is_scalar_of name (variable_of variable.now)) variable.now.code.now)) }
+    ensures ok { (name : List ℕ) → OnOk result (code_in scalars.new name ≡ option_or (code_in scalars.old name) (code_if (is_scalar_of name (variable_of variable.now)) variable.now.code.now)) }
     ensures err { IfErr result (λ e. e ≡ out_of_memory) }
 {
     if !variable.counted || !is_single(variable) {
@@ -92,10 +92,10 @@ fn is_named_for(name: &[u8], variable: &Variable) -> bool
 
 /// Whether a text begins with a name and `[`.
 fn is_indexed(name: &[u8], text: &[u8]) -> bool
-    ensures { result ≡ begins (name.now ++ codes "[") text.now }
+    ensures { result ≡ starts_with nat_eq text.now (name.now ++ codes "[") }
 {
     match text.strip_prefix(name) {
-        Some(rest) => begins(b"[", rest),
+        Some(rest) => rest.starts_with(b"["),
         None => false,
     }
 }

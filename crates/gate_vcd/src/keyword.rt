@@ -1,6 +1,6 @@
 ghost use Rattle.std.specs.Prelude.{◌≡◌};
 ghost use Rattle.std.specs.Str.{bytes_eq};
-ghost use Rattle.gate_vcd.specs.Declarations.{keyword_of, unit_of, scaled, timescale_of, opens_command, begins};
+ghost use Rattle.gate_vcd.specs.Declarations.{keyword_of, unit_of, scaled, timescale_of, opens_command};
 ghost use Rattle.gate_vcd.specs.Tokens.{is_end};
 
 use crate::timescale::{Timescale, Unit};
@@ -22,13 +22,6 @@ pub fn is_word(text: &[u8], word: &[u8]) -> bool
     ensures { result ≡ bytes_eq text.now word.now }
 {
     text == word
-}
-
-/// Whether a text begins with another.
-pub fn begins(front: &[u8], text: &[u8]) -> bool
-    ensures { result ≡ begins front.now text.now }
-{
-    text.starts_with(front)
 }
 
 /// What the command of this first word is about.

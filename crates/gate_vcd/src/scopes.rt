@@ -4,7 +4,6 @@ ghost use Rattle.gate_vcd.specs.Faults.{out_of_memory};
 ghost use Rattle.gate_vcd.specs.Scopes.{AreAlong, end_in, next_end, is_asked};
 
 use crate::fault::StimFault;
-use crate::keyword::begins;
 use std::alloc::Global;
 
 /// The open scopes, compared with the scope that is asked for as they open: of each, where the text of
@@ -20,7 +19,7 @@ fn end_in(asked: &[u8], from: usize, name: &[u8]) -> Option<usize>
     requires { from ≤ length asked.now }
     ensures { result ≡ end_in asked.now from name.now }
 {
-    if begins(name, &asked[from..]) {
+    if asked[from..].starts_with(name) {
         Some(from + name.len())
     } else {
         None

@@ -1,7 +1,7 @@
 ghost use Rattle.std.specs.Prelude.{◌≡◌, ◌<◌, ◌≤◌, ◌-◌, ℕ, List, None, Some, length, IfErr, IfOk, IfSome, OnOk, if◌then◌else◌};
 ghost use Rattle.std.specs.Str.{bytes_eq};
 ghost use Rattle.gate_vcd.specs.Faults.{out_of_memory};
-ghost use Rattle.gate_vcd.specs.Table.{found_in, place_in, spelled};
+ghost use Rattle.gate_vcd.specs.Table.{found_in, short_place, spelled};
 
 use crate::fault::StimFault;
 use crate::variable::is_code;
@@ -69,8 +69,8 @@ impl<'a> CodeTable<'a> {
     }
 
     /// Where a code stands in the array, if it does.
-    fn place_in(&self, code: &[u8]) -> Option<usize>
-        ensures value { result ≡ place_in self.now code.now }
+    fn short_place(&self, code: &[u8]) -> Option<usize>
+        ensures value { result ≡ short_place (length self.now.short.items) code.now }
         ensures within { IfSome result (λ place. place < length self.now.short.items) }
     {
         if code.len() > 4 || !is_code(code) {
@@ -89,7 +89,7 @@ impl<'a> CodeTable<'a> {
     pub fn get(&self, code: &[u8]) -> Option<Option<usize>>
         ensures { result ≡ found_in self.now code.now }
     {
-        match self.place_in(code) {
+        match self.short_place(code) {
             Some(place) => self.short[place],
             None => self.long.get(code).copied(),
         }
@@ -100,7 +100,7 @@ impl<'a> CodeTable<'a> {
         ensures ok { (other : List ℕ) → OnOk result (found_in self.new other ≡ (if bytes_eq code.now other then Some last else found_in self.old other)) }
         ensures err { IfErr result (λ e. e ≡ out_of_memory) }
     {
-        match self.place_in(code) {
+        match self.short_place(code) {
             Some(place) => {
                 self.short[place] = Some(last);
                 Ok(())

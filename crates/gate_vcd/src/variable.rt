@@ -9,7 +9,7 @@ ghost use Rattle.gate_vcd.specs.Reading.{Gives, or_fault};
 ghost use Rattle.gate_vcd.specs.Words.{texts, token_of};
 
 use crate::fault::{StimCause, StimFault};
-use crate::keyword::{begins, is_word};
+use crate::keyword::is_word;
 use crate::numbers::is_numeral;
 use crate::words::Word;
 use std::alloc::Global;
@@ -57,7 +57,7 @@ fn is_unvalued(kind: &[u8]) -> bool
 fn unescaped(text: &[u8]) -> &[u8]
     ensures { result.now ≡ unescaped text.now }
 {
-    if begins(b"\\", text) {
+    if text.starts_with(b"\\") {
         &text[1..]
     } else {
         text
@@ -68,7 +68,7 @@ fn unescaped(text: &[u8]) -> &[u8]
 fn unescaped_vec(mut text: Vec<u8>) -> Vec<u8>
     ensures { result.items ≡ unescaped text.items }
 {
-    if begins(b"\\", text.as_slice()) {
+    if text.as_slice().starts_with(b"\\") {
         text.remove(0);
     }
     text

@@ -9,7 +9,7 @@ ghost use Rattle.gate_vcd.specs.Scalars.{AreVectors, bit as bit_by, two_texts, v
 ghost use Rattle.gate_vcd.specs.Vectors.{bit_of, bracketed, index_in, is_between, is_plain, number_in, parted, place_in, range_in, ranged, vector_of};
 
 use crate::fault::StimFault;
-use crate::keyword::{begins, is_word};
+use crate::keyword::is_word;
 use crate::numbers::{is_numeral, number_up_to};
 use crate::source::Source;
 use crate::variable::Variable;
@@ -134,7 +134,7 @@ fn vector_of<'v, 'a>(variable: &'v Variable<'a>) -> Option<Vector<'v>>
 fn is_plain(digits: &[u8]) -> bool
     ensures { result ≡ is_plain digits.now }
 {
-    !begins(b"0", digits) || digits.len() == 1
+    !digits.starts_with(b"0") || digits.len() == 1
 }
 
 fn index_in(text: &[u8]) -> Option<u64>

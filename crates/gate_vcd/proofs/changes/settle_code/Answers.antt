@@ -20,10 +20,10 @@ returns-then-not-reaches-clause-ok c =
     let at : slice_get (sources_in c.args.codes.now) c.in-Some.number ≡ Some s = slice_get-is (sources_in c.args.codes.now) c.in-Some.number (source no_source) stands in
     let shown : slice_get (map source c.as_slice-sources.result.now) c.in-Some.number ≡ Some s = rw c.as_slice-sources.ensures.keys at in
     settling-stops (sources_in c.args.codes.now) c.args.now c.args.code.now c.args.had.now c.args.digits.now (lists_in c.args.lists.now.items) (lists_in c.loop-next.lists.items) c.in-Some.number s c.requires.linked.falls at
-    (ap (reaches c.args.had.now c.args.digits.now) (sym (c.place_of-place.ensures s shown)) ∙ sym c.reaches.ensures ∙ c.if-not-reaches.true) here
+    (ap (reaches c.args.had.now c.args.digits.now) (sym (c.place_at-place.ensures s shown)) ∙ sym c.reaches.ensures ∙ c.if-not-reaches.true) here
 
-pub place_of-place-requires : goal.place_of-place-requires
-place_of-place-requires c =
+pub place_at-place-requires : goal.place_at-place-requires
+place_at-place-requires c =
     let stands = settling-stands (sources_in c.args.codes.now) c.args.now c.args.code.now c.args.had.now c.args.digits.now (lists_in c.args.lists.now.items) (lists_in c.loop-next.lists.items) c.in-Some.number (rw c.in-Some.is at c.loop-next.invariant) in
     rw c.as_slice-sources.ensures.keys (omega (arith, stands, length-map c.args.codes.now.used.keys source))
 
@@ -59,8 +59,8 @@ loop-next-preserved c =
     omega (arith, stands, length-map c.args.codes.now.used.keys source, c.loop-next.invariant.count, lists-length c.args.lists.now.items, lists-length c.loop-next.lists.items, c.requires.count) in
     let long : length (lists_in c.args.lists.now.items) ≡ length (sources_in c.args.codes.now) = lists-length c.args.lists.now.items ∙ c.requires.count ∙ sym (length-map c.args.codes.now.used.keys source) in
     let next = c.index-next.ensures ∙ get_or_default c.args.codes.now.before.items c.in-Some.number c.index-next.result.now None within in
-    let new = c.in_ok-settle.ensures.ok ∙ ap (λ v. settled c.index_mut.result.now.items (record { time = c.args.now; value = v })) (c.value_at_place-value.ensures ∙ ap (λ p. value_at_place p c.args.digits.now) (c.place_of-place.ensures s shown)) in
-    let reach : reaches c.args.had.now c.args.digits.now s.place ≡ true = ap (reaches c.args.had.now c.args.digits.now) (sym (c.place_of-place.ensures s shown)) ∙ sym c.reaches.ensures ∙ c.if-not-reaches.false in
+    let new = c.in_ok-settle.ensures.ok ∙ ap (λ v. settled c.index_mut.result.now.items (record { time = c.args.now; value = v })) (c.value_at_place-value.ensures ∙ ap (λ p. value_at_place p c.args.digits.now) (c.place_at-place.ensures s shown)) in
+    let reach : reaches c.args.had.now c.args.digits.now s.place ≡ true = ap (reaches c.args.had.now c.args.digits.now) (sym (c.place_at-place.ensures s shown)) ∙ sym c.reaches.ensures ∙ c.if-not-reaches.false in
     subst (λ o. IsSettling (sources_in c.args.codes.now) c.args.now c.args.code.now c.args.had.now c.args.digits.now (lists_in c.args.lists.now.items) (lists_in (set c.loop-next.lists.items c.in-Some.number c.settle.new.list)) o) (sym next)
     (vectors-step (sources_in c.args.codes.now) c.args.now c.args.code.now c.args.had.now c.args.digits.now (lists_in c.args.lists.now.items) (λ code. flat (found_in c.args.codes.now.last code)) c.args.codes.now.before.items c.loop-next.lists.items
     c.index_mut.result.now c.settle.new.list c.in-Some.number s c.requires.linked at reach long listed c.index_mut.ensures.value new here)

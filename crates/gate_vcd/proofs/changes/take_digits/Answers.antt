@@ -1,4 +1,4 @@
-use Rattle.std.proofs.Common.{arith, length}
+use Rattle.std.proofs.Common.{arith}
 use Rattle.std.proofs.lemmas.List.{length-map}
 use Rattle.gate_vcd.specs.Known.{source, sources_in}
 use Rattle.gate_vcd.proofs.Holding.{held-digits, held-within}

@@ -1,4 +1,4 @@
-use Rattle.std.proofs.Common.{◌≡◌, ◌∙◌, ◌++◌, ap, sym, subst, arith, rules, length, take, drop, reverse, List, Option}
+use Rattle.std.proofs.Common.{◌≡◌, ◌∙◌, ap, sym, subst, arith, rules, length, drop, reverse, List, Option}
 use Rattle.std.proofs.lemmas.List.Sorted.{IsNonDecreasingBy-from_sort_by_key}
 use Rattle.gate_vcd.specs.declared.source.Source.{Source as Held}
 use Rattle.gate_vcd.specs.Known.{AreFallingNets, sources_by}
