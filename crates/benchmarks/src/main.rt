@@ -8,6 +8,7 @@
 ghost use Rattle.std.specs.Prelude.{◌<◌};
 
 mod looking;
+mod playing;
 mod reading;
 mod texts;
 mod timer;
@@ -34,9 +35,10 @@ enum Benchmark {
     WavesByNet,
     WavesByTime,
     Write,
+    Play,
 }
 
-const BENCHMARKS: [(&str, Benchmark); 15] = [
+const BENCHMARKS: [(&str, Benchmark); 16] = [
     ("bench", Benchmark::Bench),
     ("bench-refused", Benchmark::BenchRefused),
     ("circuit", Benchmark::Circuit),
@@ -52,6 +54,7 @@ const BENCHMARKS: [(&str, Benchmark); 15] = [
     ("waves-by-net", Benchmark::WavesByNet),
     ("waves-by-time", Benchmark::WavesByTime),
     ("write", Benchmark::Write),
+    ("play", Benchmark::Play),
 ];
 
 fn checksum<R: Eprint + Clock + AllocGlobal>(rt: &R, benchmark: Benchmark, size: u32) -> Result<u64>
@@ -73,6 +76,7 @@ fn checksum<R: Eprint + Clock + AllocGlobal>(rt: &R, benchmark: Benchmark, size:
         Benchmark::WavesByNet => waves::waves_by_net(rt, size),
         Benchmark::WavesByTime => waves::waves_by_time(rt, size),
         Benchmark::Write => writing::write(rt, size),
+        Benchmark::Play => playing::play(rt, size),
     }
 }
 
