@@ -1,5 +1,5 @@
 -- What is kept of a stimulus text means what the text does.
-use Rattle.std.proofs.Common.{◌≡◌, ◌⊎◌, inl, inr, ℕ, zero, suc, ◌+◌, ◌<◌, ◌≤◌, Bool, true, false, not, cond, ◌||◌, nat_eq, nat_le, nat_lt, List, [], ◌∷◌, ◌++◌, length, map, get_or, slice_get, Option, Some, None, IfSome, option_map, option_and_then, unwrap_or, is_some, Result, Ok, Err, MatchResult, Vec, Global, refl, ap, sym, ◌∙◌, subst, arith, length-append, add-one}
+use Rattle.std.proofs.Common.{◌≡◌, ◌⊎◌, inl, inr, ℕ, zero, suc, ◌+◌, ◌<◌, ◌≤◌, Bool, true, false, not, cond, ◌||◌, nat_eq, nat_le, nat_lt, List, [], ◌∷◌, ◌++◌, length, map, get_or, slice_get, Option, Some, None, IfSome, option_map, option_and_then, unwrap_or, is_some, Result, Ok, Err, Vec, Global, refl, ap, sym, ◌∙◌, subst, arith, length-append, add-one}
 use Rattle.std.specs.List.{list_any, find, prefix_len}
 use Rattle.std.specs.Option.{option_map_or}
 use Rattle.std.specs.Str.{bytes_eq}
@@ -24,7 +24,7 @@ use Rattle.gate_vcd.specs.Declarations.{Header, Variable, no_header, declaring}
 use Rattle.gate_vcd.specs.Changes.{Item, stamp, change, wrong, Event, Source, items, nothing, events_from, stamped, changes_with, value_with, last_stamp}
 use Rattle.gate_vcd.specs.declared.source.Source.{Source as HeldSource}
 use Rattle.gate_vcd.specs.Items.{AreKept}
-use Rattle.gate_vcd.specs.Known.{Sources, is_of, is_taken, is_used, knows, number_of, same_source, source, sources_by, takes}
+use Rattle.gate_vcd.specs.Known.{Sources, is_of, is_taken, is_used, knows, number_of, same_source, source, takes}
 use Rattle.gate_vcd.specs.Vectors.{Bit, bit_of, place_in, vector_of}
 use Rattle.gate_vcd.specs.declared.known.KnownCodes.{KnownCodes}
 use Rattle.std.specs.Option.{option_or}
@@ -32,7 +32,7 @@ use Rattle.gate_vcd.specs.Inputs.{bit_source, first_given, is_scalar_of, scalar_
 use Rattle.gate_vcd.specs.Lists.{lists_in, IsRising}
 use Rattle.gate_vcd.specs.Given.{Given, AreItsChanges, Fits, changes_of, value_at}
 use Rattle.gate_vcd.specs.Held.{given_by, AreLaidOut}
-use Rattle.gate_vcd.specs.Scalars.{AreInputs, numbers_of}
+use Rattle.gate_vcd.specs.Scalars.{numbers_of}
 use Rattle.gate_vcd.specs.Stimulus.{reading_of, has_code, value_of_source, Means}
 use Rattle.gate_vcd.proofs.DeclarationLaws.{fails_then}
 use Rattle.gate_vcd.proofs.Settling.{AreBelow, latest-flat, changes-below}
@@ -335,24 +335,19 @@ some-sourced d vs (suc m) found e code u =
     go false None earlier c by = cc
     go false (Some s) earlier c by = rw (sym (same_bytes s.code code by)) ((sourced-by (is_input (driver_of d m)) vs (name_of d m) m _ (Some s) c).1 s refl)
 
--- also where the nets have no sources, since some input has none
-pub used-sourced : (d : Design) (vs : List Variable) (inputs : Result (Vec (Option HeldSource) Global) StimFault) (shown : List (Option HeldSource)) → AreInputs inputs (sources_below d vs (nets_of d))
-    → MatchResult inputs (λ v. shown ≡ v.items) (λ e. shown ≡ []) → (code : List ℕ) → is_used (sources_by shown) code ≡ true → has_code vs code ≡ true
-used-sourced d vs (Ok v) shown read is code u = some-sourced d vs (nets_of d) (sources_by v.items) read code (ap (λ cs. is_used (sources_by cs) code) (sym is) ∙ u)
-used-sourced d vs (Err e) shown read is code u =
-    let bad : false ≡ true = ap (λ cs. is_used (sources_by cs) code) (sym is) ∙ u in
-    cc
-
 either-known : (a b : Bool) → (b ≡ true → a ≡ true) → (a || b) ≡ a
 either-known true b f = refl
 either-known false true f = sym (f refl)
 either-known false false f = refl
 
 -- the known codes are those of the variables
-pub known-codes : (d : Design) (vs : List Variable) (known : KnownCodes) (inputs : Result (Vec (Option HeldSource) Global) StimFault) (shown : List (Option HeldSource))
-    → ((code : List ℕ) → knows known code ≡ (has_code vs code || is_used (sources_by shown) code))
-    → AreInputs inputs (sources_below d vs (nets_of d)) → MatchResult inputs (λ v. shown ≡ v.items) (λ e. shown ≡ []) → (code : List ℕ) → knows known code ≡ has_code vs code
-known-codes d vs known inputs shown all read is code = all code ∙ either-known (has_code vs code) (is_used (sources_by shown) code) (used-sourced d vs inputs shown read is code)
+pub known-codes : (d : Design) (vs : List Variable) (known : KnownCodes) (found : List (Option Source)) → ((code : List ℕ) → knows known code ≡ (has_code vs code || is_used found code)) → sources_below d vs (nets_of d) ≡ Ok found
+    → (code : List ℕ) → knows known code ≡ has_code vs code
+known-codes d vs known found all read code = all code ∙ either-known (has_code vs code) (is_used found code) (some-sourced d vs (nets_of d) found read code)
+
+-- also where no net has a source
+pub unused-codes : (vs : List Variable) (known : KnownCodes) → ((code : List ℕ) → knows known code ≡ (has_code vs code || is_used [] code)) → (code : List ℕ) → knows known code ≡ has_code vs code
+unused-codes vs known all code = all code ∙ either-known (has_code vs code) false (λ e. cc)
 
 pub events-fail : (p q : List ℕ → Bool) (is : List Item) (e : StimFault) → ((code : List ℕ) → p code ≡ q code) → Fails e (events_from p 0 is) → Fails e (events_from q 0 is)
 events-fail p q is e h f = rw (← events-same p q h 0 is) f

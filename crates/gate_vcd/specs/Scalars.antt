@@ -1,13 +1,13 @@
 -- What a reader keeps of the variables: the scalars by their names, the vectors by their bases.
-use Rattle.std.specs.Prelude.{◌≡◌, ◌<◌, ℕ, ◌-◌, Bool, nat_eq, if◌then◌else◌, List, [], ◌∷◌, length, take, codes, Option, Some, None, slice_get, option_map, option_and_then, map, Result, Ok, Err, Vec}
+use Rattle.std.specs.Prelude.{◌≡◌, ◌<◌, ℕ, ◌-◌, Bool, nat_eq, if◌then◌else◌, List, [], ◌∷◌, length, take, codes, Option, Some, None, slice_get, option_map, option_and_then, map, Result, Ok, Err}
 use Rattle.std.specs.List.{ends_with, filter_map}
 use Rattle.std.specs.Borrow.{Bor}
 use Rattle.std.specs.Str.{bytes_eq}
 use Rattle.gate_netlist.specs.declared.seed.TextSeed.{TextSeed}
 use Rattle.indexmap.specs.IndexMap.{IndexMap, get_by}
-use Rattle.std.specs.declared.alloc.Global.{Global}
 use Rattle.gate_vcd.specs.declared.fault.StimFault.{StimFault}
-use Rattle.gate_vcd.specs.declared.source.Source.{Source as HeldSource}
+use Rattle.gate_vcd.specs.declared.inputs.Inputs.{Inputs}
+use Rattle.gate_vcd.specs.declared.inputs.Inputs.TheVariants.{Found, Lacking}
 use Rattle.gate_vcd.specs.declared.vectors.Vector.{Vector as HeldVector}
 use Rattle.gate_vcd.specs.declared.vectors.Bit.{Bit as HeldBit}
 use Rattle.gate_vcd.specs.declared.vectors.Kept.{Kept}
@@ -65,9 +65,9 @@ abbrev pub AreVectors : Vectors → List Variable → Type 0
 AreVectors vectors vs = (base : List ℕ) → Leads vectors.kept.items (length vectors.kept.items) (first_in vectors base) (vectors_of base vs)
 
 -- these are the sources of the nets, or the fault of the first input without one
-abbrev pub AreInputs : Result (Vec (Option HeldSource) Global) StimFault → Result (List (Option Source)) StimFault → Type 0
-AreInputs (Ok sources) reading = reading ≡ Ok (sources_by sources.items)
-AreInputs (Err e) reading = reading ≡ Err e
+abbrev pub AreInputs : Inputs → Result (List (Option Source)) StimFault → Type 0
+AreInputs (Found sources) reading = reading ≡ Ok (sources_by sources.items)
+AreInputs (Lacking e) reading = reading ≡ Err e
 
 -- the numbers of sources
 abbrev pub numbers_of : Sources → List (Option Source) → List (Option ℕ)

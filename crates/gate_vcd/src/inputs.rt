@@ -209,14 +209,22 @@ fn source_of_net<'a>(
     }
 }
 
-/// The sources of the nets, which only inputs have, or the fault of the first input that has none. Only want of
-/// memory is an error of the function itself, since the faults of the changes come before those of the inputs.
+/// Where the nets take their values from, which only inputs do.
+#[derive(Drop)]
+pub enum Inputs<'a> {
+    /// The sources of the nets: each input has one.
+    Found(Vec<Option<Source<'a>>>),
+    /// The fault of the first input that has none.
+    Lacking(StimFault),
+}
+
+/// Where the inputs take their values from. An error is want of memory.
 pub fn inputs_of<'a>(
     alloc: Global,
     seed: TextSeed,
     circuit: &Circuit,
     all: &[Variable<'a>],
-) -> Result<Result<Vec<Option<Source<'a>>>, StimFault>, StimFault>
+) -> Result<Inputs<'a>, StimFault>
     ensures ok { IfOk result (λ inputs. AreInputs inputs (sources_below circuit.now (variables all.now) (nets_of circuit.now))) }
     ensures err { IfErr result (λ e. e ≡ out_of_memory) }
 {
@@ -225,10 +233,10 @@ pub fn inputs_of<'a>(
     for net in 0..circuit.nets() {
         match source_of_net(circuit, net, &given) {
             Ok(source) => sources.push(source)?,
-            Err(fault) => return Ok(Err(fault)),
+            Err(fault) => return Ok(Inputs::Lacking(fault)),
         }
     }
-    Ok(Ok(sources))
+    Ok(Inputs::Found(sources))
 }
 
 /// The number of a source.

@@ -1,12 +1,11 @@
-ghost use Rattle.std.specs.Prelude.{◌≡◌, [], option_map, MatchResult};
+ghost use Rattle.std.specs.Prelude.{◌≡◌, option_map};
 ghost use Rattle.gate_vcd.specs.Stimulus.{IsAnswer};
 
 use crate::changes::read_changes;
 use crate::declarations::read_declarations;
 use crate::fault::StimFault;
-use crate::inputs::{inputs_of, numbers_of};
+use crate::inputs::{Inputs, inputs_of, numbers_of};
 use crate::known::KnownCodes;
-use crate::source::Source;
 use crate::stimulus::Stimulus;
 use crate::words::Words;
 use gate_netlist::{Circuit, TextSeed};
@@ -23,21 +22,20 @@ pub fn read_stimulus(alloc: Global, text: &[u8], circuit: &Circuit) -> Result<St
     let mut words = Words::new(text);
     let declared = read_declarations(alloc, &mut words, asked_scope(circuit))?;
     let seed = TextSeed::of(words.passed(text));
-    let inputs = inputs_of(alloc, seed, circuit, &declared.variables)?;
-    let codes = KnownCodes::of(alloc, seed, &declared.variables, found(&inputs))?;
-    let lists = read_changes(alloc, &mut words, &codes)?;
-    let taken = inputs?;
-    let list_of = numbers_of(alloc, &taken, &codes.used)?;
-    Ok(Stimulus::new(declared.timescale, lists, list_of))
-}
-
-/// The sources of nets, none where some input has none.
-fn found<'v, 'a>(inputs: &'v Result<Vec<Option<Source<'a>>>, StimFault>) -> &'v [Option<Source<'a>>]
-    ensures { MatchResult inputs.now (λ sources. result.now ≡ sources.items) (λ e. result.now ≡ []) }
-{
-    match inputs {
-        Ok(sources) => sources.as_slice(),
-        Err(_) => &[],
+    let variables = declared.variables.as_slice();
+    match inputs_of(alloc, seed, circuit, variables)? {
+        Inputs::Found(sources) => {
+            let codes = KnownCodes::of(alloc, seed, variables, &sources)?;
+            let lists = read_changes(alloc, &mut words, &codes)?;
+            let list_of = numbers_of(alloc, &sources, &codes.used)?;
+            Ok(Stimulus::new(declared.timescale, lists, list_of))
+        }
+        Inputs::Lacking(fault) => {
+            // A fault of the changes comes before that of an input.
+            let codes = KnownCodes::of(alloc, seed, variables, &[])?;
+            read_changes(alloc, &mut words, &codes)?;
+            Err(fault)
+        }
     }
 }
 

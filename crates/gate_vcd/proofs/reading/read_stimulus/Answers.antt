@@ -1,4 +1,4 @@
-use Rattle.std.proofs.Common.{◌≡◌, ◌∙◌, inr, ap, Ok, Result, List}
+use Rattle.std.proofs.Common.{◌≡◌, ◌∙◌, inr, ap, Ok, Err, Result, List}
 use Rattle.std.proofs.lemmas.Result.{err_from_is_err_and}
 use Rattle.gate_vcd.specs.declared.fault.StimFault.{StimFault}
 use Rattle.gate_vcd.specs.Tokens.{Token}
@@ -10,7 +10,7 @@ use Rattle.gate_netlist.specs.Circuit.{nets_of}
 use Rattle.gate_vcd.specs.Inputs.{sources_below}
 use Rattle.gate_vcd.specs.Known.{knows, sources_by}
 use Rattle.gate_vcd.specs.Stimulus.{has_code}
-use Rattle.gate_vcd.proofs.Meaning.{declared-fails, changes-fail, inputs-fail, reads, means, laid, declared-read, known-codes, events-fail, events-read}
+use Rattle.gate_vcd.proofs.Meaning.{declared-fails, changes-fail, inputs-fail, reads, means, laid, declared-read, known-codes, unused-codes, events-fail, events-read}
 use Rattle.gate_vcd.proofs.reading.read_stimulus.Goals as goal
 
 abbrev Read : Type 0
@@ -22,51 +22,56 @@ returns-in_err-declared c =
     rw (p.1, p.2) (declared-fails c.args.text.now c.args.circuit.now _
     (declared-read c.args.circuit.now c.args.text.now _ _ (λ (r : Read). Fails c.in_err-declared.field-0.0 r) c.asked_scope.ensures c.new-words.ensures c.in_err-declared.ensures))
 
-pub returns-in_err-lists : goal.returns-in_err-lists
-returns-in_err-lists c =
-    let p = err_from_is_err_and c.from_residual-in_err-lists.result c.from_residual-in_err-lists.ensures.1 in
+pub returns-in_err-lists-in-Found : goal.returns-in_err-lists-in-Found
+returns-in_err-lists-in-Found c =
+    let p = err_from_is_err_and c.from_residual-in_err-lists-in-Found.result c.from_residual-in_err-lists-in-Found.ensures.1 in
     let (h, declared, is) = c.in_ok-declared.ensures in
     let read = declared-read c.args.circuit.now c.args.text.now _ _ (λ (r : Read). r ≡ Ok (h, c.read_declarations.new.words)) c.asked_scope.ensures c.new-words.ensures declared in
-    let first : variables c.deref.result.now ≡ h.variables = ap variables c.deref.ensures.value ∙ is.variables in
-    let second : variables c.deref-2.result.now ≡ h.variables = ap variables c.deref-2.ensures.value ∙ is.variables in
-    let known = known-codes c.args.circuit.now h.variables c.in_ok-codes.codes c.in_ok-inputs.inputs c.found.result.now (rw (← second) c.in_ok-codes.ensures.all) (rw (← first) c.in_ok-inputs.ensures.ok) c.found.ensures in
+    let same : variables c.as_slice-variables.result.now ≡ h.variables = ap variables c.as_slice-variables.ensures.value ∙ is.variables in
+    let below : sources_below c.args.circuit.now h.variables (nets_of c.args.circuit.now) ≡ Ok (sources_by c.in-Found.sources.items) = rw (← same) (rw c.in-Found.is at c.in_ok-sources.ensures.ok) in
+    let known = known-codes c.args.circuit.now h.variables c.in_ok-codes-in-Found.codes (sources_by c.in-Found.sources.items) (rw (← same, ← c.deref.ensures.value) c.in_ok-codes-in-Found.ensures.all) below in
     rw (p.1, p.2) (changes-fail c.args.text.now c.args.circuit.now _ h c.read_declarations.new.words read
-    (events-fail (knows c.in_ok-codes.codes) (has_code h.variables) (items nothing c.read_declarations.new.words) _ known c.in_err-lists.ensures))
-
-pub returns-in_err-taken : goal.returns-in_err-taken
-returns-in_err-taken c =
-    let p = err_from_is_err_and c.from_residual-in_err-taken.result c.from_residual-in_err-taken.ensures.1 in
-    let (h, declared, is) = c.in_ok-declared.ensures in
-    let read = declared-read c.args.circuit.now c.args.text.now _ _ (λ (r : Read). r ≡ Ok (h, c.read_declarations.new.words)) c.asked_scope.ensures c.new-words.ensures declared in
-    let first : variables c.deref.result.now ≡ h.variables = ap variables c.deref.ensures.value ∙ is.variables in
-    let second : variables c.deref-2.result.now ≡ h.variables = ap variables c.deref-2.ensures.value ∙ is.variables in
-    let known = known-codes c.args.circuit.now h.variables c.in_ok-codes.codes c.in_ok-inputs.inputs c.found.result.now (rw (← second) c.in_ok-codes.ensures.all) (rw (← first) c.in_ok-inputs.ensures.ok) c.found.ensures in
-    let (es, now, events, kept) = c.in_ok-lists.ensures in
-    rw (p.1, p.2) (inputs-fail c.args.text.now c.args.circuit.now _ h c.read_declarations.new.words es read
-    (events-read (knows c.in_ok-codes.codes) (has_code h.variables) (items nothing c.read_declarations.new.words) es known events)
-    (inr (rw (← first) (rw c.in_err-taken.was at c.in_ok-inputs.ensures.ok))))
+    (events-fail (knows c.in_ok-codes-in-Found.codes) (has_code h.variables) (items nothing c.read_declarations.new.words) _ known c.in_err-lists-in-Found.ensures))
 
 pub new-requires : goal.new-requires
 new-requires c =
     let (h, declared, is) = c.in_ok-declared.ensures in
-    let first : variables c.deref.result.now ≡ h.variables = ap variables c.deref.ensures.value ∙ is.variables in
-    let (es, now, events, kept) = c.in_ok-lists.ensures in
-    let shown : c.found.result.now ≡ c.in_ok-taken.taken.items = rw c.in_ok-taken.was at c.found.ensures in
-    laid c.args.circuit.now h c.in_ok-codes.codes.used c.in_ok-lists.lists.items c.in_ok-list_of.list_of.items es now (sources_by c.in_ok-taken.taken.items) (rw (← shown) c.in_ok-codes.ensures.used) kept (rw c.deref-3.ensures.value at c.in_ok-list_of.ensures.ok)
-    (rw (← first) (rw c.in_ok-taken.was at c.in_ok-inputs.ensures.ok)) c.law.ensures.drivers
+    let same : variables c.as_slice-variables.result.now ≡ h.variables = ap variables c.as_slice-variables.ensures.value ∙ is.variables in
+    let (es, now, events, kept) = c.in_ok-lists-in-Found.ensures in
+    laid c.args.circuit.now h c.in_ok-codes-in-Found.codes.used c.in_ok-lists-in-Found.lists.items c.in_ok-list_of-in-Found.list_of.items es now (sources_by c.in-Found.sources.items) (rw (← c.deref.ensures.value) c.in_ok-codes-in-Found.ensures.used) kept
+    (rw c.deref-in-Found.ensures.value at c.in_ok-list_of-in-Found.ensures.ok) (rw (← same) (rw c.in-Found.is at c.in_ok-sources.ensures.ok)) c.law.ensures.drivers
+
+pub returns-in-Found : goal.returns-in-Found
+returns-in-Found c =
+    let (h, declared, is) = c.in_ok-declared.ensures in
+    let read = declared-read c.args.circuit.now c.args.text.now _ _ (λ (r : Read). r ≡ Ok (h, c.read_declarations.new.words)) c.asked_scope.ensures c.new-words.ensures declared in
+    let same : variables c.as_slice-variables.result.now ≡ h.variables = ap variables c.as_slice-variables.ensures.value ∙ is.variables in
+    let below : sources_below c.args.circuit.now h.variables (nets_of c.args.circuit.now) ≡ Ok (sources_by c.in-Found.sources.items) = rw (← same) (rw c.in-Found.is at c.in_ok-sources.ensures.ok) in
+    let known = known-codes c.args.circuit.now h.variables c.in_ok-codes-in-Found.codes (sources_by c.in-Found.sources.items) (rw (← same, ← c.deref.ensures.value) c.in_ok-codes-in-Found.ensures.all) below in
+    let (es, now, events, kept) = c.in_ok-lists-in-Found.ensures in (
+      record { timescale = h.timescale; events = es; sources = sources_by c.in-Found.sources.items },
+      reads c.args.text.now c.args.circuit.now h c.read_declarations.new.words es (sources_by c.in-Found.sources.items) read (events-read (knows c.in_ok-codes-in-Found.codes) (has_code h.variables) (items nothing c.read_declarations.new.words) es known events) below,
+      rw (c.new.ensures, is.timescale) (means c.args.circuit.now h c.in_ok-codes-in-Found.codes.used c.in_ok-lists-in-Found.lists.items c.in_ok-list_of-in-Found.list_of.items es now (sources_by c.in-Found.sources.items) (rw (← c.deref.ensures.value) c.in_ok-codes-in-Found.ensures.used) kept
+          (rw c.deref-in-Found.ensures.value at c.in_ok-list_of-in-Found.ensures.ok) below c.law.ensures.drivers),
+    )
+
+pub returns-in_err-read_changes-in-Lacking : goal.returns-in_err-read_changes-in-Lacking
+returns-in_err-read_changes-in-Lacking c =
+    let p = err_from_is_err_and c.from_residual-in_err-read_changes-in-Lacking.result c.from_residual-in_err-read_changes-in-Lacking.ensures.1 in
+    let (h, declared, is) = c.in_ok-declared.ensures in
+    let read = declared-read c.args.circuit.now c.args.text.now _ _ (λ (r : Read). r ≡ Ok (h, c.read_declarations.new.words)) c.asked_scope.ensures c.new-words.ensures declared in
+    let same : variables c.as_slice-variables.result.now ≡ h.variables = ap variables c.as_slice-variables.ensures.value ∙ is.variables in
+    let known = unused-codes h.variables c.in_ok-codes-in-Lacking.codes (rw (← same) c.in_ok-codes-in-Lacking.ensures.all) in
+    rw (p.1, p.2) (changes-fail c.args.text.now c.args.circuit.now _ h c.read_declarations.new.words read
+    (events-fail (knows c.in_ok-codes-in-Lacking.codes) (has_code h.variables) (items nothing c.read_declarations.new.words) _ known c.in_err-read_changes-in-Lacking.ensures))
 
 pub returns : goal.returns
 returns c =
     let (h, declared, is) = c.in_ok-declared.ensures in
     let read = declared-read c.args.circuit.now c.args.text.now _ _ (λ (r : Read). r ≡ Ok (h, c.read_declarations.new.words)) c.asked_scope.ensures c.new-words.ensures declared in
-    let first : variables c.deref.result.now ≡ h.variables = ap variables c.deref.ensures.value ∙ is.variables in
-    let second : variables c.deref-2.result.now ≡ h.variables = ap variables c.deref-2.ensures.value ∙ is.variables in
-    let known = known-codes c.args.circuit.now h.variables c.in_ok-codes.codes c.in_ok-inputs.inputs c.found.result.now (rw (← second) c.in_ok-codes.ensures.all) (rw (← first) c.in_ok-inputs.ensures.ok) c.found.ensures in
-    let (es, now, events, kept) = c.in_ok-lists.ensures in
-    let shown : c.found.result.now ≡ c.in_ok-taken.taken.items = rw c.in_ok-taken.was at c.found.ensures in
-    let below : sources_below c.args.circuit.now h.variables (nets_of c.args.circuit.now) ≡ Ok (sources_by c.in_ok-taken.taken.items) = rw (← first) (rw c.in_ok-taken.was at c.in_ok-inputs.ensures.ok) in (
-      record { timescale = h.timescale; events = es; sources = sources_by c.in_ok-taken.taken.items },
-      reads c.args.text.now c.args.circuit.now h c.read_declarations.new.words es (sources_by c.in_ok-taken.taken.items) read (events-read (knows c.in_ok-codes.codes) (has_code h.variables) (items nothing c.read_declarations.new.words) es known events) below,
-      rw (c.new.ensures, is.timescale) (means c.args.circuit.now h c.in_ok-codes.codes.used c.in_ok-lists.lists.items c.in_ok-list_of.list_of.items es now (sources_by c.in_ok-taken.taken.items) (rw (← shown) c.in_ok-codes.ensures.used) kept
-          (rw c.deref-3.ensures.value at c.in_ok-list_of.ensures.ok) below c.law.ensures.drivers),
-    )
+    let same : variables c.as_slice-variables.result.now ≡ h.variables = ap variables c.as_slice-variables.ensures.value ∙ is.variables in
+    let known = unused-codes h.variables c.in_ok-codes-in-Lacking.codes (rw (← same) c.in_ok-codes-in-Lacking.ensures.all) in
+    let (es, now, events, kept) = c.in_ok-read_changes-in-Lacking.ensures in
+    let lacking : sources_below c.args.circuit.now h.variables (nets_of c.args.circuit.now) ≡ Err c.in-Lacking.fault = rw (← same) (rw c.in-Lacking.is at c.in_ok-sources.ensures.ok) in
+    inputs-fail c.args.text.now c.args.circuit.now _ h c.read_declarations.new.words es read
+    (events-read (knows c.in_ok-codes-in-Lacking.codes) (has_code h.variables) (items nothing c.read_declarations.new.words) es known events) (inr lacking)
