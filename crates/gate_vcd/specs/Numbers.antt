@@ -1,5 +1,6 @@
 -- Numbers in decimal digits.
-use Rattle.std.specs.Prelude.{ℕ, ◌+◌, ◌-◌, ◌*◌, Bool, not, ◌&&◌, nat_le, nat_eq, length, if◌then◌else◌, List, [], ◌∷◌, Option, Some, None}
+use Rattle.std.specs.Prelude.{ℕ, ◌-◌, Bool, not, ◌&&◌, nat_le, nat_eq, length, map, if◌then◌else◌, List, Option, Some, None}
+use Rattle.std.specs.Int.Digits.{number_from_digits}
 use Rattle.std.specs.List.{list_all}
 
 abbrev pub is_digit : ℕ → Bool
@@ -9,13 +10,9 @@ is_digit b = nat_le 48 b && nat_le b 57
 abbrev pub is_numeral : List ℕ → Bool
 is_numeral text = not (nat_eq (length text) 0) && list_all is_digit text
 
--- the number that these digits make after one that was read
-unfoldable pub number_after : ℕ → List ℕ → ℕ
-number_after n [] = n
-number_after n (b ∷ bs) = number_after (n * 10 + (b - 48)) bs
-
+-- the number that decimal digits write
 abbrev pub number : List ℕ → ℕ
-number digits = number_after 0 digits
+number digits = number_from_digits 10 (map (λ b. b - 48) digits)
 
 -- the number, where it is at most so much
 abbrev pub number_up_to : ℕ → List ℕ → Option ℕ

@@ -1,5 +1,6 @@
 use Rattle.std.proofs.Common.{◌≡◌, ◌≤◌, drop}
-use Rattle.gate_vcd.specs.Numbers.{number, number_after}
+use Rattle.gate_vcd.specs.Numbers.{number}
+use Rattle.gate_vcd.proofs.NumberLaws.{number_after}
 use Rattle.gate_vcd.proofs.numbers.number_up_to.Given as goal
 
 -- the digits left make the number after that of the digits so far
