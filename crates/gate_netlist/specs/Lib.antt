@@ -14,6 +14,7 @@ pub mod Readers
 pub mod Faults
 pub mod Kinds
 pub mod Meaning
+pub mod Members
 pub mod Gives
 pub mod Bench
 pub mod Keys

@@ -6,6 +6,7 @@ ghost use Rattle.gate_netlist.specs.Meaning.{IsRefusal};
 
 mod causes;
 mod flops;
+mod members;
 mod nets;
 mod parts;
 mod values;

@@ -4,7 +4,6 @@ ghost use Rattle.std.specs.Option.{option_map_or};
 ghost use Rattle.std.specs.List.{list_any, list_all, zip};
 ghost use Rattle.std.specs.Str.{bytes_eq};
 ghost use Rattle.toml.specs.Data.{get_member, as_str};
-ghost use Rattle.std.specs.BTreeMap.{keys, values};
 ghost use Rattle.toml.specs.View.{view, table_view};
 ghost use Rattle.gate_netlist.specs.Settings.{as_delay, as_block, as_content, table_at, clock_name};
 ghost use Rattle.gate_netlist.specs.Netlist.{any_net};
@@ -12,7 +11,8 @@ ghost use Rattle.gate_netlist.specs.Symbols.{is_letter};
 ghost use Rattle.gate_netlist.specs.Causes.{is_input_line, is_flop_line, is_driven, is_flop_name, any_member, is_unknown_top, is_gate_key, has_unknown_key, has_unknown_net, is_bad_delay, has_bad_delay, is_name, is_missing_clock, lacks_clock, has_bad_clock, has_bad_init, has_bad_block, cause_of};
 
 use super::flops::clock_of_flop;
-use super::values::{block_of, clock_name, content_of, delay_of, table_at, value_at};
+use super::members::{any_member, any_member_at};
+use super::values::{block_of, clock_name, content_of, delay_of, value_at};
 use crate::bench::{Bench, Definition};
 use crate::fault::SettingsFault;
 use crate::statement::FLOP_WORD;
@@ -46,27 +46,8 @@ pub(crate) fn cause_of(bench: &Bench, table: &Table) -> Option<SettingsFault>
 fn has_unknown_key(table: &Table) -> bool
     ensures { result ≡ has_unknown_key (table_view table.now) }
 {
-    if has_unknown_top(table) {
-        return true;
-    }
-    match table_at(table, "gate") {
-        Some(gates) => has_unknown_gate(gates),
-        None => false,
-    }
-}
-
-fn has_unknown_top(table: &Table) -> bool
-    ensures { result ≡ any_member is_unknown_top (table_view table.now) }
-{
-    some_top_is_unknown(table)
-}
-
-fn some_top_is_unknown(table: &Table) -> bool
-    ensures { result ≡ list_any (λ e. is_unknown_top (string_bytes e.0) (view e.1)) table.now.entries }
-{
-    table
-        .iter()
-        .any(|(key, value)| is_unknown_top(key.as_str(), value))
+    any_member(table, |key, value| is_unknown_top(key, value))
+        || any_member_at(table, "gate", |key, _| !is_gate_key(key))
 }
 
 fn is_unknown_top(key: &str, value: &Value) -> bool
@@ -81,18 +62,6 @@ fn is_unknown_top(key: &str, value: &Value) -> bool
     } else {
         true
     }
-}
-
-fn has_unknown_gate(gates: &Table) -> bool
-    ensures { result ≡ any_member (λ k d. not (is_gate_key k)) (table_view gates.now) }
-{
-    some_gate_is_unknown(gates)
-}
-
-fn some_gate_is_unknown(gates: &Table) -> bool
-    ensures { result ≡ list_any (λ k. not (is_gate_key (string_bytes k))) (keys gates.now) }
-{
-    gates.keys().any(|key| !is_gate_key(key.as_str()))
 }
 
 fn is_gate_key(key: &str) -> bool
@@ -122,43 +91,13 @@ fn has_unknown_net(bench: &Bench, table: &Table) -> bool
 fn has_unknown_net_at(bench: &Bench, table: &Table, key: &str) -> bool
     ensures { result ≡ any_member (λ k d. not (is_driven bench.now k)) (table_at key.now (table_view table.now)) }
 {
-    match table_at(table, key) {
-        Some(nets) => has_unknown_net_in(bench, nets),
-        None => false,
-    }
-}
-
-fn has_unknown_net_in(bench: &Bench, nets: &Table) -> bool
-    ensures { result ≡ any_member (λ k d. not (is_driven bench.now k)) (table_view nets.now) }
-{
-    some_net_is_unknown(bench, nets)
-}
-
-fn some_net_is_unknown(bench: &Bench, nets: &Table) -> bool
-    ensures { result ≡ list_any (λ k. not (is_driven bench.now (string_bytes k))) (keys nets.now) }
-{
-    nets.keys().any(|key| !is_driven(bench, key.as_str()))
+    any_member_at(table, key, |name, _| !is_driven(bench, name))
 }
 
 fn has_unknown_flop_at(bench: &Bench, table: &Table, key: &str) -> bool
     ensures { result ≡ any_member (λ k d. not (is_flop_name bench.now k)) (table_at key.now (table_view table.now)) }
 {
-    match table_at(table, key) {
-        Some(flops) => has_unknown_flop_in(bench, flops),
-        None => false,
-    }
-}
-
-fn has_unknown_flop_in(bench: &Bench, flops: &Table) -> bool
-    ensures { result ≡ any_member (λ k d. not (is_flop_name bench.now k)) (table_view flops.now) }
-{
-    some_flop_is_unknown(bench, flops)
-}
-
-fn some_flop_is_unknown(bench: &Bench, flops: &Table) -> bool
-    ensures { result ≡ list_any (λ k. not (is_flop_name bench.now (string_bytes k))) (keys flops.now) }
-{
-    flops.keys().any(|key| !is_flop_name(bench, key.as_str()))
+    any_member_at(table, key, |name, _| !is_flop_name(bench, name))
 }
 
 /// Whether the name is that of a flip-flop.
@@ -212,22 +151,7 @@ fn has_bad_default(table: &Table) -> bool
 fn has_bad_delay_at(table: &Table, key: &str) -> bool
     ensures { result ≡ any_member is_bad_delay (table_at key.now (table_view table.now)) }
 {
-    match table_at(table, key) {
-        Some(delays) => has_bad_delay_in(delays),
-        None => false,
-    }
-}
-
-fn has_bad_delay_in(delays: &Table) -> bool
-    ensures { result ≡ any_member is_bad_delay (table_view delays.now) }
-{
-    some_delay_is_bad(delays)
-}
-
-fn some_delay_is_bad(delays: &Table) -> bool
-    ensures { result ≡ list_any (λ v. is_none (as_delay (view v))) (values delays.now) }
-{
-    delays.values().any(|value| delay_of(value).is_none())
+    any_member_at(table, key, |_, value| delay_of(value).is_none())
 }
 
 /// Whether a value of `clocks` is no text, or a flip-flop's clock is missing.
@@ -240,22 +164,7 @@ fn has_bad_clock(bench: &Bench, table: &Table) -> bool
 fn has_clock_without_text(table: &Table) -> bool
     ensures { result ≡ any_member (λ k d. is_none (as_str d)) (table_at (codes "clocks") (table_view table.now)) }
 {
-    match table_at(table, "clocks") {
-        Some(clocks) => has_value_without_text(clocks),
-        None => false,
-    }
-}
-
-fn has_value_without_text(clocks: &Table) -> bool
-    ensures { result ≡ any_member (λ k d. is_none (as_str d)) (table_view clocks.now) }
-{
-    some_value_is_no_text(clocks)
-}
-
-fn some_value_is_no_text(clocks: &Table) -> bool
-    ensures { result ≡ list_any (λ v. is_none (as_str (view v))) (values clocks.now) }
-{
-    clocks.values().any(|value| !value.is_str())
+    any_member_at(table, "clocks", |_, value| !value.is_str())
 }
 
 /// Whether the clock of some flip-flop is missing.
@@ -316,22 +225,7 @@ fn may_be_added(table: &Table, name: &str) -> bool
 fn has_bad_init(table: &Table) -> bool
     ensures { result ≡ has_bad_init (table_view table.now) }
 {
-    match table_at(table, "init") {
-        Some(contents) => has_bad_init_in(contents),
-        None => false,
-    }
-}
-
-fn has_bad_init_in(contents: &Table) -> bool
-    ensures { result ≡ any_member (λ k d. is_none (as_content d)) (table_view contents.now) }
-{
-    some_content_is_bad(contents)
-}
-
-fn some_content_is_bad(contents: &Table) -> bool
-    ensures { result ≡ list_any (λ v. is_none (as_content (view v))) (values contents.now) }
-{
-    contents.values().any(|value| content_of(value).is_none())
+    any_member_at(table, "init", |_, value| content_of(value).is_none())
 }
 
 /// Whether the bytes may name a net in a bench text.
@@ -351,20 +245,5 @@ fn all_are_letters(bytes: &[u8]) -> bool
 fn has_bad_block(table: &Table) -> bool
     ensures { result ≡ has_bad_block (table_view table.now) }
 {
-    match table_at(table, "block") {
-        Some(blocks) => has_bad_block_in(blocks),
-        None => false,
-    }
-}
-
-fn has_bad_block_in(blocks: &Table) -> bool
-    ensures { result ≡ any_member (λ k d. is_none (as_block d)) (table_view blocks.now) }
-{
-    some_block_is_bad(blocks)
-}
-
-fn some_block_is_bad(blocks: &Table) -> bool
-    ensures { result ≡ list_any (λ v. is_none (as_block (view v))) (values blocks.now) }
-{
-    blocks.values().any(|value| block_of(value).is_none())
+    any_member_at(table, "block", |_, value| block_of(value).is_none())
 }

@@ -1,7 +1,0 @@
-use Rattle.std.proofs.Common.{◌∙◌, is_none}
-use Rattle.gate_netlist.specs.Settings.{as_delay}
-use Rattle.gate_netlist.proofs.Members.{any_value}
-use Rattle.gate_netlist.proofs.settings.causes.has_bad_delay_in.Goals as goal
-
-pub returns : goal.returns
-returns c = c.some_delay_is_bad.ensures ∙ any_value (λ d. is_none (as_delay d)) c.args.delays.now.entries
