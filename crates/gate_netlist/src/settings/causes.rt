@@ -11,7 +11,7 @@ ghost use Rattle.gate_netlist.specs.Symbols.{is_letter};
 ghost use Rattle.gate_netlist.specs.Causes.{is_input_line, is_flop_line, is_driven, is_flop_name, any_member, is_unknown_top, is_gate_key, has_unknown_key, has_unknown_net, is_bad_delay, has_bad_delay, is_name, is_missing_clock, lacks_clock, has_bad_clock, has_bad_init, has_bad_block, cause_of};
 
 use super::flops::clock_of_flop;
-use super::members::{any_member, any_member_at};
+use super::members::{any_member, any_member_at, any_net};
 use super::values::{block_of, clock_name, content_of, delay_of, value_at};
 use crate::bench::{Bench, Definition};
 use crate::fault::SettingsFault;
@@ -171,28 +171,11 @@ fn has_clock_without_text(table: &Table) -> bool
 fn some_lacks_clock(bench: &Bench, table: &Table) -> bool
     ensures { result ≡ any_net (lacks_clock bench.now (table_view table.now)) bench.now.names bench.now.definitions }
 {
-    lacks_clock_among(
-        bench,
-        table,
+    any_net(
         bench.names.as_slice(),
         bench.definitions.as_slice(),
+        |name, definition| lacks_clock(bench, table, name, definition),
     )
-}
-
-fn lacks_clock_among(
-    bench: &Bench,
-    table: &Table,
-    names: &[String],
-    definitions: &[Definition],
-) -> bool
-    ensures { result ≡ list_any (λ net. lacks_clock bench.now (table_view table.now) (string_bytes net.0) net.1) (zip names.now definitions.now) }
-{
-    names.iter().zip(definitions).any(|(name, definition)| lacks_clock(
-        bench,
-        table,
-        name.as_str(),
-        definition,
-    ))
 }
 
 fn lacks_clock(bench: &Bench, table: &Table, name: &str, definition: &Definition) -> bool

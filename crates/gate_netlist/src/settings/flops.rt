@@ -5,6 +5,7 @@ ghost use Rattle.toml.specs.View.{table_view};
 ghost use Rattle.gate_netlist.specs.Netlist.{any_net};
 ghost use Rattle.gate_netlist.specs.Settings.{table_at, text_at, clock_of_flop, takes_clock, initial_content};
 
+use super::members::any_net;
 use super::values::{clock_name, content_at, table_at, text_at};
 use crate::bench::Definition;
 use gate_values::Logic;
@@ -44,17 +45,11 @@ pub(crate) fn initial_content(table: &Table, flop: &str) -> Logic
 pub(crate) fn some_takes_clock(table: &Table, names: &[String], definitions: &[Definition]) -> bool
     ensures { result ≡ any_net (takes_clock (table_view table.now)) (map string_bytes names.now) definitions.now }
 {
-    takes_clock_among(table, names, definitions)
-}
-
-fn takes_clock_among(table: &Table, names: &[String], definitions: &[Definition]) -> bool
-    ensures { result ≡ list_any (λ net. takes_clock (table_view table.now) (string_bytes net.0) net.1) (zip names.now definitions.now) }
-{
-    names.iter().zip(definitions).any(|(name, definition)| takes_clock(
-        table,
-        name.as_str(),
-        definition,
-    ))
+    any_net(
+        names,
+        definitions,
+        |name, definition| takes_clock(table, name, definition),
+    )
 }
 
 fn takes_clock(table: &Table, name: &str, definition: &Definition) -> bool

@@ -1,10 +1,11 @@
-//! Tests of each member of a table.
-ghost use Rattle.std.specs.Prelude.{◌≡◌};
+//! Tests of each member of a table, and of each net.
+ghost use Rattle.std.specs.Prelude.{◌≡◌, map, string_bytes};
 ghost use Rattle.toml.specs.View.{table_view};
 ghost use Rattle.gate_netlist.specs.Settings.{table_at};
-ghost use Rattle.gate_netlist.specs.Members.{IsAnyMember};
+ghost use Rattle.gate_netlist.specs.Members.{IsAnyMember, IsAnyNet};
 
 use super::values::table_at;
+use crate::bench::Definition;
 use toml::{Table, Value};
 
 /// Whether some member passes the test.
@@ -24,4 +25,19 @@ pub(super) fn any_member_at<F: Fn(&str, &Value) -> bool>(table: &Table, key: &st
         Some(inner) => any_member(inner, test),
         None => false,
     }
+}
+
+/// Whether some net passes the test, by its name and definition.
+pub(super) fn any_net<F: Fn(&str, &Definition) -> bool>(
+    names: &[String],
+    definitions: &[Definition],
+    test: F,
+) -> bool
+    requires { F.IsAlwaysCallable test }
+    ensures { IsAnyNet (F.post test) (map string_bytes names.now) definitions.now result }
+{
+    names
+        .iter()
+        .zip(definitions)
+        .any(|(name, definition)| test(name.as_str(), definition))
 }
