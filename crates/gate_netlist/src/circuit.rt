@@ -179,7 +179,7 @@ impl Circuit {
     }
 
     /// How many nets aren't inputs.
-    pub(crate) fn driven(&self) -> u32
+    pub(crate) fn driven_count(&self) -> u32
         ensures count { result ≡ driven_count self.now.drivers }
         ensures within { result ≤ 1000000 }
     {

@@ -140,7 +140,7 @@ fn even_owners(
     requires within { blocks ≤ 1024 }
     ensures { IfOk result (λ owners. owners.items ≡ (even_cut circuit.now blocks).owners) }
 {
-    let driven = circuit.driven();
+    let driven = circuit.driven_count();
     let mut owners = Vec::new(alloc);
     let mut number = 0;
     circuit.law();

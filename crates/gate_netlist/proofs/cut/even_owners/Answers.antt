@@ -10,5 +10,5 @@ loop-net-preserved c =
       | then-is_input+in_ok-push w ↦ rw (w.number-is, w.owners-is, w.in_ok-push.ensures.items)
           (evenly_input _ _ _ _ _ within (sym c.is_input.ensures ∙ w.if-is_input.true) c.loop-net.invariant)
       | else-is_input+in_ok-push-2 w ↦ rw (w.number-is, w.owners-is, w.in_ok-push-2.ensures.items)
-          (evenly_driven _ _ _ _ _ _ within (sym c.is_input.ensures ∙ w.if-is_input.false) c.driven-driven.ensures.count c.loop-net.invariant)
+          (evenly_driven _ _ _ _ _ _ within (sym c.is_input.ensures ∙ w.if-is_input.false) c.driven_count-driven.ensures.count c.loop-net.invariant)
     ]
