@@ -126,17 +126,6 @@ pub(crate) fn owners_of(
 ) -> Result<Vec<Option<u32>>, AllocError>
     ensures { IfOk result (λ owners. owners.items ≡ owners_of (table_view blocks.now) (map string_bytes names.now) definitions.now) }
 {
-    owners_among(alloc, blocks, names, definitions)
-}
-
-fn owners_among(
-    alloc: Global,
-    blocks: &Table,
-    names: &[String],
-    definitions: &[Definition],
-) -> Result<Vec<Option<u32>>, AllocError>
-    ensures { IfOk result (λ owners. owners.items ≡ map (λ net. net_block (table_view blocks.now) (string_bytes net.0) net.1) (zip names.now definitions.now)) }
-{
     names
         .iter()
         .zip(definitions)
@@ -157,12 +146,6 @@ fn net_block(blocks: &Table, name: &str, definition: &Definition) -> Option<u32>
 /// The greatest block given, 0 where none is.
 pub(crate) fn greatest_block(blocks: &Table) -> u32
     ensures { result ≡ greatest_block (table_view blocks.now) }
-{
-    greatest_of(blocks)
-}
-
-fn greatest_of(blocks: &Table) -> u32
-    ensures { result ≡ fold (λ greatest value. max greatest (unwrap_or (as_block (view value)) 0)) 0 (values blocks.now) }
 {
     blocks.values().fold(0, |greatest, value| {
         greatest.max(block_of(value).unwrap_or(0))
