@@ -37,22 +37,11 @@ pub(crate) fn delays_of(
     ensures { IfOk result (λ delays. delays.items ≡ delays_of (table_view table.now) (map string_bytes names.now) definitions.now) }
 {
     let kinds = kind_delays(table);
-    delays_among(alloc, table_at(table, "net"), &kinds, names, definitions)
-}
-
-fn delays_among(
-    alloc: Global,
-    nets: Option<&Table>,
-    kinds: &KindDelays,
-    names: &[String],
-    definitions: &[Definition],
-) -> Result<Vec<u32>, AllocError>
-    ensures { IfOk result (λ delays. delays.items ≡ map (λ net. delay_among (members_in nets.entry) kinds.now (string_bytes net.0) net.1) (zip names.now definitions.now)) }
-{
+    let nets = table_at(table, "net");
     names
         .iter()
         .zip(definitions)
-        .map(|(name, definition)| net_delay(nets, kinds, name.as_str(), definition))
+        .map(|(name, definition)| net_delay(nets, &kinds, name.as_str(), definition))
         .collect(alloc)
 }
 
