@@ -6,7 +6,8 @@ use Rattle.std.specs.Borrow.{Bor}
 use Rattle.gate_netlist.specs.declared.fault.BenchCause.{BenchCause}
 use Rattle.gate_netlist.specs.declared.fault.BenchCause.TheVariants as cause
 use Rattle.gate_netlist.specs.declared.fault.BenchFault.{BenchFault}
-use Rattle.gate_netlist.specs.Faults.{fault_at, out_of_memory}
+use Rattle.gate_netlist.specs.Faults.{out_of_memory}
+use Rattle.gate_netlist.specs.Inner.Faults.{fault_at}
 use Rattle.gate_netlist.specs.Statements.{Name, Statement}
 use Rattle.gate_netlist.specs.Bench.{◌>>=◌, net_defined, nets_defined, stated, accepted}
 

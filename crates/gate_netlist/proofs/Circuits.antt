@@ -13,13 +13,14 @@ use Rattle.gate_netlist.specs.declared.bench.Definition.{Definition}
 use Rattle.gate_netlist.specs.declared.bench.Definition.TheVariants.{Input, Gate, Flop}
 use Rattle.gate_netlist.specs.declared.driver.Driver.{Driver}
 use Rattle.gate_netlist.specs.declared.driver.Driver.TheVariants as driver
-use Rattle.gate_netlist.specs.Netlist.{Netlist, IsDefinition, place_of, any_net}
+use Rattle.gate_netlist.specs.Netlist.{Netlist, place_of, any_net}
+use Rattle.gate_netlist.specs.Inner.Netlist.{IsDefinition}
 use Rattle.gate_netlist.specs.Cut.{IsOwnership}
 use Rattle.gate_netlist.specs.Circuit.{Design, IsCircuit, CutFits, IsDriven, IsDelay, nets_of, driver_of, nets_used, readers_among, readers_of, is_input, is_clocked_by}
 use Rattle.gate_netlist.specs.Settings.{delay_at, table_at, net_delay, net_block, greatest_block, clock_name, clock_of_flop, takes_clock, delay_of_key}
 use Rattle.gate_netlist.specs.Causes.{is_flop_line}
 use Rattle.gate_netlist.specs.Meaning.{with_clock, driver_by, drivers_of, clock_among, delays_of, cut_of, clocked_circuit, circuit_of}
-use Rattle.gate_netlist.specs.Clocked.{HasClocks}
+use Rattle.gate_netlist.specs.Inner.Clocked.{HasClocks}
 use Rattle.gate_netlist.specs.Statements.{flop_word}
 use Rattle.gate_netlist.proofs.SettingValues.{unwrap_or_fits, delay_at-IsDelay, delay_of_key-IsDelay, greatest_block-within, block_at-le}
 

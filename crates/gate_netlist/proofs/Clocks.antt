@@ -12,11 +12,12 @@ use Rattle.gate_netlist.specs.declared.bench.Definition.{Definition}
 use Rattle.gate_netlist.specs.declared.bench.Definition.TheVariants.{Input, Gate, Flop}
 use Rattle.gate_netlist.specs.declared.fault.SettingsFault.{SettingsFault}
 use Rattle.gate_netlist.specs.declared.fault.SettingsFault.TheVariants.{UnknownKey, UnknownNet, BadDelay, BadCut, BadClock, BadInit}
-use Rattle.gate_netlist.specs.Netlist.{Netlist, IsNetlist, IsDefinition, net_named, any_net}
+use Rattle.gate_netlist.specs.Netlist.{Netlist, net_named, any_net}
+use Rattle.gate_netlist.specs.Inner.Netlist.{IsNetlist, IsDefinition}
 use Rattle.gate_netlist.specs.Settings.{table_at, clock_name, clock_of_flop, takes_clock}
 use Rattle.gate_netlist.specs.Causes.{is_flop_line, any_member, is_name, is_missing_clock, lacks_clock, has_unknown_key, has_unknown_net, has_bad_delay, has_bad_block, has_bad_clock, has_bad_init, cause_of}
 use Rattle.gate_netlist.specs.Meaning.{with_input, with_clock}
-use Rattle.gate_netlist.specs.Clocked.{HasClocks}
+use Rattle.gate_netlist.specs.Inner.Clocked.{HasClocks}
 use Rattle.gate_netlist.proofs.Distinct.{length-le-bound}
 use Rattle.gate_netlist.proofs.Differing.{names_differ_more, absent}
 

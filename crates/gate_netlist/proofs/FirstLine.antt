@@ -6,7 +6,7 @@ use Rattle.std.proofs.lemmas.List.{take_rest, get_or-take, length-take, take-app
 use Rattle.std.proofs.lemmas.List.Quantifiers.{position-Some}
 use Rattle.std.proofs.lemmas.List.Sums.{fails_before_first}
 use Rattle.gate_netlist.specs.Lines.{lines_of, at_front, begins_with_feed}
-use Rattle.gate_netlist.specs.Passes.{without_return}
+use Rattle.gate_netlist.specs.Inner.Passes.{without_return}
 
 abbrev is_feed : ℕ → Bool
 is_feed b = eqb b 10

@@ -5,9 +5,9 @@ use Rattle.std.proofs.lemmas.List.{append-nil, ext_get_or}
 use Rattle.std.proofs.lemmas.List.Elements.{filter-append, All-push}
 use Rattle.std.proofs.lemmas.List.FromFn.{length-map-range_with_len, get_or-map-range_with_len}
 use Rattle.gate_netlist.specs.declared.groups.Keyed.{Keyed}
-use Rattle.gate_netlist.specs.Groups.{group}
+use Rattle.gate_netlist.specs.Inner.Groups.{group}
 use Rattle.gate_netlist.specs.Cut.{IsOwnership, is_owner, own_among, own_nets}
-use Rattle.gate_netlist.specs.Owned.{AreOwned}
+use Rattle.gate_netlist.specs.Inner.Owned.{AreOwned}
 use Rattle.gate_netlist.proofs.Grouping.{group_push, range_more}
 
 own_among_more : (owners : List (Option ℕ)) (i b : ℕ) → own_among owners (i + 1) b ≡ own_among owners i b ++ cond (is_owner b (get_or owners i None)) (i ∷ []) []

@@ -14,12 +14,14 @@ use Rattle.gate_netlist.specs.declared.fault.BenchCause.{BenchCause}
 use Rattle.gate_netlist.specs.declared.fault.BenchFault.{BenchFault}
 use Rattle.gate_netlist.specs.declared.statement.GateWord.{GateWord}
 use Rattle.gate_netlist.specs.declared.statement.GateWord.TheVariants as word
-use Rattle.gate_netlist.specs.Faults.{fault_at, out_of_memory}
-use Rattle.gate_netlist.specs.Netlist.{IsDefinition, NamesDiffer, Netlist, IsNetlist}
+use Rattle.gate_netlist.specs.Faults.{out_of_memory}
+use Rattle.gate_netlist.specs.Inner.Faults.{fault_at}
+use Rattle.gate_netlist.specs.Netlist.{NamesDiffer, Netlist}
+use Rattle.gate_netlist.specs.Inner.Netlist.{IsDefinition, IsNetlist}
 use Rattle.gate_netlist.specs.Symbols.{Symbol, Open, Close, Equals, Word, code_of, symbols, is_clean}
 use Rattle.gate_netlist.specs.Statements.{Name, Statement, Nothing, Input, Output, Gate, Flop, says, gate_of, arguments, takes, driven, driven_by, statement_of, meaning_of}
 use Rattle.gate_netlist.specs.Bench.{◌>>=◌, net_defined, is_among, refusal, unless, stated, at_line, accepted, nets_defined, uses_other, number_among, definition_of, output_of, with_last, each_once, netlist_by, unless_undriven, resolved, bench_of}
-use Rattle.gate_netlist.specs.Passes.{defined_names, linked}
+use Rattle.gate_netlist.specs.Inner.Passes.{defined_names, linked}
 use Rattle.gate_netlist.specs.declared.fault.BenchCause.TheVariants.{Undriven}
 use Rattle.gate_netlist.specs.declared.fault.BenchCause.TheVariants as cause
 use Rattle.gate_netlist.specs.Lines.{lines_of}

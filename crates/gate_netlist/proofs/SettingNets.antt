@@ -15,7 +15,7 @@ use Rattle.gate_netlist.specs.Netlist.{any_net}
 use Rattle.gate_netlist.specs.Settings.{as_block, table_at, delay_of_key, net_delay, greatest_block}
 use Rattle.gate_netlist.specs.declared.settings.nets.KindDelays.{KindDelays}
 use Rattle.gate_netlist.specs.Meaning.{delays_of}
-use Rattle.gate_netlist.specs.Kinds.{kind_delays, delay_of_kind, members_in, delay_among}
+use Rattle.gate_netlist.specs.Inner.Kinds.{kind_delays, delay_of_kind, members_in, delay_among}
 
 -- over names as texts, and over their bytes
 pub map-zip-names : {X : Type 0} (f : List ℕ → Definition → X) (names : List (String Global)) (ds : List Definition)

@@ -6,9 +6,9 @@ use Rattle.std.proofs.lemmas.List.{drop-drop, drop-map, drop_all}
 use Rattle.gate_netlist.specs.declared.fault.BenchCause.{BenchCause}
 use Rattle.gate_netlist.specs.declared.fault.BenchCause.TheVariants.{BadLine, BadName}
 use Rattle.gate_netlist.specs.declared.token.Token.{Token}
-use Rattle.gate_netlist.specs.Tokens.{symbol_of, symbols_of}
+use Rattle.gate_netlist.specs.Inner.Tokens.{symbol_of, symbols_of}
 use Rattle.gate_netlist.specs.Symbols.{Symbol, Open, Close, Comma, Equals, Word, code_of, is_allowed, is_end, symbols}
-use Rattle.gate_netlist.specs.Splits.{word_first, after_open, has_comma, after_equals, closes}
+use Rattle.gate_netlist.specs.Inner.Splits.{word_first, after_open, has_comma, after_equals, closes}
 use Rattle.gate_netlist.specs.Statements.{Name, Statement, Nothing, named, arguments, marked, driven_by, statement_of, meaning_of}
 
 abbrev pub named_from : Option (List ℕ × List Symbol) → Option (List Name)

@@ -55,11 +55,6 @@ bench_fault_text fault = codes "line " ++ decimal fault.line ++ codes ": " ++ be
 abbrev pub out_of_memory : BenchFault
 out_of_memory = record { line = 0; cause = bench.Memory }
 
--- a cause at a line; want of memory has no line
-abbrev pub fault_at : ℕ → BenchCause → BenchFault
-fault_at line bench.Memory = out_of_memory
-fault_at line cause = record { line = line; cause = cause }
-
 -- want of memory is at no line
 abbrev pub MemoryHasNoLine : BenchFault → Type 0
 MemoryHasNoLine fault = fault.cause ≡ bench.Memory → fault ≡ out_of_memory

@@ -64,12 +64,6 @@ clocked_circuit ms b = record {
 unfoldable pub circuit_of : Netlist → Members → Design
 circuit_of b ms = clocked_circuit ms (with_clock ms b)
 
--- why a text may be refused before it is a document: it is none, or memory ended
-abbrev pub IsRefusal : List ℕ → SettingsFault → Type 0
-IsRefusal text Memory = Unit {0}
-IsRefusal text Toml = (ms : Members) → IsDocument text ms → ⊥
-IsRefusal text _ = ⊥
-
 -- what may be answered to a settings text on a bench
 abbrev pub IsAnswer : Netlist → List ℕ → Result Design SettingsFault → Type 0
 IsAnswer b text (Ok d) = (ms : Members) × IsDocument text ms × (cause_of b ms ≡ None) × (d ≡ circuit_of b ms)

@@ -24,11 +24,12 @@ pub struct Bench {
 }
 
 impl Model for Bench {
-    ghost use Rattle.gate_netlist.specs.Netlist.{Netlist, IsNetlist};
+    ghost use Rattle.gate_netlist.specs.Netlist.{Netlist};
+    ghost use Rattle.gate_netlist.specs.Inner.Netlist.{IsNetlist};
 
     ghost Value = { Netlist };
 
-    ghost use Rattle.gate_netlist.specs.HeldBench.{bench_netlist};
+    ghost use Rattle.gate_netlist.specs.Inner.HeldBench.{bench_netlist};
 
     ghost view = { bench_netlist };
 

@@ -1,6 +1,6 @@
 ghost use Rattle.std.specs.Prelude.{◌≡◌, ◌<◌, ◌≤◌, ◌↔◌, IsTrue, IfOk, length};
 ghost use Rattle.gate_netlist.specs.Cut.{owner_of, own_nets, IsOwnership};
-ghost use Rattle.gate_netlist.specs.Owned.{AreOwned};
+ghost use Rattle.gate_netlist.specs.Inner.Owned.{AreOwned};
 ghost use Rattle.gate_netlist.specs.Circuit.{CutFits};
 ghost use Rattle.gate_netlist.specs.Even.{even_cut};
 
@@ -22,7 +22,7 @@ impl Model for Cut {
 
     ghost Value = { Ownership };
 
-    ghost use Rattle.gate_netlist.specs.HeldCut.{ownership_of, IsHeldCut};
+    ghost use Rattle.gate_netlist.specs.Inner.HeldCut.{ownership_of, IsHeldCut};
 
     ghost view = { ownership_of };
 

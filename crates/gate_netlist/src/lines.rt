@@ -1,6 +1,7 @@
 ghost use Rattle.std.specs.Prelude.{◌≡◌, ◌<◌, ◌∷◌, ◌==◌, length, position, IfSome};
 ghost use Rattle.gate_netlist.specs.Lines.{lines_of};
-ghost use Rattle.gate_netlist.specs.Passes.{lines_after, without_return};
+ghost use Rattle.gate_netlist.specs.Passes.{lines_after};
+ghost use Rattle.gate_netlist.specs.Inner.Passes.{without_return};
 
 /// The first line of a text without its end, and what follows the end: none after the last line.
 /// A line ends by LF or CRLF.

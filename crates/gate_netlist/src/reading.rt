@@ -1,12 +1,13 @@
 ghost use Rattle.std.specs.Prelude.{◌≡◌, ◌≤◌, ◌++◌, ◌∷◌, [], length, map, Some, Ok, IfOk, IfErr, OnOk, option_to_list, option_map};
 ghost use Rattle.std.specs.List.{list_all};
 ghost use Rattle.gate_netlist.specs.declared.fault.BenchCause.TheVariants as cause;
-ghost use Rattle.gate_netlist.specs.Faults.{out_of_memory, fault_at, MemoryHasNoLine};
+ghost use Rattle.gate_netlist.specs.Faults.{out_of_memory, MemoryHasNoLine};
+ghost use Rattle.gate_netlist.specs.Inner.Faults.{fault_at};
 ghost use Rattle.gate_netlist.specs.Gives.{Gives};
-ghost use Rattle.gate_netlist.specs.Meant.{meant};
-ghost use Rattle.gate_netlist.specs.Keys.{names_in};
+ghost use Rattle.gate_netlist.specs.Inner.Meant.{meant};
+ghost use Rattle.gate_netlist.specs.Inner.Keys.{names_in};
 ghost use Rattle.gate_netlist.specs.Bench.{net_defined, refusal, unless, stated, is_among, uses_other, number_among, definition_of, output_of, each_once, bench_of};
-ghost use Rattle.gate_netlist.specs.Passes.{defined_names, linked};
+ghost use Rattle.gate_netlist.specs.Inner.Passes.{defined_names, linked};
 
 use crate::bench::{Bench, Definition, Names};
 use crate::fault::{BenchCause, BenchFault};
@@ -137,7 +138,7 @@ fn uses_other(names: &Names, statement: &Statement) -> bool
 }
 
 /// What a line says, where each net that it uses is one of these.
-#[tactic(auto, unfolding(crate::specs::Passes::linked))]
+#[tactic(auto, unfolding(crate::specs::Inner::Passes::linked))]
 fn linked<'a, 'b>(
     buffers: &'b mut Buffers<'a>,
     names: &Names,

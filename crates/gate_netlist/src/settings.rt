@@ -2,7 +2,7 @@
 ghost use Rattle.std.specs.Prelude.{◌≡◌, MatchResult};
 ghost use Rattle.toml.specs.View.{table_view};
 ghost use Rattle.gate_netlist.specs.Settings.{IsDocument};
-ghost use Rattle.gate_netlist.specs.Meaning.{IsRefusal};
+ghost use Rattle.gate_netlist.specs.Inner.Meaning.{IsRefusal};
 
 mod causes;
 mod flops;

@@ -3,9 +3,9 @@ ghost use Rattle.std.specs.Str.{str_eq_ignore_ascii_case};
 ghost use Rattle.gate_netlist.specs.declared.fault.BenchCause.TheVariants as cause;
 ghost use Rattle.gate_netlist.specs.Gives.{Gives};
 ghost use Rattle.gate_netlist.specs.Statements.{gate_of, takes, named, arguments, marked, driven, statement_of, meaning_of};
-ghost use Rattle.gate_netlist.specs.Meant.{meant, names_meant};
+ghost use Rattle.gate_netlist.specs.Inner.Meant.{meant, names_meant};
 ghost use Rattle.gate_netlist.specs.Symbols.{Word, Open, Equals};
-ghost use Rattle.gate_netlist.specs.Tokens.{symbols_of};
+ghost use Rattle.gate_netlist.specs.Inner.Tokens.{symbols_of};
 
 use crate::fault::BenchCause;
 use crate::token::{

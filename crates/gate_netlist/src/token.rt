@@ -1,8 +1,8 @@
 ghost use Rattle.std.specs.Prelude.{◌≡◌, ◌==◌, ◌<◌, ◌∷◌, ◌++◌, not, length, option_map, option_to_list, OnOk, true};
 ghost use Rattle.std.specs.List.{list_all, list_any, prefix_len};
 ghost use Rattle.gate_netlist.specs.Symbols.{Word, code_of, mark_of, is_letter, begins_with_letter, is_allowed, is_end, symbols};
-ghost use Rattle.gate_netlist.specs.Splits.{word_first, after_open, has_comma, after_equals, closes};
-ghost use Rattle.gate_netlist.specs.Tokens.{symbol_of, symbols_of};
+ghost use Rattle.gate_netlist.specs.Inner.Splits.{word_first, after_open, has_comma, after_equals, closes};
+ghost use Rattle.gate_netlist.specs.Inner.Tokens.{symbol_of, symbols_of};
 
 use std::alloc::AllocError;
 

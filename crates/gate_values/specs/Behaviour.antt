@@ -1,6 +1,5 @@
 -- The value of each net of a circuit at each time.
 use Rattle.std.specs.Prelude.{ℕ, zero, suc, ◌<◌, List, [], ◌∷◌, map, length}
-use Rattle.std.specs.List.{AllByRecursion}
 use Rattle.gate_values.specs.declared.logic.Logic.{Logic}
 use Rattle.gate_values.specs.declared.logic.Logic.TheVariants.{X}
 use Rattle.gate_values.specs.declared.gate.Kind.{Kind}
@@ -91,9 +90,3 @@ abbrev pub IsWellFormed : Source → Type 0
 IsWellFormed Outside = Unit {0}
 IsWellFormed (Gate kind delay inputs) = (0 < delay) × HasInputs kind (length inputs)
 IsWellFormed (Flop delay data_net clock initial) = 0 < delay
-
--- it is set by a gate or a flip-flop, which takes at least one moment and reads nets of N alone
-abbrev pub IsOver : (ℕ → Type 0) → Source → Type 0
-IsOver N Outside = ⊥
-IsOver N (Gate kind delay inputs) = (0 < delay) × AllByRecursion N inputs
-IsOver N (Flop delay data_net clock initial) = (0 < delay) × N data_net × N clock

@@ -11,10 +11,11 @@ use Rattle.gate_vcd.specs.declared.known.KnownCodes.{KnownCodes}
 use Rattle.gate_vcd.specs.Tokens.{Token, fault_at}
 use Rattle.gate_vcd.specs.Numbers.{number}
 use Rattle.gate_netlist.specs.Bench.{◌>>=◌}
-use Rattle.gate_vcd.specs.Reading.{Fails, Gives}
+use Rattle.gate_vcd.specs.Reading.{Fails}
+use Rattle.gate_vcd.specs.Inner.Reading.{Gives}
 use Rattle.gate_vcd.specs.Changes.{Item, stamp, change, wrong, Event, events_from, event_at, stamped, last_stamp}
-use Rattle.gate_vcd.specs.Items.{AreHeld, AreKept, IsTaken, Taken, TakesItem, fault_of}
-use Rattle.gate_vcd.specs.Known.{knows, source, sources_in}
+use Rattle.gate_vcd.specs.Inner.Items.{AreHeld, AreKept, IsTaken, Taken, TakesItem, fault_of}
+use Rattle.gate_vcd.specs.Inner.Known.{knows, source, sources_in}
 use Rattle.gate_vcd.proofs.DeclarationLaws.{fails_then}
 use Rattle.gate_vcd.proofs.Keeping.{past-later}
 use Rattle.gate_vcd.proofs.Holding.{held-none}

@@ -1,8 +1,9 @@
 -- Texts that pass one behind another.
 use Rattle.std.proofs.Common.{◌≡◌, ℕ, List, [], ◌++◌, refl, ap, sym, ◌∙◌, subst, append_assoc}
 use Rattle.std.proofs.lemmas.List.{append-nil}
-use Rattle.gate_vcd.specs.Sink.{Held, Writes}
-use Rattle.gate_vcd.specs.Lots.{Lot, Passes}
+use Rattle.gate_vcd.specs.Sink.{Held}
+use Rattle.gate_vcd.specs.Inner.Sink.{Writes}
+use Rattle.gate_vcd.specs.Inner.Lots.{Lot, Passes}
 use Rattle.gate_vcd.proofs.Writing.{writes_then, writes_none}
 
 -- a text, and then another

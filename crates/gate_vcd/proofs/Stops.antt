@@ -12,8 +12,8 @@ use Rattle.gate_values.specs.declared.logic.Logic.{Logic}
 use Rattle.gate_values.specs.Changes.{same, just_before}
 use Rattle.gate_values.proofs.ChangeLists.{change_option}
 use Rattle.gate_vcd.specs.Dump.{stamp, value_line, has_change, some_change, change_lines, moment, moments}
-use Rattle.gate_vcd.specs.Waves.{by_time}
-use Rattle.gate_vcd.specs.Walk.{Stop, stop_lines, walked, last_stop, tail_line}
+use Rattle.gate_vcd.specs.Inner.Waves.{by_time}
+use Rattle.gate_vcd.specs.Inner.Walk.{Stop, stop_lines, walked, last_stop, tail_line}
 use Rattle.gate_vcd.proofs.Waving.{at_place, at_other, by_time_total, by_time_exact}
 use Rattle.gate_vcd.proofs.Compared.{eq_true, eq_false, lt_true, lt_false, cases_eq, cases_lt, cases_below}
 

@@ -5,7 +5,7 @@ use Rattle.std.proofs.lemmas.Option.{same_Some}
 use Rattle.std.proofs.lemmas.Slice.Eq.{bytes_eq-Decides}
 use Rattle.std.specs.Str.{bytes_eq}
 use Rattle.gate_vcd.specs.Declarations.{is_code}
-use Rattle.gate_vcd.specs.Table.{found_at, is_short, short_place, spelled}
+use Rattle.gate_vcd.specs.Inner.Table.{found_at, is_short, short_place, spelled}
 use Rattle.gate_vcd.proofs.Compared.{cases_eq}
 use Rattle.gate_vcd.proofs.Keeping.{same_bytes}
 

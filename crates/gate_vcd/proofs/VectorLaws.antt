@@ -8,13 +8,13 @@ use Rattle.std.specs.Str.{bytes_eq}
 use Rattle.gate_vcd.specs.declared.variable.Variable.{Variable as Held}
 use Rattle.gate_vcd.specs.declared.vectors.Kept.{Kept}
 use Rattle.gate_vcd.specs.declared.vectors.Vectors.{Vectors}
-use Rattle.gate_vcd.specs.Commands.{variable, variables}
+use Rattle.gate_vcd.specs.Inner.Commands.{variable, variables}
 use Rattle.gate_vcd.specs.Declarations.{Variable}
 use Rattle.gate_vcd.specs.Changes.{Source}
 use Rattle.gate_vcd.specs.Vectors.{Vector, Bit, vector_of, place_in}
 use Rattle.std.specs.Option.{option_or}
 use Rattle.gate_vcd.specs.Inputs.{first_given, source_in}
-use Rattle.gate_vcd.specs.Scalars.{AreVectors, Leads, first_in, vector, vectors_of}
+use Rattle.gate_vcd.specs.Inner.Scalars.{AreVectors, Leads, first_in, vector, vectors_of}
 use Rattle.gate_vcd.proofs.Compared.{eq_true, eq_false}
 use Rattle.std.proofs.lemmas.Option.{same_Some}
 use Rattle.gate_vcd.proofs.InputLaws.{turned}

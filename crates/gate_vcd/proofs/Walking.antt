@@ -4,9 +4,9 @@ use Rattle.std.proofs.lemmas.List.{append-nil}
 use Rattle.std.specs.List.{AllByRecursion}
 use Rattle.gate_values.specs.declared.logic.Logic.{Logic}
 use Rattle.gate_vcd.specs.Sink.{Held}
-use Rattle.gate_vcd.specs.Lots.{Lot, Passes}
+use Rattle.gate_vcd.specs.Inner.Lots.{Lot, Passes}
 use Rattle.gate_vcd.specs.Dump.{stamp, value_line}
-use Rattle.gate_vcd.specs.Walk.{Stop, stop_lines, walked, last_stop, IsWalked}
+use Rattle.gate_vcd.specs.Inner.Walk.{Stop, stop_lines, walked, last_stop, IsWalked}
 use Rattle.gate_vcd.proofs.Passing.{passes_then, passes_none}
 use Rattle.gate_vcd.proofs.Compared.{eq_false}
 

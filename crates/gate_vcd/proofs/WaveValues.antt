@@ -7,7 +7,8 @@ use Rattle.gate_values.specs.declared.logic.Logic.TheVariants.{X}
 use Rattle.gate_values.specs.declared.logic.Change.{Change}
 use Rattle.gate_values.specs.Changes.{same, just_before, change_at, changes, latest, last_value, pair_at}
 use Rattle.gate_values.proofs.ChangeLists.{change_option, same_refl, same_is, last_value-changes}
-use Rattle.gate_vcd.specs.Waves.{wave_of, wave_value, end_time, Follows, IsWaveFrom, IsWave, IsUntil, by_time, IsOrderOf}
+use Rattle.gate_vcd.specs.Waves.{wave_of, wave_value, end_time, Follows, IsWaveFrom, IsWave, IsUntil}
+use Rattle.gate_vcd.specs.Inner.Waves.{by_time, IsOrderOf}
 use Rattle.gate_vcd.proofs.Waving.{pair_at-end, IsWaveFrom-push}
 use Rattle.gate_vcd.proofs.Stops.{all_stops, entries_are}
 use Rattle.gate_vcd.proofs.Compared.{eq_true, eq_false, le_true, le_false, cases_three, cases_below}

@@ -16,8 +16,9 @@ use Rattle.gate_values.specs.declared.logic.Logic.{Logic}
 use Rattle.gate_values.specs.declared.logic.Logic.TheVariants.{X}
 use Rattle.gate_values.specs.declared.logic.Change.{Change}
 use Rattle.gate_values.specs.Changes.{last_value, pair_at}
-use Rattle.gate_vcd.specs.Waves.{wave_of, end_time, Follows, IsWaveFrom, IsWave, by_time, IsOrderOf}
-use Rattle.gate_vcd.specs.HeldWaves.{IsInStep}
+use Rattle.gate_vcd.specs.Waves.{wave_of, end_time, Follows, IsWaveFrom, IsWave}
+use Rattle.gate_vcd.specs.Inner.Waves.{by_time, IsOrderOf}
+use Rattle.gate_vcd.specs.Inner.HeldWaves.{IsInStep}
 use Rattle.gate_vcd.proofs.Compared.{eq_true, eq_false, cases_eq, is_eq_Equal}
 
 -- the order by time is a total one, and tells all places apart

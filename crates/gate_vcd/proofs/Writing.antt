@@ -3,7 +3,8 @@ use Rattle.std.proofs.Common.{◌≡◌, ℕ, zero, suc, ◌+◌, ◌-◌, ◌<�
 use Rattle.std.proofs.lemmas.List.{append-nil, take-append-le, take_rest, take_all}
 use Rattle.std.proofs.lemmas.Bool.{ne_eqb}
 use Rattle.std.proofs.Math.Seq.{take-append-add}
-use Rattle.gate_vcd.specs.Sink.{Held, Writes, is_failure}
+use Rattle.gate_vcd.specs.Sink.{Held, is_failure}
+use Rattle.gate_vcd.specs.Inner.Sink.{Writes}
 
 abbrev no_bytes : List ℕ
 no_bytes = []

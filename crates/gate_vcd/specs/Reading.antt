@@ -13,8 +13,3 @@ or_fault None t cause = Err (fault_at t cause)
 -- the fault is that of the reading, or want of memory
 abbrev pub Fails : {A : Type 0} → StimFault → Result A StimFault → Type 0
 Fails e reading = (e ≡ out_of_memory) ⊎ (reading ≡ Err e)
-
--- What a function answers, seen by view, is what the reading gives, unless memory ran out.
-abbrev pub Gives : {X A : Type 0} → (X → A) → Result X StimFault → Result A StimFault → Type 0
-Gives view (Ok x) reading = reading ≡ Ok (view x)
-Gives view (Err e) reading = Fails e reading

@@ -1,12 +1,9 @@
 -- Waves: for each net the list of its changes.
-use Rattle.std.specs.Prelude.{◌≡◌, ◌≢◌, ℕ, ◌+◌, ◌≤◌, List, [], ◌∷◌, get_or}
-use Rattle.std.specs.Ordering.{nat_cmp, ordering_then}
-use Rattle.std.specs.declared.cmp.Ordering.{Ordering}
-use Rattle.std.specs.BTreeMap.{BTreeMap, get}
+use Rattle.std.specs.Prelude.{◌≢◌, ℕ, ◌+◌, ◌≤◌, List, [], ◌∷◌, get_or}
 use Rattle.gate_values.specs.declared.logic.Logic.{Logic}
 use Rattle.gate_values.specs.declared.logic.Logic.TheVariants.{X}
 use Rattle.gate_values.specs.declared.logic.Change.{Change}
-use Rattle.gate_values.specs.Changes.{latest, last_value, pair_at}
+use Rattle.gate_values.specs.Changes.{latest, last_value}
 
 -- the changes of a net; none where there is no such net
 abbrev pub wave_of : List (List Change) → ℕ → List Change
@@ -37,11 +34,3 @@ IsWave cs = IsWaveFrom 0 X cs
 -- no change is later than the horizon
 abbrev pub IsUntil : ℕ → List Change → Type 0
 IsUntil horizon cs = end_time 0 cs ≤ horizon + 1
-
--- by time, and at one time by net
-abbrev pub by_time : ℕ × ℕ → ℕ × ℕ → Ordering
-by_time x y = ordering_then (nat_cmp x.0 y.0) (nat_cmp x.1 y.1)
-
--- The order has the changes of the lists and no others, each at its time and net.
-abbrev pub IsOrderOf : List (List Change) → BTreeMap (ℕ × ℕ) Logic → Type 0
-IsOrderOf lists order = (t n : ℕ) → get by_time order (t, n) ≡ pair_at (wave_of lists n) t

@@ -2,11 +2,12 @@ ghost use Rattle.std.specs.Prelude.{◌≡◌, ◌<◌, ◌-◌, ◌++◌, ◌�
 ghost use Rattle.gate_values.specs.Changes.{same};
 ghost use Rattle.gate_vcd.specs.Changes.{Event, Source as TextSource, Item as TextItem, events_from, items, nothing, stamped};
 ghost use Rattle.gate_vcd.specs.Faults.{out_of_memory};
-ghost use Rattle.gate_vcd.specs.Items.{AreHeld, AreSettled, AreTaken, IsTaken, TakesItem, ends_at, item_of, last_of, reaches, settled, taken_in, undone, value_after};
-ghost use Rattle.gate_vcd.specs.Known.{IsLinked, knows, source, sources_in};
-ghost use Rattle.gate_vcd.specs.Lists.{lists_in};
-ghost use Rattle.gate_vcd.specs.Reading.{Fails, Gives};
-ghost use Rattle.gate_vcd.specs.Words.{bytes_of, texts, token_of};
+ghost use Rattle.gate_vcd.specs.Inner.Items.{AreHeld, AreSettled, AreTaken, IsTaken, TakesItem, ends_at, item_of, last_of, reaches, settled, taken_in, undone, value_after};
+ghost use Rattle.gate_vcd.specs.Inner.Known.{IsLinked, knows, source, sources_in};
+ghost use Rattle.gate_vcd.specs.Inner.Lists.{lists_in};
+ghost use Rattle.gate_vcd.specs.Reading.{Fails};
+ghost use Rattle.gate_vcd.specs.Inner.Reading.{Gives};
+ghost use Rattle.gate_vcd.specs.Inner.Words.{bytes_of, texts, token_of};
 
 use crate::digits::{past_end, value_at_place};
 use crate::fault::{StimCause, StimFault};
@@ -134,7 +135,7 @@ fn differ(value: Logic, other: Logic) -> bool
 }
 
 /// Whether a place may have another value under new digits than under those before.
-#[tactic(auto, unfolding(crate::specs::Items::reaches))]
+#[tactic(auto, unfolding(crate::specs::Inner::Items::reaches))]
 fn reaches(had: &[u8], digits: &[u8], place: u64) -> bool
     ensures { result ≡ reaches had.now digits.now place }
 {

@@ -5,11 +5,11 @@ ghost use Rattle.std.specs.List.{AllByRecursion};
 ghost use Rattle.gate_netlist.specs.Circuit.{nets_of};
 ghost use Rattle.gate_values.specs.declared.logic.Logic.TheVariants.{X};
 ghost use Rattle.gate_values.specs.Changes.{latest};
-ghost use Rattle.gate_vcd.specs.Sink.{Writes};
-ghost use Rattle.gate_vcd.specs.Lots.{Passes};
+ghost use Rattle.gate_vcd.specs.Inner.Sink.{Writes};
+ghost use Rattle.gate_vcd.specs.Inner.Lots.{Passes};
 ghost use Rattle.gate_vcd.specs.Waves.{wave_of, wave_value, IsWave, IsUntil};
 ghost use Rattle.gate_vcd.specs.Dump.{header, var_lines, first_lines, moments, dump_text, vcd_text};
-ghost use Rattle.gate_vcd.specs.Walk.{stop_lines, walked, last_stop, tail_line};
+ghost use Rattle.gate_vcd.specs.Inner.Walk.{stop_lines, walked, last_stop, tail_line};
 
 use crate::fault::WriteFault;
 use crate::lines::{put_scope, put_stamp, put_timescale, put_value, put_var};

@@ -1,7 +1,7 @@
 //! The lines of a dump, one at a time.
 
 ghost use Rattle.std.specs.Prelude.{◌≡◌, ◌<◌, ◌≤◌, take, drop};
-ghost use Rattle.gate_vcd.specs.Lots.{Passes};
+ghost use Rattle.gate_vcd.specs.Inner.Lots.{Passes};
 ghost use Rattle.gate_vcd.specs.Dump.{letter, stamp, value_line, var_line, timescale_line, scope_line};
 
 use crate::codes::code;

@@ -1,8 +1,8 @@
 //! Bytes on their way into a sink, which takes them in lots: a `put` for each line would cost more than the line.
 
 ghost use Rattle.std.specs.Prelude.{◌≡◌, ◌+◌, ◌++◌, ◌≤◌, ◌↔◌, [], IsTrue, decimal, length, take};
-ghost use Rattle.gate_vcd.specs.Sink.{Writes};
-ghost use Rattle.gate_vcd.specs.Lots.{Passes};
+ghost use Rattle.gate_vcd.specs.Inner.Sink.{Writes};
+ghost use Rattle.gate_vcd.specs.Inner.Lots.{Passes};
 
 use crate::put::put_all;
 use crate::sink::Sink;
@@ -21,7 +21,7 @@ pub struct Lot {
 }
 
 impl Model for Lot {
-    ghost use Rattle.gate_vcd.specs.Lots.{Lot as Waiting, lot_of, IsRoomy};
+    ghost use Rattle.gate_vcd.specs.Inner.Lots.{Lot as Waiting, lot_of, IsRoomy};
 
     ghost Value = { Waiting };
 

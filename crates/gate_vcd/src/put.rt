@@ -1,6 +1,6 @@
 //! Bytes into a sink, as far as it takes them.
 
-ghost use Rattle.gate_vcd.specs.Sink.{Writes};
+ghost use Rattle.gate_vcd.specs.Inner.Sink.{Writes};
 
 use crate::sink::Sink;
 

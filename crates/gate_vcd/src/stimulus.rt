@@ -2,7 +2,7 @@ ghost use Rattle.std.specs.Prelude.{◌≡◌, ◌≤◌, ◌↔◌, ℕ, IsTrue
 ghost use Rattle.std.specs.List.Sorted.{IsPartitionPoint};
 ghost use Rattle.gate_netlist.specs.Circuit.{is_input};
 ghost use Rattle.gate_vcd.specs.Given.{AreItsChanges, changes_of, value_at, Fits};
-ghost use Rattle.gate_vcd.specs.Lists.{IsRising};
+ghost use Rattle.gate_vcd.specs.Inner.Lists.{IsRising};
 
 use crate::inputs::is_input;
 use crate::timescale::Timescale;
@@ -23,7 +23,7 @@ impl Model for Stimulus {
 
     ghost Value = { Given };
 
-    ghost use Rattle.gate_vcd.specs.Held.{given_of, IsLaidOut};
+    ghost use Rattle.gate_vcd.specs.Inner.Held.{given_of, IsLaidOut};
 
     ghost view = { given_of };
 
@@ -31,7 +31,7 @@ impl Model for Stimulus {
 }
 
 impl Stimulus {
-    ghost use Rattle.gate_vcd.specs.Held.{given_by, AreLaidOut};
+    ghost use Rattle.gate_vcd.specs.Inner.Held.{given_by, AreLaidOut};
 
     /// Lists of changes, and which of them each input has.
     pub(crate) fn new(

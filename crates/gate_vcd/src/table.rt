@@ -1,7 +1,7 @@
 ghost use Rattle.std.specs.Prelude.{◌≡◌, ◌<◌, ◌≤◌, ◌-◌, ℕ, List, None, Some, length, IfErr, IfOk, IfSome, OnOk, if◌then◌else◌};
 ghost use Rattle.std.specs.Str.{bytes_eq};
 ghost use Rattle.gate_vcd.specs.Faults.{out_of_memory};
-ghost use Rattle.gate_vcd.specs.Table.{found_in, short_place, spelled};
+ghost use Rattle.gate_vcd.specs.Inner.Table.{found_in, short_place, spelled};
 
 use crate::fault::StimFault;
 use crate::variable::is_code;
@@ -55,7 +55,7 @@ impl<'a> CodeTable<'a> {
     /// Room for so many codes, and none of them known yet.
     ///
     /// A simulator that writes as many codes as there are variables spells them by numbers up to about twice that.
-    #[tactic(auto, unfolding(crate::specs::Table::found_in))]
+    #[tactic(auto, unfolding(crate::specs::Inner::Table::found_in))]
     pub fn new(alloc: Global, seed: TextSeed, count: usize) -> Result<CodeTable<'a>, StimFault>
         ensures none { (code : List ℕ) → IfOk result (λ table. found_in table code ≡ None) }
         ensures err { IfErr result (λ e. e ≡ out_of_memory) }
@@ -85,7 +85,7 @@ impl<'a> CodeTable<'a> {
     }
 
     /// The last source of a code, if the code is known.
-    #[tactic(auto, unfolding(crate::specs::Table::found_in))]
+    #[tactic(auto, unfolding(crate::specs::Inner::Table::found_in))]
     pub fn get(&self, code: &[u8]) -> Option<Option<usize>>
         ensures { result ≡ found_in self.now code.now }
     {

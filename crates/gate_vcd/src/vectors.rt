@@ -1,11 +1,11 @@
 ghost use Rattle.std.specs.Prelude.{◌≡◌, ◌<◌, ◌∷◌, List, length, position, option_map, nat_eq, Some, IfErr, IfOk, IfSome, OnOk};
 ghost use Rattle.std.specs.Path.{rfind_below};
-ghost use Rattle.gate_vcd.specs.Commands.{variable as variable_of, variables};
+ghost use Rattle.gate_vcd.specs.Inner.Commands.{variable as variable_of, variables};
 ghost use Rattle.gate_vcd.specs.Declarations.{Variable as TextVariable};
 ghost use Rattle.gate_vcd.specs.Faults.{out_of_memory};
 ghost use Rattle.gate_vcd.specs.Inputs.{first_given, source_in};
-ghost use Rattle.gate_vcd.specs.Known.{source_by};
-ghost use Rattle.gate_vcd.specs.Scalars.{AreVectors, bit as bit_by, two_texts, vector as vector_in, vector_by};
+ghost use Rattle.gate_vcd.specs.Inner.Known.{source_by};
+ghost use Rattle.gate_vcd.specs.Inner.Scalars.{AreVectors, bit as bit_by, two_texts, vector as vector_in, vector_by};
 ghost use Rattle.gate_vcd.specs.Vectors.{bit_of, bracketed, index_in, is_between, is_plain, number_in, parted, place_in, range_in, ranged, vector_of};
 
 use crate::fault::StimFault;

@@ -1,5 +1,6 @@
 ghost use Rattle.std.specs.Prelude.{◌≡◌, ◌≢◌, ℕ, ◌<◌, ◌++◌, [], ◌∷◌, length, IfOk, OnOk, OnErr, IsTrue, ◌↔◌, slice_set, replicate};
-ghost use Rattle.gate_vcd.specs.Waves.{wave_of, Follows, IsWave, by_time, IsOrderOf};
+ghost use Rattle.gate_vcd.specs.Waves.{wave_of, Follows, IsWave};
+ghost use Rattle.gate_vcd.specs.Inner.Waves.{by_time, IsOrderOf};
 ghost use Rattle.std.specs.BTreeMap.{IsOrdered};
 
 use gate_values::{Change, Logic};
@@ -21,7 +22,7 @@ impl Model for Waves {
 
     ghost Value = { List (List Change) };
 
-    ghost use Rattle.gate_vcd.specs.HeldWaves.{lists_of, IsInStep};
+    ghost use Rattle.gate_vcd.specs.Inner.HeldWaves.{lists_of, IsInStep};
 
     ghost view = { lists_of };
 

@@ -4,11 +4,12 @@ use Rattle.std.proofs.lemmas.Bool.{cases_eq}
 use Rattle.std.proofs.lemmas.List.{length-map, length-set, get_or-map, ext_get_or}
 use Rattle.gate_values.specs.declared.logic.Logic.{Logic}
 use Rattle.gate_values.specs.declared.logic.Logic.TheVariants.{X}
-use Rattle.gate_values.specs.Behaviour.{Source, Outside, Gate, Flop, Moment, IsOver, next_content, history}
-use Rattle.warp_block.specs.Moments.{moment_of, value_in}
+use Rattle.gate_values.specs.Behaviour.{Source, Outside, Gate, Flop, Moment, next_content, history}
+use Rattle.gate_values.specs.Inner.Behaviour.{IsOver}
+use Rattle.warp_block.specs.Inner.Moments.{moment_of, value_in}
 use Rattle.warp_block.specs.Portion.{slot_of}
-use Rattle.warp_block.specs.Step.{source_at, net_at}
-use Rattle.warp_block.specs.Contents.{clock_of, content_by, IsContent}
+use Rattle.warp_block.specs.Inner.Step.{source_at, net_at}
+use Rattle.warp_block.specs.Inner.Contents.{clock_of, content_by, IsContent}
 use Rattle.warp_block.specs.View.{View, Saved, moment_before, block_value}
 use Rattle.warp_block.specs.Lawful.{IsLawful, IsSaved}
 use Rattle.warp_block.proofs.Slots.{of_net-at}

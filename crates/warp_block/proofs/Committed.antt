@@ -16,7 +16,7 @@ use Rattle.warp_block.specs.Entries.{effective_of, is_settled}
 use Rattle.warp_block.specs.Portion.{is_driven, source_of, is_used}
 use Rattle.warp_block.specs.View.{View, Saved, entry_of, effective_at, news_of, is_busy, busy_times}
 use Rattle.warp_block.specs.Lawful.{IsLawful, IsSaved, AreSpaced, AreSaved, IsLawfulProcess, lawful_log}
-use Rattle.warp_block.specs.Advance.{IsQuiet}
+use Rattle.warp_block.specs.Inner.Advance.{IsQuiet}
 use Rattle.warp_block.specs.Commit.{IsCommittable, IsCommitted, IsCommitRefusal}
 use Rattle.warp_block.proofs.Running.{given, run_log, run_log-past, driven_or_not, le_cases}
 use Rattle.warp_block.proofs.Views.{timed, news_of-run}

@@ -11,10 +11,10 @@ use Rattle.gate_values.specs.Behaviour.{Moment, delay_of}
 use Rattle.gate_values.specs.Changes.{before_time}
 use Rattle.warp_block.specs.declared.message.Message.{Message}
 use Rattle.warp_block.specs.declared.message.Sign.{Sign}
-use Rattle.warp_block.specs.Logs.{IsLog}
+use Rattle.warp_block.specs.Inner.Logs.{IsLog}
 use Rattle.warp_block.specs.Portion.{Portion}
-use Rattle.warp_block.specs.Held.{lists_in}
-use Rattle.warp_block.specs.Step.{source_at, net_at, log_at, emitted, sent, told, IsEmitted, IsPartlyEmitted, AreCut}
+use Rattle.warp_block.specs.Inner.Held.{lists_in}
+use Rattle.warp_block.specs.Inner.Step.{source_at, net_at, log_at, emitted, sent, told, IsEmitted, IsPartlyEmitted, AreCut}
 use Rattle.warp_block.proofs.Rows.{row_at}
 
 -- the first places have made a step, and the others haven't

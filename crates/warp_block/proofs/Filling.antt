@@ -4,9 +4,10 @@ use Rattle.std.proofs.lemmas.Bool.{true≢false}
 use Rattle.std.proofs.lemmas.List.{take_more, map-append, take_all}
 use Rattle.gate_values.specs.declared.logic.Logic.{Logic}
 use Rattle.gate_values.specs.declared.logic.Logic.TheVariants.{X}
-use Rattle.gate_values.specs.Behaviour.{Source, Outside, Flop, value, history, next_content, IsOver}
+use Rattle.gate_values.specs.Behaviour.{Source, Outside, Flop, value, history, next_content}
+use Rattle.gate_values.specs.Inner.Behaviour.{IsOver}
 use Rattle.warp_block.specs.Portion.{slot_of, of_net, source_of}
-use Rattle.warp_block.specs.Moments.{value_in, moment_of}
+use Rattle.warp_block.specs.Inner.Moments.{value_in, moment_of}
 use Rattle.warp_block.specs.View.{View, Saved, effective_at, moment_before}
 use Rattle.warp_block.specs.Lawful.{IsLawful, IsSaved}
 use Rattle.warp_block.proofs.Slots.{slot_at, of_net-map}

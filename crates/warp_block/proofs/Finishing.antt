@@ -9,14 +9,14 @@ use Rattle.gate_values.specs.Behaviour.{Source, Moment, output, delay_of}
 use Rattle.gate_values.specs.Changes.{last_value, same, before_time}
 use Rattle.warp_block.specs.declared.message.Message.{Message}
 use Rattle.warp_block.specs.declared.message.Sign.TheVariants.{Plus}
-use Rattle.warp_block.specs.Logs.{IsLog}
+use Rattle.warp_block.specs.Inner.Logs.{IsLog}
 use Rattle.warp_block.specs.Portion.{is_driven, source_of, slot_of}
-use Rattle.warp_block.specs.Moments.{moment_of, value_in}
+use Rattle.warp_block.specs.Inner.Moments.{moment_of, value_in}
 use Rattle.warp_block.specs.View.{View, Saved, effective_at, moment_before, block_value}
 use Rattle.warp_block.specs.Lawful.{IsLawful, IsSaved, lawful_log}
 use Rattle.warp_block.specs.Sends.{SendsOnce}
-use Rattle.warp_block.specs.Advance.{IsQuiet}
-use Rattle.warp_block.specs.Step.{log_at, source_at, net_at, emitted, emitted_value, told, IsEmitted, IsPartlyEmitted, AreCut}
+use Rattle.warp_block.specs.Inner.Advance.{IsQuiet}
+use Rattle.warp_block.specs.Inner.Step.{log_at, source_at, net_at, emitted, emitted_value, told, IsEmitted, IsPartlyEmitted, AreCut}
 use Rattle.warp_block.proofs.Slots.{slot_at}
 use Rattle.warp_block.proofs.LogOrder.{IsLog-run}
 use Rattle.warp_block.proofs.Running.{IsDriven, run_log, run_log-step, run_log-cut, added, delayed, driven_or_not}

@@ -12,7 +12,7 @@ use Rattle.warp_block.proofs.Running.{run_log, run_log-past, driven_or_not}
 use Rattle.warp_block.proofs.Views.{timed, news_of-run}
 use Rattle.warp_block.specs.View.{View, Saved, effective_at, news_of, is_busy, busy_times}
 use Rattle.warp_block.specs.Lawful.{IsLawful, IsSaved, AreSpaced, AreSaved, IsLawfulProcess}
-use Rattle.warp_block.specs.Present.{newest, newest_of, unsaved, IsPresent, IsPresentFrom}
+use Rattle.warp_block.specs.Inner.Present.{newest, newest_of, unsaved, IsPresent, IsPresentFrom}
 use Rattle.warp_block.proofs.SavingTimes.{times-split, times-none, times-one, times-agree}
 use Rattle.warp_block.proofs.SavingStates.{saved_kept, spaced_last, spaced_until}
 use Rattle.warp_block.proofs.SavingStep.{saved_marks}

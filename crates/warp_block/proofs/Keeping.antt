@@ -6,9 +6,9 @@ use Rattle.warp_block.specs.declared.states.States.{States}
 use Rattle.warp_block.specs.declared.state.TheConstants.{SAVE_EVERY}
 use Rattle.warp_block.specs.View.{View, Saved, is_busy, IsLeast, IsEventTime}
 use Rattle.warp_block.specs.Lawful.{IsLawful, IsSaved, AreSaved, IsLawfulProcess}
-use Rattle.warp_block.specs.Advance.{IsCaughtUp}
-use Rattle.warp_block.specs.StateLists.{now_of, saved_by, FitTogether}
-use Rattle.warp_block.specs.Present.{newest, newest_of, IsPresent, IsPresentFrom, AreStates}
+use Rattle.warp_block.specs.Inner.Advance.{IsCaughtUp}
+use Rattle.warp_block.specs.Inner.StateLists.{now_of, saved_by, FitTogether}
+use Rattle.warp_block.specs.Inner.Present.{newest, newest_of, IsPresent, IsPresentFrom, AreStates}
 use Rattle.warp_block.proofs.Newest.{newest_of_push}
 use Rattle.warp_block.proofs.SavingStep.{one_saved, one_unsaved, one_present}
 use Rattle.warp_block.proofs.Receiving.{saved_rise}

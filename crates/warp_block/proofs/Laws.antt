@@ -12,7 +12,8 @@ use Rattle.warp_block.specs.Entries.{number_of, effective_of, weight_of}
 use Rattle.warp_block.specs.View.{View, entry_of, effective_at, is_busy, IsEventTime}
 use Rattle.warp_block.specs.Lawful.{IsLawful, lawful_log}
 use Rattle.warp_block.specs.Receive.{IsTaken, does_tell}
-use Rattle.warp_block.specs.Advance.{IsAdvanced, IsAfterEvent, IsQuiet}
+use Rattle.warp_block.specs.Advance.{IsAdvanced, IsAfterEvent}
+use Rattle.warp_block.specs.Inner.Advance.{IsQuiet}
 use Rattle.warp_block.proofs.SavingBusy.{happens, busy_is, busy_is-next, happens_agree}
 use Rattle.warp_block.proofs.SavingStep.{same_effective}
 

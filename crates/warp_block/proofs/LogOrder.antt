@@ -10,7 +10,7 @@ use Rattle.gate_values.specs.Behaviour.{Source, value, delay_of}
 use Rattle.gate_values.specs.Changes.{changes, before_time, just_before, same}
 use Rattle.gate_values.proofs.ChangeLists.{before_time-changes}
 use Rattle.warp_block.specs.Portion.{is_driven}
-use Rattle.warp_block.specs.Logs.{IsLog}
+use Rattle.warp_block.specs.Inner.Logs.{IsLog}
 use Rattle.warp_block.proofs.Running.{run_log, given}
 
 -- all changes are before a time

@@ -7,8 +7,8 @@ use Rattle.gate_values.specs.declared.logic.Logic.TheVariants.{X}
 use Rattle.gate_values.specs.declared.logic.Change.{Change}
 use Rattle.gate_values.specs.Changes.{before_time, latest, last_value, pair_at}
 use Rattle.warp_block.specs.View.{IsLeast}
-use Rattle.warp_block.specs.Logs.{IsLog}
-use Rattle.warp_block.specs.Step.{since_time}
+use Rattle.warp_block.specs.Inner.Logs.{IsLog}
+use Rattle.warp_block.specs.Inner.Step.{since_time}
 use Rattle.warp_block.proofs.Rising.{not_below, least_rising, filter-front, filter-rest}
 
 abbrev pub time_of : Change → ℕ

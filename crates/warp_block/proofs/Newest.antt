@@ -1,7 +1,7 @@
 -- The newest of some saved states.
 use Rattle.std.proofs.Common.{◌≡◌, ℕ, zero, suc, ◌-◌, ◌<◌, ◌≤◌, ◌++◌, List, [], ◌∷◌, take, length, get_or, refl, ap, ◌∙◌, arith}
 use Rattle.warp_block.specs.View.{Saved}
-use Rattle.warp_block.specs.Present.{newest, newest_of}
+use Rattle.warp_block.specs.Inner.Present.{newest, newest_of}
 
 -- the last of some states that are kept
 newest_taken : (ss : List Saved) (i : ℕ) (d : Saved) → i < length ss → newest_of (take (suc i) ss) ≡ get_or ss i d

@@ -4,8 +4,9 @@ use Rattle.std.proofs.lemmas.Bool.{true≢false, and_from, and_parts, cases_eq, 
 use Rattle.std.proofs.lemmas.List.{get_or_default}
 use Rattle.std.proofs.lemmas.List.Folds.{list_any_at, Any-from_list_any}
 use Rattle.warp_block.specs.Portion.{is_used}
-use Rattle.warp_block.specs.View.{View, news_of, is_busy, earlier_of, IsLeast}
-use Rattle.warp_block.specs.Advance.{IsBusyFrom}
+use Rattle.warp_block.specs.View.{View, news_of, is_busy, IsLeast}
+use Rattle.warp_block.specs.Inner.View.{earlier_of}
+use Rattle.warp_block.specs.Inner.Advance.{IsBusyFrom}
 use Rattle.warp_block.proofs.Rows.{same_least}
 
 -- something happens, from a time on, to one of the first nets that a gate of the block reads

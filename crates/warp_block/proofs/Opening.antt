@@ -19,7 +19,7 @@ use Rattle.warp_block.specs.Lawful.{IsLawful, lawful_log}
 use Rattle.warp_block.specs.declared.message.Message.{Message}
 use Rattle.warp_block.specs.declared.message.Sign.TheVariants.{Plus}
 use Rattle.warp_block.specs.Sends.{SendsOnce}
-use Rattle.warp_block.specs.Step.{log_at, told}
+use Rattle.warp_block.specs.Inner.Step.{log_at, told}
 use Rattle.warp_block.specs.Opening.{message_of, silent_view, opening_view, opening_queue, initial_log}
 use Rattle.warp_block.proofs.Slots.{of_net-at, of_net-map}
 use Rattle.warp_block.proofs.Running.{given, delayed}

@@ -20,8 +20,8 @@ use Rattle.warp_block.specs.declared.cell.Cell.TheVariants as cell
 use Rattle.warp_block.specs.declared.cell.Span.{Span}
 use Rattle.warp_block.specs.Portion.{slot_of, uses, does_use}
 use Rattle.warp_block.specs.PartOf.{is_own, is_used_by, part_nets, part_source}
-use Rattle.warp_block.specs.HeldPart.{stretch}
-use Rattle.warp_block.specs.Building.{driver_uses, place_of, has, AreMarked, is_used_below, AreUsed, nets_below, IsCell, HasMore, AreCells}
+use Rattle.warp_block.specs.Inner.HeldPart.{stretch}
+use Rattle.warp_block.specs.Inner.Building.{driver_uses, place_of, has, AreMarked, is_used_below, AreUsed, nets_below, IsCell, HasMore, AreCells}
 use Rattle.warp_block.proofs.Slots.{slot_at, slot_is}
 use Rattle.warp_block.proofs.PartLists.{or_none, any_more, any_below, has_at, kept_more, kept_below, kept_rises, kept_few, has_kept}
 

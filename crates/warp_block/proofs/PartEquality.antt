@@ -19,9 +19,10 @@ use Rattle.gate_values.specs.Behaviour.{Source, Outside, Gate, Flop}
 use Rattle.warp_block.specs.declared.cell.Cell.{Cell}
 use Rattle.warp_block.specs.declared.cell.Cell.TheVariants as cell
 use Rattle.warp_block.specs.declared.part.Part.TheInside.{Inside}
-use Rattle.warp_block.specs.HeldPart.{IsHeld, portion_of, CellFits, cell_source, is_input_cell, stretch}
+use Rattle.warp_block.specs.Inner.HeldPart.{IsHeld, portion_of, CellFits, cell_source, is_input_cell, stretch}
 use Rattle.warp_block.specs.Portion.{Portion, IsPortion}
-use Rattle.warp_block.specs.SamePart.{kind_place, logic_place, numbers_of, same_part, SameAt, SameCell}
+use Rattle.warp_block.specs.SamePart.{kind_place, logic_place, numbers_of, same_part}
+use Rattle.warp_block.specs.Inner.SamePart.{SameAt, SameCell}
 use Rattle.warp_block.proofs.PartHeld.{source-at, fits-at}
 use Rattle.warp_block.proofs.PartWhole.{same_portion}
 

@@ -12,10 +12,10 @@ use Rattle.gate_values.specs.Behaviour.{Outside, output, next_content}
 use Rattle.warp_block.specs.declared.cell.Cell.{Cell}
 use Rattle.warp_block.specs.declared.cell.Cell.TheVariants.{Gate, Flop}
 use Rattle.warp_block.specs.declared.part.Part.TheInside.{Inside}
-use Rattle.warp_block.specs.HeldPart.{IsHeld, portion_of, cell_source, stretch, CellFits}
+use Rattle.warp_block.specs.Inner.HeldPart.{IsHeld, portion_of, cell_source, stretch, CellFits}
 use Rattle.warp_block.specs.declared.cell.Span.{Span}
-use Rattle.warp_block.specs.Moments.{value_in, moment_of}
-use Rattle.warp_block.specs.Contents.{clock_of}
+use Rattle.warp_block.specs.Inner.Moments.{value_in, moment_of}
+use Rattle.warp_block.specs.Inner.Contents.{clock_of}
 use Rattle.warp_block.proofs.Slots.{of_net-at}
 
 -- a copy of the fields is a part

@@ -11,7 +11,7 @@ use Rattle.std.proofs.lemmas.List.Folds.{list_any-append, list_any_none, list_an
 use Rattle.std.proofs.lemmas.List.FromFn.{length-range_with_len, get_or-range_with_len, map-range_with_len_more}
 use Rattle.std.proofs.lemmas.List.Kept.{AllPairs-from_increasing, IsStrictlyIncreasing-filter}
 use Rattle.std.proofs.lemmas.List.Sorted.{searched}
-use Rattle.warp_block.specs.Building.{has, AreMarked}
+use Rattle.warp_block.specs.Inner.Building.{has, AreMarked}
 use Rattle.warp_block.proofs.PartPlaces.{ascends}
 
 -- ---- tests

@@ -14,8 +14,8 @@ use Rattle.gate_netlist.specs.Cut.{Ownership, IsOwnership, owner_of}
 use Rattle.warp_block.specs.declared.cell.Span.{Span}
 use Rattle.warp_block.specs.Portion.{slot_of, does_use}
 use Rattle.warp_block.specs.PartOf.{is_own, is_owner, is_used_by, part_nets, part_readers}
-use Rattle.warp_block.specs.HeldPart.{stretch}
-use Rattle.warp_block.specs.Building.{driver_uses, place_of, has, is_used_below, lists_of, AreRising, AreTold, AreReaders}
+use Rattle.warp_block.specs.Inner.HeldPart.{stretch}
+use Rattle.warp_block.specs.Inner.Building.{driver_uses, place_of, has, is_used_below, lists_of, AreRising, AreTold, AreReaders}
 use Rattle.warp_block.proofs.Slots.{slot_at}
 use Rattle.warp_block.proofs.PartLists.{or_none, any_more, kept_is}
 use Rattle.warp_block.proofs.PartBuilding.{uses-driver, uses-below, own_slot, place_is, stretch-append, stretch-behind}

@@ -8,7 +8,8 @@ use Rattle.gate_values.specs.declared.logic.Logic.{Logic}
 use Rattle.gate_values.specs.declared.logic.Logic.TheVariants.{X}
 use Rattle.gate_values.specs.Changes.{held}
 use Rattle.warp_block.specs.declared.entry.Entry.{Entry}
-use Rattle.warp_block.specs.Entries.{Received, entry_in, effective_in, effective_of, no_messages, IsQueue}
+use Rattle.warp_block.specs.Entries.{Received, entry_in, effective_of, no_messages, IsQueue}
+use Rattle.warp_block.specs.Inner.Entries.{effective_in}
 use Rattle.warp_block.specs.View.{IsLeast}
 use Rattle.warp_block.proofs.Rising.{Rises, rising-not_falling, not_below, least_rising}
 

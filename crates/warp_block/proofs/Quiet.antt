@@ -10,7 +10,7 @@ use Rattle.gate_values.proofs.Behaving.{content_is}
 use Rattle.warp_block.specs.Portion.{is_driven, source_of}
 use Rattle.warp_block.specs.View.{View, effective_at, is_busy}
 use Rattle.warp_block.specs.Lawful.{IsLawful}
-use Rattle.warp_block.specs.Advance.{IsQuiet}
+use Rattle.warp_block.specs.Inner.Advance.{IsQuiet}
 use Rattle.warp_block.proofs.Running.{given, run_log, run_news, run_log-quiet, steady, le_cases}
 use Rattle.warp_block.proofs.Views.{IsUsed, timed, over_used, news_of-run, quiet_news}
 

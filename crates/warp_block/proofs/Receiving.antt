@@ -15,13 +15,14 @@ use Rattle.warp_block.specs.declared.message.Message.{Message}
 use Rattle.warp_block.specs.Entries.{number_of, with_number, bump_of, weight_of, is_within, effective_of}
 use Rattle.warp_block.specs.View.{View, Saved, entry_of, effective_at, is_busy}
 use Rattle.warp_block.specs.Lawful.{IsLawful, IsSaved, AreSpaced, AreSaved}
-use Rattle.warp_block.specs.Receive.{IsTaken, IsPut, IsAdmitted, IsRefusal, does_tell}
+use Rattle.warp_block.specs.Receive.{IsTaken, IsRefusal, does_tell}
+use Rattle.warp_block.specs.Inner.Receive.{IsPut, IsAdmitted}
 use Rattle.warp_block.specs.declared.fault.BlockFault.{BlockFault}
 use Rattle.warp_block.specs.declared.fault.BlockFault.TheVariants.{Memory}
 use Rattle.warp_block.proofs.SavingBusy.{busy_agree}
 use Rattle.warp_block.proofs.SavingStates.{all_kept, spaced_kept, spaced_cut}
 use Rattle.warp_block.proofs.SavingStep.{saved_marks}
-use Rattle.warp_block.specs.Present.{IsPresentFrom}
+use Rattle.warp_block.specs.Inner.Present.{IsPresentFrom}
 use Rattle.warp_block.proofs.Going.{present_kept}
 
 -- the number of a value, after a change of another one or of the same

@@ -12,13 +12,13 @@ use Rattle.warp_block.specs.declared.entry.Entry.{Entry}
 use Rattle.warp_block.specs.declared.message.Message.{Message}
 use Rattle.warp_block.specs.declared.message.Sign.TheVariants.{Minus}
 use Rattle.warp_block.specs.Entries.{Received, IsQueue, entry_in, effective_of, is_settled}
-use Rattle.warp_block.specs.Logs.{IsLog}
+use Rattle.warp_block.specs.Inner.Logs.{IsLog}
 use Rattle.warp_block.specs.Portion.{is_driven, source_of, owns, hears, reads, is_input, slot_of, at_slot, of_net}
 use Rattle.warp_block.specs.View.{View, entry_of, effective_at}
 use Rattle.warp_block.specs.Lawful.{IsLawful, lawful_log}
 use Rattle.warp_block.specs.Sends.{SendsOnce}
-use Rattle.warp_block.specs.Receive.{IsPut}
-use Rattle.warp_block.specs.Step.{log_at, source_at, since_time, told}
+use Rattle.warp_block.specs.Inner.Receive.{IsPut}
+use Rattle.warp_block.specs.Inner.Step.{log_at, source_at, since_time, told}
 use Rattle.warp_block.proofs.Slots.{slot_is, of_net-at}
 use Rattle.warp_block.proofs.LogOrder.{changes-before}
 use Rattle.warp_block.proofs.Running.{IsDriven, given, run_log, run_log-cut, delayed, driven_or_not}

@@ -13,13 +13,14 @@ use Rattle.gate_values.proofs.Behaving.{outside_is}
 use Rattle.gate_values.proofs.ChangeLists.{before_time-changes}
 use Rattle.gate_vcd.proofs.WaveValues.{latest-changes}
 use Rattle.warp_block.specs.declared.look.Look.TheInside.{Inside}
-use Rattle.warp_block.specs.Entries.{Received, IsQueue, entry_in, effective_in}
-use Rattle.warp_block.specs.Logs.{IsLog}
+use Rattle.warp_block.specs.Entries.{Received, IsQueue, entry_in}
+use Rattle.warp_block.specs.Inner.Entries.{effective_in}
+use Rattle.warp_block.specs.Inner.Logs.{IsLog}
 use Rattle.warp_block.specs.Portion.{is_driven, source_of, owns}
 use Rattle.warp_block.specs.View.{View, queue_of, entry_of, effective_at, log_of, news_of, block_value, IsLeast}
 use Rattle.warp_block.specs.Lawful.{IsLawful, lawful_log}
-use Rattle.warp_block.specs.Held.{lists_in, view_of}
-use Rattle.warp_block.specs.Advance.{IsQuiet}
+use Rattle.warp_block.specs.Inner.Held.{lists_in, view_of}
+use Rattle.warp_block.specs.Inner.Advance.{IsQuiet}
 use Rattle.warp_block.proofs.Slots.{of_net-at}
 use Rattle.warp_block.proofs.LogOrder.{IsLog-run}
 use Rattle.warp_block.proofs.Running.{run_log, given, IsDriven, delayed, le_cases}

@@ -7,7 +7,8 @@ use Rattle.std.proofs.lemmas.List.{append-nil}
 use Rattle.gate_values.specs.declared.logic.Logic.{Logic}
 use Rattle.gate_values.specs.declared.logic.Logic.TheVariants.{X}
 use Rattle.gate_values.specs.declared.logic.Change.{Change}
-use Rattle.gate_values.specs.Behaviour.{Source, Outside, Gate, Flop, before, value, delay_of, IsOver, history}
+use Rattle.gate_values.specs.Behaviour.{Source, Outside, Gate, Flop, before, value, delay_of, history}
+use Rattle.gate_values.specs.Inner.Behaviour.{IsOver}
 use Rattle.gate_values.specs.Changes.{changes, change_at, held, pair_at, before_time, just_before, same}
 use Rattle.gate_values.proofs.Behaving.{Joined, same_values, same_before, quiet_value, outside_is}
 use Rattle.gate_values.proofs.ChangeLists.{changes-agree, before_time-changes, pair_at-changes, pair_at-late, held-none, held-agree, change_option, same_is, same_refl}

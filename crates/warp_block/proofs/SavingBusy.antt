@@ -10,7 +10,7 @@ use Rattle.gate_values.proofs.ChangeLists.{change_option}
 use Rattle.warp_block.specs.Portion.{Portion, is_driven, source_of, is_used}
 use Rattle.warp_block.specs.View.{View, effective_at, news_of, is_busy}
 use Rattle.warp_block.specs.Lawful.{IsLawful}
-use Rattle.warp_block.specs.Advance.{IsQuiet}
+use Rattle.warp_block.specs.Inner.Advance.{IsQuiet}
 use Rattle.warp_block.proofs.Running.{IsTimed, given, run_log, run_log-pair, run_log-past, run_news, values_agree, driven_or_not, delayed, le_cases}
 use Rattle.warp_block.proofs.Views.{timed, news_of-run}
 use Rattle.warp_block.proofs.Quiet.{quiet_log_to}

@@ -8,7 +8,7 @@ use Rattle.warp_block.specs.declared.state.TheConstants.{SAVE_EVERY}
 use Rattle.warp_block.specs.Portion.{Portion, source_of}
 use Rattle.warp_block.specs.View.{View, Saved, effective_at, moment_before, is_busy, busy_times}
 use Rattle.warp_block.specs.Lawful.{IsLawful, IsSaved, AreSpaced}
-use Rattle.warp_block.specs.Present.{newest}
+use Rattle.warp_block.specs.Inner.Present.{newest}
 use Rattle.warp_block.proofs.Running.{given, moments_agree}
 use Rattle.warp_block.proofs.Views.{timed}
 use Rattle.warp_block.proofs.SavingTimes.{times-split, times-agree, times-one}

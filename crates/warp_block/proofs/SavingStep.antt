@@ -9,8 +9,9 @@ use Rattle.warp_block.specs.Entries.{Received, entry_in, effective_of}
 use Rattle.warp_block.specs.Portion.{Portion, of_net}
 use Rattle.warp_block.specs.View.{View, Saved, effective_at, is_busy, busy_times, IsLeast, IsEventTime}
 use Rattle.warp_block.specs.Lawful.{IsLawful, IsSaved, AreSaved, IsLawfulProcess}
-use Rattle.warp_block.specs.Advance.{IsAdvanced, IsQuiet, IsCaughtUp}
-use Rattle.warp_block.specs.Present.{newest, newest_of, IsPresent, IsPresentFrom}
+use Rattle.warp_block.specs.Advance.{IsAdvanced}
+use Rattle.warp_block.specs.Inner.Advance.{IsQuiet, IsCaughtUp}
+use Rattle.warp_block.specs.Inner.Present.{newest, newest_of, IsPresent, IsPresentFrom}
 use Rattle.warp_block.proofs.SavingTimes.{times-split, times-none, times-one, times-agree}
 use Rattle.warp_block.proofs.SavingBusy.{busy_is, busy_is-next, happens_agree, busy_agree}
 use Rattle.warp_block.proofs.SavingStates.{saved_kept, all_kept, spaced_until, spaced_marks, spaced_push, spaced_more}

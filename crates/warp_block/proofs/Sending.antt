@@ -12,11 +12,11 @@ use Rattle.gate_values.specs.Changes.{same}
 use Rattle.warp_block.specs.declared.message.Message.{Message}
 use Rattle.warp_block.specs.declared.message.Sign.{Sign}
 use Rattle.warp_block.specs.declared.message.Sign.TheVariants.{Plus, Minus}
-use Rattle.warp_block.specs.Logs.{IsLog}
+use Rattle.warp_block.specs.Inner.Logs.{IsLog}
 use Rattle.warp_block.specs.Portion.{Portion, IsPortion, slot_of, at_slot, of_net, readers_of}
 use Rattle.warp_block.specs.View.{View}
 use Rattle.warp_block.specs.Sends.{Place, is_change, is_message, is_told, same_sign, messages, antimessages, standing, IsSendOf, SendsOnce}
-use Rattle.warp_block.specs.Step.{log_at, net_at, sent, told}
+use Rattle.warp_block.specs.Inner.Step.{log_at, net_at, sent, told}
 use Rattle.warp_block.proofs.Slots.{slot_is, slot_at, of_net-at}
 use Rattle.warp_block.proofs.Sends.{none_other}
 use Rattle.warp_block.proofs.Told.{count-once, count-apart, count-changes, count-told_none, count-told_one}

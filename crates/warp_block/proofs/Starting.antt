@@ -9,8 +9,8 @@ use Rattle.warp_block.specs.declared.state.TheConstants.{SAVE_EVERY}
 use Rattle.warp_block.specs.Portion.{source_of}
 use Rattle.warp_block.specs.View.{View, Saved, busy_times}
 use Rattle.warp_block.specs.Lawful.{IsLawful, IsSaved, IsLawfulProcess}
-use Rattle.warp_block.specs.StateLists.{now_of, saved_by, FitTogether}
-use Rattle.warp_block.specs.Present.{IsPresent, AreStates}
+use Rattle.warp_block.specs.Inner.StateLists.{now_of, saved_by, FitTogether}
+use Rattle.warp_block.specs.Inner.Present.{IsPresent, AreStates}
 use Rattle.warp_block.proofs.SavingStates.{saves}
 use Rattle.warp_block.proofs.Going.{no_times}
 

@@ -4,11 +4,12 @@ use Rattle.std.proofs.lemmas.Bool.{le-leb, lt-leb}
 use Rattle.gate_values.specs.declared.logic.Logic.{Logic}
 use Rattle.gate_values.specs.declared.logic.Change.{Change}
 use Rattle.gate_values.specs.Tables.{table_of}
-use Rattle.gate_values.specs.Behaviour.{Source, Outside, Gate, Flop, Moment, before, value, delay_of, IsOver, history, next_content, output}
+use Rattle.gate_values.specs.Behaviour.{Source, Outside, Gate, Flop, Moment, before, value, delay_of, history, next_content, output}
+use Rattle.gate_values.specs.Inner.Behaviour.{IsOver}
 use Rattle.gate_values.specs.Changes.{changes}
 use Rattle.gate_values.proofs.Behaving.{content_is, value_is, map_agree}
 use Rattle.gate_values.proofs.ChangeLists.{last_value-changes, before_time-changes}
-use Rattle.warp_block.specs.Step.{emitted_value}
+use Rattle.warp_block.specs.Inner.Step.{emitted_value}
 use Rattle.warp_block.proofs.Running.{IsTimed, IsDriven, given, run_log, added, le_cases}
 
 module _ (source : ℕ → Source) (timed : (n : ℕ) → IsTimed (source n)) (at : ℕ → ℕ → Option Logic) (N : ℕ → Type 0) (s : ℕ) where

@@ -6,7 +6,8 @@ use Rattle.std.proofs.lemmas.List.Folds.{list_any_at}
 use Rattle.std.proofs.lemmas.List.Elements.{recursion_from_All}
 use Rattle.gate_values.specs.declared.logic.Logic.{Logic}
 use Rattle.gate_values.specs.declared.logic.Change.{Change}
-use Rattle.gate_values.specs.Behaviour.{Source, Outside, Gate, Flop, IsOver, IsWellFormed}
+use Rattle.gate_values.specs.Behaviour.{Source, Outside, Gate, Flop, IsWellFormed}
+use Rattle.gate_values.specs.Inner.Behaviour.{IsOver}
 use Rattle.gate_values.specs.Changes.{pair_at}
 use Rattle.warp_block.specs.Portion.{Portion, IsPortion, is_driven, uses, does_use, source_of, owns, is_used, slot_of, at_slot}
 use Rattle.warp_block.specs.View.{View, log_of, effective_at, news_of, is_busy}

@@ -73,10 +73,6 @@ abbrev pub entry_in : List Received → ℕ → Entry
 entry_in [] t = no_messages
 entry_in (e ∷ es) t = if e.time == t then e.entry else entry_in es t
 
--- the effective value of a queue at a time
-abbrev pub effective_in : List Received → ℕ → Option Logic
-effective_in es t = effective_of (entry_in es t)
-
 -- A queue is in order of time, with one entry a time; where nothing stands and nothing waits, it holds none.
 pub record IsQueue (es : List Received) : Type 0 where
   pub in_order : (i j : ℕ) (d : Received) → i < j → j < length es → (slice_index_or es i d).time < (slice_index_or es j d).time

@@ -1,13 +1,12 @@
 -- What taking a message does to a block, and which messages it refuses.
-use Rattle.std.specs.Prelude.{◌≡◌, ◌≢◌, ℕ, ◌<◌, pos, ◌+ℤ◌, Bool, not, ◌&&◌, ◌==◌, nat_lt, if◌then◌else◌, Option, Some, None, is_none, IsTrue, ◌≤◌}
+use Rattle.std.specs.Prelude.{◌≡◌, ◌≢◌, ℕ, ◌<◌, pos, ◌+ℤ◌, Bool, not, ◌&&◌, ◌==◌, nat_lt, if◌then◌else◌, Option, Some, None, is_none}
 use Rattle.gate_values.specs.declared.logic.Logic.{Logic}
 use Rattle.gate_values.specs.Changes.{same}
-use Rattle.warp_block.specs.declared.entry.Entry.{Entry}
 use Rattle.warp_block.specs.declared.message.Message.{Message}
 use Rattle.warp_block.specs.declared.fault.BlockFault.{BlockFault}
 use Rattle.warp_block.specs.declared.fault.BlockFault.TheVariants.{WrongNet, PastHorizon, BelowFloor, CountLimit, Memory, FloorBack, Unprocessed, Unsettled}
 use Rattle.warp_block.specs.Entries.{number_of, bump_of, weight_of}
-use Rattle.warp_block.specs.Portion.{Portion, hears, slot_of}
+use Rattle.warp_block.specs.Portion.{Portion, hears}
 use Rattle.warp_block.specs.View.{View, entry_of, effective_at}
 
 -- the message is for the block, and names a net of another block that it reads
@@ -31,15 +30,6 @@ IsRefusal refusal Unprocessed = ⊥
 IsRefusal refusal (Unsettled net time) = ⊥
 IsRefusal refusal fault = refusal ≡ Some fault
 
--- a message that isn't refused names the net at a place, and leaves this entry there
-pub record IsAdmitted (v : View) (m : Message) (slot : ℕ) (entry : Entry) : Type 0 where
-  pub accepted : refusal_of v m ≡ None
-  pub place : slot_of v.part.nets m.net ≡ Some slot
-  pub heard : IsTrue (hears v.part m.net)
-  pub bumped : bump_of (entry_of v m.net m.time) m.value m.sign ≡ Some entry
-  pub from : v.floor ≤ m.time
-  pub until : m.time ≤ v.horizon
-
 -- the message tells the value at this time of this net
 abbrev pub does_tell : Message → ℕ → ℕ → Logic → Bool
 does_tell m n t x = (m.net == n) && ((m.time == t) && same m.value x)
@@ -57,10 +47,3 @@ pub record IsTaken (old new : View) (m : Message) : Type 0 where
   pub numbers : (n t : ℕ) (x : Logic) → number_of (entry_of new n t) x ≡ number_of (entry_of old n t) x +ℤ (if does_tell m n t x then weight_of m.sign else pos 0)
   pub straggler : IsStraggler old new m → new.mark ≡ m.time
   pub in_time : ¬ IsStraggler old new m → new.mark ≡ old.mark
-
--- The entry of a net at a time is another one, and no other entry has changed.
-pub record IsPut (old new : View) (net time : ℕ) (entry : Entry) : Type 0 where
-  pub part : new.part ≡ old.part
-  pub horizon : new.horizon ≡ old.horizon
-  pub floor : new.floor ≡ old.floor
-  pub entries : (n t : ℕ) → entry_of new n t ≡ (if (n == net) && (t == time) then entry else entry_of old n t)

@@ -1,5 +1,5 @@
 -- What contracts see of a block.
-use Rattle.std.specs.Prelude.{ℕ, min, ◌-◌, ◌≤◌, Bool, ◌&&◌, Option, Some, None, is_some, IsTrue, if◌then◌else◌, List, []}
+use Rattle.std.specs.Prelude.{ℕ, ◌-◌, ◌≤◌, Bool, ◌&&◌, Option, Some, None, is_some, IsTrue, if◌then◌else◌, List, []}
 use Rattle.std.specs.List.{list_any, count_by, range_with_len}
 use Rattle.gate_values.specs.declared.logic.Logic.{Logic}
 use Rattle.gate_values.specs.declared.logic.Change.{Change}
@@ -77,12 +77,6 @@ IsEventTime v t = (v.mark ≤ t) × (t ≤ v.horizon) × IsTrue (is_busy v t)
 abbrev pub IsLeast : (ℕ → Type 0) → Option ℕ → Type 0
 IsLeast P None = (t : ℕ) → P t → ⊥
 IsLeast P (Some t) = P t × ((u : ℕ) → P u → t ≤ u)
-
--- the lesser of two numbers, where there is one
-abbrev pub earlier_of : Option ℕ → Option ℕ → Option ℕ
-earlier_of None second = second
-earlier_of (Some a) None = Some a
-earlier_of (Some a) (Some b) = Some (min a b)
 
 -- no event time is left
 abbrev pub IsDone : View → Type 0

@@ -33,7 +33,7 @@ impl Model for Block {
 
     ghost Value = { Process };
 
-    ghost use Rattle.warp_block.specs.HeldBlock.{process_of, IsHeldBlock};
+    ghost use Rattle.warp_block.specs.Inner.HeldBlock.{process_of, IsHeldBlock};
 
     ghost view = { process_of };
 

@@ -3,8 +3,8 @@ ghost use Rattle.std.specs.List.Sorted.{IsPartitionPoint};
 ghost use Rattle.gate_values.specs.declared.logic.Logic.TheVariants.{X};
 ghost use Rattle.gate_values.specs.Changes.{latest, last_value as value_after, pair_at, before_time};
 ghost use Rattle.warp_block.specs.View.{IsLeast};
-ghost use Rattle.warp_block.specs.Logs.{IsLog};
-ghost use Rattle.warp_block.specs.Step.{since_time};
+ghost use Rattle.warp_block.specs.Inner.Logs.{IsLog};
+ghost use Rattle.warp_block.specs.Inner.Step.{since_time};
 
 use gate_values::{Change, Logic};
 

@@ -3,12 +3,13 @@ ghost use Rattle.warp_block.specs.Limits.{most_horizon};
 ghost use Rattle.warp_block.specs.declared.message.Sign.TheVariants.{Plus, Minus};
 ghost use Rattle.warp_block.specs.Entries.{no_messages, IsQueue};
 ghost use Rattle.warp_block.specs.Portion.{owns, slot_of, is_driven, is_used};
-ghost use Rattle.warp_block.specs.View.{IsLeast, IsEventTime, IsDone, entry_of, log_of, block_value, news_of, earlier_of};
+ghost use Rattle.warp_block.specs.View.{IsLeast, IsEventTime, IsDone, entry_of, log_of, block_value, news_of};
+ghost use Rattle.warp_block.specs.Inner.View.{earlier_of};
 ghost use Rattle.warp_block.specs.Lawful.{IsLawful};
-ghost use Rattle.warp_block.specs.Advance.{IsQuiet, IsBusyFrom};
+ghost use Rattle.warp_block.specs.Inner.Advance.{IsQuiet, IsBusyFrom};
 ghost use Rattle.warp_block.specs.Opening.{opening_view, opening_queue};
 ghost use Rattle.warp_block.specs.Receive.{is_for};
-ghost use Rattle.warp_block.specs.Held.{lists_in};
+ghost use Rattle.warp_block.specs.Inner.Held.{lists_in};
 
 mod admit;
 mod commit;
@@ -48,7 +49,7 @@ impl Model for Look {
 
     ghost Value = { View };
 
-    ghost use Rattle.warp_block.specs.Held.{view_of};
+    ghost use Rattle.warp_block.specs.Inner.Held.{view_of};
     ghost use Rattle.warp_block.specs.Lawful.{IsLawful};
 
     ghost view = { view_of };

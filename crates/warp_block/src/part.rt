@@ -7,9 +7,10 @@ ghost use Rattle.gate_values.specs.Behaviour.{Outside, output as source_output, 
 ghost use Rattle.gate_netlist.specs.Circuit.{CutFits};
 ghost use Rattle.warp_block.specs.Portion.{IsPortion, slot_of, owns, reads, hears, is_used, is_driven};
 ghost use Rattle.warp_block.specs.PartOf.{part_of};
-ghost use Rattle.warp_block.specs.SamePart.{SameAt, same_part};
-ghost use Rattle.warp_block.specs.Moments.{moment_of};
-ghost use Rattle.warp_block.specs.Contents.{clock_of};
+ghost use Rattle.warp_block.specs.SamePart.{same_part};
+ghost use Rattle.warp_block.specs.Inner.SamePart.{SameAt};
+ghost use Rattle.warp_block.specs.Inner.Moments.{moment_of};
+ghost use Rattle.warp_block.specs.Inner.Contents.{clock_of};
 
 mod build;
 mod readers;
@@ -40,7 +41,7 @@ impl Model for Part {
 
     ghost Value = { Portion };
 
-    ghost use Rattle.warp_block.specs.HeldPart.{portion_of, IsHeld};
+    ghost use Rattle.warp_block.specs.Inner.HeldPart.{portion_of, IsHeld};
 
     ghost view = { portion_of };
 

@@ -2,9 +2,10 @@ ghost use Rattle.std.specs.Prelude.{◌≡◌, ◌≢◌, ◌<◌, ◌≤◌, �
 ghost use Rattle.std.specs.List.{HoldsAt};
 ghost use Rattle.std.specs.List.Sorted.{IsPartitionPoint};
 ghost use Rattle.gate_values.specs.Changes.{held, before_time};
-ghost use Rattle.gate_vcd.specs.Lists.{IsRising};
+ghost use Rattle.gate_vcd.specs.Inner.Lists.{IsRising};
 ghost use Rattle.warp_block.specs.Opening.{message_of};
-ghost use Rattle.warp_block.specs.Entries.{entry_in, effective_in, no_messages, is_settled, IsQueue};
+ghost use Rattle.warp_block.specs.Entries.{entry_in, no_messages, is_settled, IsQueue};
+ghost use Rattle.warp_block.specs.Inner.Entries.{effective_in};
 ghost use Rattle.warp_block.specs.View.{IsLeast};
 
 use crate::entry::Entry;

@@ -3,9 +3,9 @@ ghost use Rattle.std.specs.Prelude.{◌≡◌, ◌<◌, ◌≤◌, ◌+◌, ◌-
 ghost use Rattle.std.specs.List.{All};
 ghost use Rattle.std.specs.List.Sorted.{IsNonDecreasingBy, IsPartitionPoint};
 ghost use Rattle.warp_block.specs.View.{Saved};
-ghost use Rattle.warp_block.specs.Present.{newest_of};
-ghost use Rattle.warp_block.specs.States.{put_back, back, earlier};
-ghost use Rattle.warp_block.specs.StateLists.{now_of, saved_by, IsOld, FitTogether, HasRoom};
+ghost use Rattle.warp_block.specs.Inner.Present.{newest_of};
+ghost use Rattle.warp_block.specs.Inner.States.{put_back, back, earlier};
+ghost use Rattle.warp_block.specs.Inner.StateLists.{now_of, saved_by, IsOld, FitTogether, HasRoom};
 
 use crate::state::SAVE_EVERY;
 use gate_values::Logic;

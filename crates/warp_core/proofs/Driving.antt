@@ -15,7 +15,8 @@ use Rattle.warp_block.proofs.Laws.{next_after_receive, next_after_advance, none_
 use Rattle.warp_core.specs.declared.event.Event.TheVariants.{Advance}
 use Rattle.warp_core.specs.declared.event.PlayFault.{PlayFault}
 use Rattle.warp_core.specs.declared.event.PlayFault.TheVariants.{NoSuchBlock, NoSuchMessage, Memory}
-use Rattle.warp_core.specs.Drive.{IsOrder, IsPast, IsRaised}
+use Rattle.warp_core.specs.Drive.{IsOrder, IsRaised}
+use Rattle.warp_core.specs.Inner.Drive.{IsPast}
 use Rattle.warp_core.specs.Matched.{seen_at}
 use Rattle.warp_core.specs.Play.{IsSameCourse, IsDelivered, IsRun, IsPlayed, IsAfterRefusal}
 use Rattle.warp_core.specs.World.{Scene, IsBefore, IsLawfulWorld}

@@ -11,7 +11,7 @@ use Rattle.warp_block.specs.Portion.{slot_of, reads, owns}
 use Rattle.warp_block.specs.View.{View, Process, entry_of, IsLeast}
 use Rattle.warp_block.proofs.Settled.{settled_is, settled-none, same_entry_is, same_entry_from}
 use Rattle.warp_core.specs.Matched.{IsSettledBy, IsSettledAt, IsToldAt}
-use Rattle.warp_core.specs.Walk.{IsEntryFrom}
+use Rattle.warp_core.specs.Inner.Walk.{IsEntryFrom}
 
 one_effective : (x : Logic) → effective_of (one_message x) ≡ Some x
 one_effective Zero = refl

@@ -4,7 +4,8 @@ use Rattle.std.specs.List.{AllByRecursion}
 use Rattle.std.proofs.lemmas.Bool.{cases_Bool, and_from}
 use Rattle.gate_values.specs.declared.logic.Logic.{Logic}
 use Rattle.gate_values.specs.declared.logic.Change.{Change}
-use Rattle.gate_values.specs.Behaviour.{Source, Outside, Gate, Flop, delay_of, IsOver}
+use Rattle.gate_values.specs.Behaviour.{Source, Outside, Gate, Flop, delay_of}
+use Rattle.gate_values.specs.Inner.Behaviour.{IsOver}
 use Rattle.gate_values.specs.Changes.{changes, pair_at}
 use Rattle.gate_values.proofs.Behaving.{Joined, same_values, outside_is}
 use Rattle.gate_values.proofs.ChangeLists.{held-changes, pair_at-changes, changes-agree}

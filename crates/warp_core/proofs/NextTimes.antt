@@ -8,7 +8,7 @@ use Rattle.std.proofs.lemmas.List.Sums.{sum_by-cons}
 use Rattle.warp_block.specs.declared.message.Message.{Message}
 use Rattle.warp_block.specs.View.{View, Process, IsEventTime, IsLeast}
 use Rattle.warp_core.specs.declared.flight.Soonest.{Soonest}
-use Rattle.warp_core.specs.Kept.{IsSoonest, IsNextTime, AreNextTimes, IsLeastOf}
+use Rattle.warp_core.specs.Inner.Kept.{IsSoonest, IsNextTime, AreNextTimes, IsLeastOf}
 use Rattle.warp_core.specs.Matched.{no_process, seen_at}
 use Rattle.warp_core.specs.World.{Scene, IsLeastTime, IsLawfulWorld}
 use Rattle.warp_core.specs.Play.{IsOtherwiseSame}

@@ -9,7 +9,7 @@ use Rattle.std.proofs.lemmas.List.Elements.{All-append, All-weaker, All-more, Al
 use Rattle.warp_block.specs.declared.message.Message.{Message}
 use Rattle.warp_block.proofs.Told.{count-none}
 use Rattle.warp_core.specs.declared.flight.Soonest.{Soonest}
-use Rattle.warp_core.specs.Kept.{IsSoonest, with_time}
+use Rattle.warp_core.specs.Inner.Kept.{IsSoonest, with_time}
 
 pub soonest_none : (end : ℕ) → IsSoonest [] end (record { time = end; count = 0 })
 soonest_none end = record { least = All-nil (λ (m : Message). end ≤ m.time); count = refl; none = λ e. refl; within = omega arith }

@@ -23,7 +23,7 @@ use Rattle.warp_block.specs.View.{View, Process, entry_of, log_of}
 use Rattle.warp_block.proofs.Filling.{in_map}
 use Rattle.warp_block.proofs.Slots.{of_net-map}
 use Rattle.warp_core.specs.Matched.{no_process, seen_at}
-use Rattle.warp_core.specs.Opened.{AreOpened}
+use Rattle.warp_core.specs.Inner.Opened.{AreOpened}
 use Rattle.warp_core.specs.World.{number_at, logged_by, IsFlying, IsBefore, IsLawfulWorld, IsNewWorld}
 use Rattle.warp_core.proofs.Acting.{sent_accounted, sent_flying}
 

@@ -10,7 +10,7 @@ use Rattle.gate_vcd.specs.Waves.{IsWaveFrom, end_time}
 use Rattle.warp_block.specs.Entries.{no_messages, effective_of}
 use Rattle.warp_block.specs.View.{View, entry_of, effective_at, IsLeast}
 use Rattle.warp_core.specs.Matched.{IsSettledAt, IsTold}
-use Rattle.warp_core.specs.Walk.{IsEntryFrom, IsNext, IsToldFrom, IsWalked}
+use Rattle.warp_core.specs.Inner.Walk.{IsEntryFrom, IsNext, IsToldFrom, IsWalked}
 use Rattle.warp_core.proofs.Entries.{settled_value, settled_empty}
 
 -- before its first time a wave has no changes

@@ -1,21 +1,14 @@
 -- What a round does to a world, and when a driver refuses.
 use Rattle.std.specs.Prelude.{◌≡◌, ℕ, ◌+◌, ◌<◌, ◌==◌, ◌⊎◌, List, codes}
 use Rattle.std.specs.List.{All, count_by}
-use Rattle.warp_block.specs.View.{IsEventTime}
 use Rattle.warp_core.specs.declared.driver.DriveFault.{DriveFault}
 use Rattle.warp_core.specs.declared.driver.DriveFault.TheVariants.{Memory, BadOrder}
-use Rattle.warp_core.specs.Matched.{seen_at}
 use Rattle.warp_core.specs.World.{Scene, IsLeastTime}
 
 -- a permutation of the blocks: each number below their count stands in it once, and no other number
 pub record IsOrder (count : ℕ) (order : List ℕ) : Type 0 where
   pub within : All (λ b. b < count) order
   pub once : (b : ℕ) → b < count → count_by (λ x. x == b) order ≡ 1
-
--- what is left for a block is later than a time: its event times, and the messages in flight for it
-pub record IsPast (w : Scene) (b t : ℕ) : Type 0 where
-  pub events : (u : ℕ) → IsEventTime (seen_at w.blocks b) u → t < u
-  pub flight : All (λ m. m.block ≡ b → t < m.time) w.flight
 
 -- the least time is higher, or was past the horizon and is there
 abbrev pub IsRaised : Scene → Scene → Type 0

@@ -1,11 +1,8 @@
 pub mod Values
 pub mod Matched
 pub mod Gather
-pub mod Walk
 pub mod World
 pub mod Play
-pub mod Kept
-pub mod HeldWorld
-pub mod Opened
 pub mod Schedule
 pub mod Drive
+pub mod Inner

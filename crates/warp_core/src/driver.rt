@@ -6,7 +6,8 @@ ghost use Rattle.warp_block.specs.Limits.{most_horizon};
 ghost use Rattle.warp_core.specs.Values.{AreCircuitWaves};
 ghost use Rattle.warp_core.specs.World.{IsBefore};
 ghost use Rattle.warp_core.specs.Play.{IsSameCourse};
-ghost use Rattle.warp_core.specs.Drive.{IsOrder, IsPast, IsRaised, IsDriveRefusal, drive_fault_name};
+ghost use Rattle.warp_core.specs.Drive.{IsOrder, IsRaised, IsDriveRefusal, drive_fault_name};
+ghost use Rattle.warp_core.specs.Inner.Drive.{IsPast};
 ghost use Rattle.warp_core.specs.declared.event.PlayFault.TheVariants as play;
 ghost use Rattle.warp_core.specs.declared.driver.DriveFault.TheVariants as fault;
 

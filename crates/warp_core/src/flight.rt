@@ -2,7 +2,7 @@
 
 ghost use Rattle.std.specs.Prelude.{◌≡◌, ◌+◌, ◌<◌, ◌≤◌, ◌==◌, ◌^◌, min, if◌then◌else◌, length, take};
 ghost use Rattle.std.specs.List.{All, count_by};
-ghost use Rattle.warp_core.specs.Kept.{IsSoonest, IsLeastOf, with_time};
+ghost use Rattle.warp_core.specs.Inner.Kept.{IsSoonest, IsLeastOf, with_time};
 
 use warp_block::Message;
 

@@ -44,7 +44,7 @@ impl<'a> Model for World<'a> {
 
     ghost Value = { Scene };
 
-    ghost use Rattle.warp_core.specs.HeldWorld.{scene_of, IsHeldWorld};
+    ghost use Rattle.warp_core.specs.Inner.HeldWorld.{scene_of, IsHeldWorld};
 
     ghost view = { scene_of };
 

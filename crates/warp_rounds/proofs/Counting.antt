@@ -6,7 +6,7 @@ use mathlib.Core.Option.{some}
 use lib.ListN.{get_elem?}
 use Rattle.warp_rounds.specs.declared.hand.Hand.{Hand}
 use Rattle.warp_rounds.specs.Words.{times_in, once_below}
-use Rattle.warp_rounds.specs.Rule.{hand_of, both_hands, spent_hand, IsCount}
+use Rattle.warp_rounds.specs.Inner.Rule.{hand_of, both_hands, spent_hand, IsCount}
 use Rattle.warp_rounds.proofs.Sums.{sum_set, sum_set_same}
 
 abbrev draws_in : Hand → ℕ

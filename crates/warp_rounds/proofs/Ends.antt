@@ -11,9 +11,9 @@ use Rattle.atomic_table.proofs.Lists.{set_else}
 use Rattle.warp_rounds.specs.declared.hand.Hand.{Hand}
 use Rattle.warp_rounds.specs.declared.round.EndFault.TheVariants.{Undrawn}
 use Rattle.warp_rounds.specs.Words.{never, times_in, once_below}
-use Rattle.warp_rounds.specs.Rule.{spent_hand, both_hands, IsLast}
+use Rattle.warp_rounds.specs.Inner.Rule.{spent_hand, both_hands, IsLast}
 use Rattle.warp_rounds.specs.Seats.{RoundView, SeatView, drawn_times, IsUnmarked, IsEnd}
-use Rattle.warp_rounds.specs.Inside.{marks_of, IsTakenIn}
+use Rattle.warp_rounds.specs.Inner.Inside.{marks_of, IsTakenIn}
 use Rattle.warp_rounds.proofs.Sums.{sum_set, part_le, sum_alone}
 
 pub takes_none : (h : Hand) (all : List SeatView) → h ≡ spent_hand → IsTakenIn h all all

@@ -12,7 +12,8 @@ use Rattle.warp_block.specs.Receive.{IsRefusal, refusal_of}
 use Rattle.warp_block.specs.declared.fault.BlockFault.{BlockFault}
 use Rattle.warp_block.specs.Sends.{SendsOnce}
 use Rattle.warp_block.proofs.Sends.{sends_nothing, sends_then, sends_for}
-use Rattle.warp_rounds.specs.Turn.{IsReceived, AreReceived, AddsUp, IsFromPending, IsAfterPending, HasReceived, IsRefusedAt}
+use Rattle.warp_rounds.specs.Turn.{IsReceived, AreReceived, AddsUp, IsAfterPending, IsRefusedAt}
+use Rattle.warp_rounds.specs.Inner.Turn.{IsFromPending, HasReceived}
 use Rattle.warp_block.proofs.Laws.{next_after_receive}
 
 -- ---- what the messages change and keep

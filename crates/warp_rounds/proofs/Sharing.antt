@@ -5,7 +5,7 @@ use mathlib.Core.Option.{some}
 use lib.ListN.{get_elem?}
 use Rattle.warp_rounds.specs.declared.hand.Hand.{Hand}
 use Rattle.warp_rounds.specs.Words.{never}
-use Rattle.warp_rounds.specs.Rule.{empty_hand, spent_hand, after_deal, both_hands, IsFair, IsCount, AreShared}
+use Rattle.warp_rounds.specs.Inner.Rule.{empty_hand, spent_hand, after_deal, both_hands, IsFair, IsCount, AreShared}
 use Rattle.warp_rounds.proofs.Sums.{sum_set, sum_le, each_set, each_push, each_one}
 
 abbrev shares_in : Hand → ℕ

@@ -6,7 +6,7 @@ use Rattle.atomic_table.specs.Table.{State, Me, keeps, stepped, Allows, Splits, 
 use Rattle.atomic_table.proofs.Lists.{set_else}
 use Rattle.warp_rounds.specs.declared.hand.Hand.{Hand}
 use Rattle.warp_rounds.specs.Words.{never}
-use Rattle.warp_rounds.specs.Rule.{hand_of, empty_hand, spent_hand, after_draw, after_report, after_deal, both_hands, IsFair, IsCount, HoldsRule}
+use Rattle.warp_rounds.specs.Inner.Rule.{hand_of, empty_hand, spent_hand, after_draw, after_report, after_deal, both_hands, IsFair, IsCount, HoldsRule}
 use Rattle.warp_rounds.proofs.Counting.{count_set, count_push, count_collect, count_draw, count_mark, count_opening}
 use Rattle.warp_rounds.proofs.Timing.{time_set, time_push, time_report, time_collect, time_opening}
 use Rattle.warp_rounds.proofs.Sharing.{shares_set, shares_open, shares_deal, shares_collect, shares_opening, few_draws}

@@ -7,7 +7,7 @@ use lib.ListN.{get_elem?}
 use Rattle.atomic_table.proofs.Lists.{set_else, at_longer}
 use Rattle.warp_rounds.specs.declared.hand.Hand.{Hand}
 use Rattle.warp_rounds.specs.Words.{never}
-use Rattle.warp_rounds.specs.Rule.{after_report, both_hands, spent_hand, IsReached, IsLeastTime}
+use Rattle.warp_rounds.specs.Inner.Rule.{after_report, both_hands, spent_hand, IsReached, IsLeastTime}
 use Rattle.warp_rounds.proofs.Sums.{each_set, each_push, each_one, set_at}
 
 -- the hand at a place has a time

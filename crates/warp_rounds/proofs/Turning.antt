@@ -11,7 +11,8 @@ use Rattle.warp_block.specs.Advance.{IsAdvanced, IsAfterEvent}
 use Rattle.warp_block.specs.Commit.{IsCommitted, IsCommitRefusal}
 use Rattle.warp_block.specs.Sends.{Sends, SendsOnce}
 use Rattle.warp_block.proofs.Sends.{same_standing, sends_nothing, sends_then, sends_for}
-use Rattle.warp_rounds.specs.Turn.{AreReceived, AddsUp, IsFromPending, IsAfterPending, IsFaultyTurn}
+use Rattle.warp_rounds.specs.Turn.{AreReceived, AddsUp, IsAfterPending, IsFaultyTurn}
+use Rattle.warp_rounds.specs.Inner.Turn.{IsFromPending}
 use Rattle.warp_rounds.proofs.Receiving.{received_part, received_horizon, received_numbers}
 
 -- an advance changes no entry

@@ -1,8 +1,5 @@
 pub mod Faults
-pub mod Fit
-pub mod Inside
-pub mod Rule
 pub mod Seats
 pub mod Turn
 pub mod Words
-pub mod Work
+pub mod Inner

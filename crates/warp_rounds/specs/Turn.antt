@@ -1,5 +1,5 @@
 -- What a turn does to a block: it receives messages one after another, commits at a floor, and finishes event times.
-use Rattle.std.specs.Prelude.{◌≡◌, ◌↔◌, Bool, IsTrue, ℕ, ◌+◌, ◌<◌, ◌≤◌, ◌⊎◌, ℤ, pos, ◌+ℤ◌, if◌then◌else◌, Option, None, unwrap_or, List, [], ◌∷◌, ◌++◌, drop, length}
+use Rattle.std.specs.Prelude.{◌≡◌, ℕ, ◌+◌, ◌<◌, ◌⊎◌, ℤ, pos, ◌+ℤ◌, if◌then◌else◌, Option, None, unwrap_or, List, [], ◌∷◌, ◌++◌, drop, length}
 use Rattle.std.specs.List.{Any}
 use Rattle.gate_values.specs.declared.logic.Logic.{Logic}
 use Rattle.warp_block.specs.declared.message.Message.{Message}
@@ -10,7 +10,6 @@ use Rattle.warp_block.specs.View.{View, Process, entry_of, IsEventTime, IsLeast,
 use Rattle.warp_block.specs.Lawful.{IsLawful}
 use Rattle.warp_block.specs.Receive.{does_tell, refusal_of, IsRefusal, IsTaken}
 use Rattle.warp_block.specs.Advance.{IsAdvanced}
-use Rattle.warp_block.specs.Sends.{Sends}
 use Rattle.warp_block.specs.Commit.{IsCommittable, IsCommitted, IsCommitRefusal}
 
 -- ---- messages, one after another
@@ -25,10 +24,6 @@ pub record IsReceived (old new : View) (m : Message) : Type 0 where
 abbrev pub AreReceived : View → View → List Message → Type 0
 AreReceived old new [] = new ≡ old
 AreReceived old new (m ∷ ms) = (next : View) × IsReceived old next m × AreReceived next new ms
-
--- whether the messages, received one after another, take finished event times back: the mark falls
-abbrev pub AreFelt : View → List Message → Bool → Type 0
-AreFelt old ms felt = (heard : View) × AreReceived old heard ms × (IsTrue felt ↔ (heard.mark < old.mark))
 
 -- what a message counts for a value at a time of a net
 abbrev pub weight_at : Message → ℕ → ℕ → Logic → ℤ
@@ -49,10 +44,6 @@ AddsUp old new ms = (n t : ℕ) (x : Logic) → number_of (entry_of new n t) x �
 abbrev pub IsPending : View → List Message → ℕ → Type 0
 IsPending v ms t = IsEventTime v t ⊎ Any (λ m. m.time ≡ t) ms
 
--- a time at or after one at which something is left
-abbrev pub IsFromPending : View → List Message → ℕ → Type 0
-IsFromPending v ms t = (u : ℕ) × IsPending v ms u × (u ≤ t)
-
 -- a time after one at which something is left, and so after the least one
 abbrev pub IsAfterPending : View → List Message → ℕ → Type 0
 IsAfterPending v ms t = (u : ℕ) × IsPending v ms u × (u < t)
@@ -62,13 +53,6 @@ pub record IsLeastPending (v : View) (ms : List Message) (least : ℕ) : Type 0 
   pub found : Option ℕ
   pub first : IsLeast (IsPending v ms) found
   pub reported : least ≡ unwrap_or found (v.horizon + 1)
-
--- Some messages of a list were received, and what has come of it: when something is left to do, and what was sent.
-pub record HasReceived (old new : View) (all some : List Message) (before out : List Message) : Type 0 where
-  pub received : AreReceived old new some
-  pub lawful : IsLawful new
-  pub pending : (t : ℕ) → IsEventTime new t → IsFromPending old all t
-  pub sends : Sends old new (IsAfterPending old all) before out
 
 -- what stands in a list behind what stood there before
 abbrev pub put_behind : List Message → List Message → List Message

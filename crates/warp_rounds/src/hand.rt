@@ -44,7 +44,7 @@ pub struct Hand {
 pub struct RoundRule;
 
 impl TableRule<(), Hand, Plan> for RoundRule {
-    ghost use Rattle.warp_rounds.specs.Rule.{HoldsRule, empty_hand};
+    ghost use Rattle.warp_rounds.specs.Inner.Rule.{HoldsRule, empty_hand};
 
     ghost holds = { λ plan. HoldsRule plan.blocks plan.seats };
 
@@ -56,7 +56,7 @@ pub struct Draw;
 
 impl Play<(), Hand> for Draw {
     ghost use Rattle.std.specs.Prelude.{◌≡◌};
-    ghost use Rattle.warp_rounds.specs.Rule.{after_draw};
+    ghost use Rattle.warp_rounds.specs.Inner.Rule.{after_draw};
 
     ghost then = { λ step before found after. (after.0 ≡ after_draw found before.0) × (after.1 ≡ before.1) };
 }
@@ -66,7 +66,7 @@ pub struct Report;
 
 impl Play<(), Hand> for Report {
     ghost use Rattle.std.specs.Prelude.{◌≡◌};
-    ghost use Rattle.warp_rounds.specs.Rule.{after_report};
+    ghost use Rattle.warp_rounds.specs.Inner.Rule.{after_report};
 
     ghost then = { λ step before found after. (after.0 ≡ after_report step.first before.0) × (after.1 ≡ before.1) };
 }
@@ -75,7 +75,7 @@ impl Play<(), Hand> for Report {
 pub struct Deal;
 
 impl Split<Hand> for Deal {
-    ghost use Rattle.warp_rounds.specs.Rule.{after_deal, empty_hand};
+    ghost use Rattle.warp_rounds.specs.Inner.Rule.{after_deal, empty_hand};
 
     ghost left = { after_deal };
 
@@ -87,7 +87,7 @@ pub struct Open;
 
 impl Play<(), Hand> for Open {
     ghost use Rattle.std.specs.Prelude.{◌≡◌};
-    ghost use Rattle.warp_rounds.specs.Rule.{spent_hand};
+    ghost use Rattle.warp_rounds.specs.Inner.Rule.{spent_hand};
 
     ghost then = { λ step before found after. after.0 ≡ spent_hand };
 }
@@ -96,7 +96,7 @@ impl Play<(), Hand> for Open {
 pub struct Collect;
 
 impl Join<Hand> for Collect {
-    ghost use Rattle.warp_rounds.specs.Rule.{both_hands, spent_hand};
+    ghost use Rattle.warp_rounds.specs.Inner.Rule.{both_hands, spent_hand};
 
     ghost both = { both_hands };
 

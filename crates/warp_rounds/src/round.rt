@@ -1,7 +1,7 @@
 ghost use Rattle.std.specs.Prelude.{◌≡◌, ◌<◌, ◌++◌, min, true, false, [], ◌∷◌, IfOk, IfSome, IfNone, All, replicate};
-ghost use Rattle.warp_rounds.specs.Rule.{IsLast};
+ghost use Rattle.warp_rounds.specs.Inner.Rule.{IsLast};
 ghost use Rattle.warp_rounds.specs.Seats.{empty_seat, IsEnd};
-ghost use Rattle.warp_rounds.specs.Inside.{IsOfTable, IsTakenIn};
+ghost use Rattle.warp_rounds.specs.Inner.Inside.{IsOfTable, IsTakenIn};
 
 use crate::hand::{Collect, Deal, Draw, Hand, Open, Plan, Report, RoundRule};
 use atomic_table::{Seat, Table};
@@ -21,7 +21,7 @@ pub struct Round {
 
 impl Model for Round {
     ghost use Rattle.warp_rounds.specs.Seats.{RoundView};
-    ghost use Rattle.warp_rounds.specs.Inside.{view_of_round, IsKept};
+    ghost use Rattle.warp_rounds.specs.Inner.Inside.{view_of_round, IsKept};
 
     ghost Value = { RoundView };
 
@@ -39,7 +39,7 @@ pub struct RoundSeat {
 
 impl Model for RoundSeat {
     ghost use Rattle.warp_rounds.specs.Seats.{SeatView};
-    ghost use Rattle.warp_rounds.specs.Inside.{view_of_seat, IsSeat};
+    ghost use Rattle.warp_rounds.specs.Inner.Inside.{view_of_seat, IsSeat};
 
     ghost Value = { SeatView };
 

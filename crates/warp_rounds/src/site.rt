@@ -1,7 +1,7 @@
 ghost use Rattle.std.specs.Prelude.{◌≡◌, IfOk, OnOk, []};
 ghost use Rattle.warp_block.specs.Lawful.{IsLawful, IsLawfulProcess};
 ghost use Rattle.warp_rounds.specs.Turn.{IsTurn, StaysInFront};
-ghost use Rattle.warp_rounds.specs.Fit.{fitted, refitted};
+ghost use Rattle.warp_rounds.specs.Inner.Fit.{fitted, refitted};
 
 use crate::gate::Gate;
 use crate::turns::{TurnReport, Turned, turn_through};

@@ -1,6 +1,6 @@
 //! One round of workers: each draws blocks until none is left, and lets each block that it drew take a turn.
 ghost use Rattle.std.specs.Prelude.{◌≡◌, ◌<◌, ◌^◌, IfOk, All, length};
-ghost use Rattle.warp_rounds.specs.Work.{IsOfRound, AreOfRound, AreSeatsOfRound};
+ghost use Rattle.warp_rounds.specs.Inner.Work.{IsOfRound, AreOfRound, AreSeatsOfRound};
 
 use crate::desk::Desk;
 use crate::fault::RunFault;
@@ -28,7 +28,7 @@ pub struct Worker {
 struct OfRound<'a>(&'a Round);
 
 impl<'a> Promise<Worker> for OfRound<'a> {
-    ghost use Rattle.warp_rounds.specs.Work.{IsOfRound};
+    ghost use Rattle.warp_rounds.specs.Inner.Work.{IsOfRound};
 
     ghost kept_by = { λ promise worker. IsOfRound promise.0.now.round worker };
 }

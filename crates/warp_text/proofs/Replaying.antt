@@ -11,7 +11,7 @@ use Rattle.warp_core.specs.declared.event.PlayFault.{PlayFault}
 use Rattle.warp_core.specs.declared.event.PlayFault.TheVariants as play
 use Rattle.warp_core.specs.World.{Scene, IsLeastTime}
 use Rattle.warp_core.specs.Play.{IsPlayed, IsRefused, IsSameCourse}
-use Rattle.warp_text.specs.FaultLines.{event_fault}
+use Rattle.warp_text.specs.Inner.FaultLines.{event_fault}
 use Rattle.warp_text.specs.Replay.{ArePlayed, AreComplete, IsStart, Stops, Plays}
 use Rattle.warp_text.specs.declared.fault.Fault.{Fault}
 use Rattle.warp_text.specs.declared.fault.Fault.TheVariants as faults

@@ -32,10 +32,6 @@ IsNoCircuit bench text (faults.Settings f) = (b : Netlist) × (bench_of bench �
 IsNoCircuit bench text faults.Memory = Unit {0}
 IsNoCircuit bench text _ = ⊥
 
-abbrev pub IsCircuitAnswer : (bench settings : List ℕ) → Result Design Fault → Type 0
-IsCircuitAnswer bench text (Ok d) = IsCircuitOf bench text d
-IsCircuitAnswer bench text (Err fault) = IsNoCircuit bench text fault
-
 -- the counts of the circuit
 unfoldable pub IsCounted : (bench settings : List ℕ) → Result Counts Fault → Type 0
 IsCounted bench text (Ok counts) = (d : Design) × IsCircuitOf bench text d × (counts ≡ counts_of d)

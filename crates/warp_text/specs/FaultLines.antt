@@ -13,8 +13,6 @@ use Rattle.warp_block.specs.declared.fault.BlockFault.{BlockFault}
 use Rattle.warp_block.specs.declared.fault.BlockFault.TheVariants as block
 use Rattle.warp_core.specs.Gather.{gather_fault_name}
 use Rattle.warp_core.specs.Play.{play_fault_name}
-use Rattle.warp_core.specs.declared.event.PlayFault.{PlayFault}
-use Rattle.warp_core.specs.declared.event.PlayFault.TheVariants as play
 use Rattle.warp_core.specs.Schedule.{schedule_cause_name}
 use Rattle.warp_core.specs.declared.fault.GatherFault.TheVariants as gathering
 use Rattle.warp_core.specs.declared.schedule.fault.ScheduleCause.TheVariants as schedule
@@ -81,10 +79,6 @@ stimulus_fault f = elim f.cause [ stimulus.Memory ↦ faults.Memory | _ ↦ faul
 
 abbrev pub schedule_fault : ScheduleFault → Fault
 schedule_fault f = elim f.cause [ schedule.Memory ↦ faults.Memory | _ ↦ faults.Schedule f ]
-
-abbrev pub event_fault : ℕ → PlayFault → Fault
-event_fault number play.Memory = faults.Memory
-event_fault number cause = faults.Event number cause
 
 abbrev pub run_fault : RunFault → Fault
 run_fault run.Memory = faults.Memory

@@ -8,6 +8,6 @@ pub mod CountLines
 pub mod NetLines
 pub mod Replies
 pub mod Outside
-pub mod Line
 pub mod Deliveries
 pub mod Endings
+pub mod Inner

@@ -1,5 +1,5 @@
 //! From the words of a command line to a request.
-ghost use Rattle.warp_text.specs.Line.{sources_of};
+ghost use Rattle.warp_text.specs.Inner.Line.{sources_of};
 ghost use Rattle.std.specs.Prelude.{◌≡◌};
 
 use crate::failure::Failure;

@@ -5,7 +5,8 @@ ghost use Rattle.gate_vcd.specs.Given.{Fits};
 ghost use Rattle.warp_block.specs.Limits.{most_horizon};
 ghost use Rattle.warp_core.specs.Values.{AreCircuitWaves};
 ghost use Rattle.warp_core.specs.World.{IsLeastTime};
-ghost use Rattle.warp_text.specs.FaultLines.{event_fault};
+ghost use Rattle.warp_text.specs.Inner.FaultLines.{event_fault};
+ghost use Rattle.warp_text.specs.Inner.Replay.{IsReplayed};
 ghost use Rattle.warp_text.specs.Replay.{cut_of, ArePlayed, Stops, Plays, IsReplay};
 
 use crate::dump::dump_of;
@@ -101,6 +102,22 @@ fn waves_of(
     play_cut(alloc, circuit, &cut, stimulus, events, until)
 }
 
+/// The dump of a circuit's nets where events are played on its blocks, under two texts.
+fn replay_on(
+    alloc: Global,
+    circuit: &Circuit,
+    stimulus: &[u8],
+    schedule: &[u8],
+    options: &Options,
+) -> Result<Vec<u8>, Fault>
+    ensures { IsReplayed circuit.now stimulus.now schedule.now options.now.blocks options.now.until result }
+{
+    let stimulus = read_stimulus(alloc, stimulus, circuit)?;
+    let events = read_schedule(alloc, schedule)?;
+    let waves = waves_of(alloc, circuit, &stimulus, events.as_slice(), options)?;
+    Ok(dump_of(alloc, circuit, &stimulus, &waves, options.until())?)
+}
+
 /// The dump of every net of a circuit, from time 0 to the options' `until`, in units of the stimulus's timescale, where
 /// a schedule's events are played on the circuit's blocks, one after the other, without threads. The options' workers and
 /// window have no effect.
@@ -108,7 +125,6 @@ fn waves_of(
 /// The texts are judged in this order, and the first that is refused is answered, with its fault; then the first event
 /// that is refused; then, where something is left to do after the last event, the least time of it. Want of memory in any
 /// part is `Fault::Memory`, and no other fault carries it.
-#[tactic(auto, unfolding(crate::specs::Replay::IsReplay))]
 pub fn replay_text(
     alloc: Global,
     bench: &[u8],
@@ -120,8 +136,5 @@ pub fn replay_text(
     ensures { IsReplay bench.now settings.now stimulus.now schedule.now options.now.blocks options.now.until result }
 {
     let circuit = circuit_of(alloc, bench, settings)?;
-    let stimulus = read_stimulus(alloc, stimulus, &circuit)?;
-    let events = read_schedule(alloc, schedule)?;
-    let waves = waves_of(alloc, &circuit, &stimulus, events.as_slice(), options)?;
-    Ok(dump_of(alloc, &circuit, &stimulus, &waves, options.until())?)
+    replay_on(alloc, &circuit, stimulus, schedule, options)
 }

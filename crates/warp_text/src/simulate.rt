@@ -3,7 +3,8 @@ ghost use Rattle.std.specs.Prelude.{◌≡◌, IfOk, IfSome, option_map};
 ghost use Rattle.gate_netlist.specs.Circuit.{CutFits};
 ghost use Rattle.gate_vcd.specs.Given.{Fits};
 ghost use Rattle.warp_core.specs.Values.{AreCircuitWaves};
-ghost use Rattle.warp_text.specs.Answer.{IsCircuitAnswer, IsAnswer, IsCounted, IsListed};
+ghost use Rattle.warp_text.specs.Answer.{IsAnswer, IsCounted, IsListed};
+ghost use Rattle.warp_text.specs.Inner.Answer.{IsCircuitAnswer, IsDumped};
 
 use crate::dump::dump_of;
 use crate::fault::Fault;
@@ -82,13 +83,28 @@ fn waves_of<G: Gate + Sync, R: Threads + Wait + Sync>(
     run_cut(rt, alloc, circuit, &cut, stimulus, options, gate)
 }
 
+/// The dump of a circuit's nets under a stimulus text.
+fn dump_under<G: Gate + Sync, R: Threads + Wait + Sync>(
+    rt: &R,
+    alloc: Global,
+    circuit: &Circuit,
+    stimulus: &[u8],
+    options: &Options,
+    gate: &G,
+) -> Result<Vec<u8>, Fault>
+    ensures { IsDumped circuit.now stimulus.now options.now.until result }
+{
+    let stimulus = read_stimulus(alloc, stimulus, circuit)?;
+    let waves = waves_of(rt, alloc, circuit, &stimulus, options, gate)?;
+    Ok(dump_of(alloc, circuit, &stimulus, &waves, options.until())?)
+}
+
 /// The dump of every net of a circuit, from time 0 to the options' `until`, in units of the stimulus's timescale: of
 /// the circuit of a bench text and a settings text, under a stimulus.
 ///
 /// The texts are judged in this order, and the first that is refused is answered, with its fault; then the run's fault.
 /// Want of memory in any part is `Fault::Memory`, and no other fault carries it. The gate is lent each block as its
 /// turns begin and end.
-#[tactic(auto, unfolding(crate::specs::Answer::IsAnswer))]
 pub fn simulate_text<G: Gate + Sync, R: Threads + Wait + Sync>(
     rt: &R,
     alloc: Global,
@@ -101,9 +117,7 @@ pub fn simulate_text<G: Gate + Sync, R: Threads + Wait + Sync>(
     ensures { IsAnswer bench.now settings.now stimulus.now options.now.until result }
 {
     let circuit = circuit_of(alloc, bench, settings)?;
-    let stimulus = read_stimulus(alloc, stimulus, &circuit)?;
-    let waves = waves_of(rt, alloc, &circuit, &stimulus, options, gate)?;
-    Ok(dump_of(alloc, &circuit, &stimulus, &waves, options.until())?)
+    dump_under(rt, alloc, &circuit, stimulus, options, gate)
 }
 
 /// How many parts a circuit has.

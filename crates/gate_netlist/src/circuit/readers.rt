@@ -3,8 +3,8 @@ ghost use Rattle.std.specs.Prelude.{◌≡◌, ℕ, ◌<◌, ◌≤◌, length, 
 ghost use Rattle.std.specs.List.{All, range_with_len};
 ghost use Rattle.gate_netlist.specs.declared.driver.Driver.TheVariants.{Input};
 ghost use Rattle.gate_netlist.specs.Circuit.{nets_used, readers_among};
-ghost use Rattle.gate_netlist.specs.Groups.{group};
-ghost use Rattle.gate_netlist.specs.Readers.{AreOpen, AreTold, AreListed};
+ghost use Rattle.gate_netlist.specs.Inner.Groups.{group};
+ghost use Rattle.gate_netlist.specs.Inner.Readers.{AreOpen, AreTold, AreListed};
 
 use crate::driver::Driver;
 use crate::groups::{Groups, Keyed};

@@ -2,7 +2,7 @@
 ghost use Rattle.std.specs.Prelude.{◌≡◌, map, string_bytes};
 ghost use Rattle.toml.specs.View.{table_view};
 ghost use Rattle.gate_netlist.specs.Settings.{table_at};
-ghost use Rattle.gate_netlist.specs.Members.{IsAnyMember, IsAnyNet};
+ghost use Rattle.gate_netlist.specs.Inner.Members.{IsAnyMember, IsAnyNet};
 
 use super::values::table_at;
 use crate::bench::Definition;

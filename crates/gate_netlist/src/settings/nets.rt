@@ -3,7 +3,7 @@ ghost use Rattle.std.specs.List.{zip};
 ghost use Rattle.std.specs.BTreeMap.{values};
 ghost use Rattle.toml.specs.View.{view, table_view};
 ghost use Rattle.gate_netlist.specs.Settings.{as_block, delay_at, default_delay, net_block, greatest_block};
-ghost use Rattle.gate_netlist.specs.Kinds.{kind_delays, delay_of_kind, members_in, delay_among};
+ghost use Rattle.gate_netlist.specs.Inner.Kinds.{kind_delays, delay_of_kind, members_in, delay_among};
 ghost use Rattle.gate_netlist.specs.Meaning.{delays_of, owners_of};
 
 use super::values::{block_at, block_of, delay_at, table_at};

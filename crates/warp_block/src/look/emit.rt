@@ -3,12 +3,12 @@ ghost use Rattle.std.specs.List.{flat_map};
 ghost use Rattle.warp_block.specs.Limits.{most_horizon};
 ghost use Rattle.warp_block.specs.declared.message.Sign.TheVariants.{Plus};
 ghost use Rattle.warp_block.specs.Portion.{is_driven};
-ghost use Rattle.warp_block.specs.Moments.{moment_of};
+ghost use Rattle.warp_block.specs.Inner.Moments.{moment_of};
 ghost use Rattle.warp_block.specs.Lawful.{IsSaved};
 ghost use Rattle.warp_block.specs.Sends.{SendsOnce};
-ghost use Rattle.warp_block.specs.Advance.{IsQuiet};
-ghost use Rattle.warp_block.specs.Held.{lists_in};
-ghost use Rattle.warp_block.specs.Step.{source_at, net_at, log_at, emitted, sent, told, Extends, IsEmitted, IsPartlyEmitted};
+ghost use Rattle.warp_block.specs.Inner.Advance.{IsQuiet};
+ghost use Rattle.warp_block.specs.Inner.Held.{lists_in};
+ghost use Rattle.warp_block.specs.Inner.Step.{source_at, net_at, log_at, emitted, sent, told, Extends, IsEmitted, IsPartlyEmitted};
 
 use super::Look;
 use crate::log;

@@ -3,10 +3,10 @@ ghost use Rattle.warp_block.specs.declared.message.Sign.TheVariants.{Plus};
 ghost use Rattle.warp_block.specs.View.{is_busy, moment_before};
 ghost use Rattle.warp_block.specs.Lawful.{IsSaved};
 ghost use Rattle.warp_block.specs.Sends.{SendsOnce};
-ghost use Rattle.warp_block.specs.Advance.{IsQuiet, IsCaughtUp};
-ghost use Rattle.warp_block.specs.StateLists.{now_of, saved_by, FitTogether, HasRoom};
-ghost use Rattle.warp_block.specs.Present.{AreStates};
-ghost use Rattle.warp_block.specs.Contents.{IsContent};
+ghost use Rattle.warp_block.specs.Inner.Advance.{IsQuiet, IsCaughtUp};
+ghost use Rattle.warp_block.specs.Inner.StateLists.{now_of, saved_by, FitTogether, HasRoom};
+ghost use Rattle.warp_block.specs.Inner.Present.{AreStates};
+ghost use Rattle.warp_block.specs.Inner.Contents.{IsContent};
 
 use super::Look;
 use crate::message::Message;

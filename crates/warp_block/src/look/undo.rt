@@ -5,12 +5,12 @@ ghost use Rattle.warp_block.specs.Limits.{most_horizon};
 ghost use Rattle.warp_block.specs.declared.message.Sign.TheVariants.{Minus};
 ghost use Rattle.warp_block.specs.Portion.{hears};
 ghost use Rattle.warp_block.specs.Entries.{effective_of};
-ghost use Rattle.warp_block.specs.Logs.{IsLog};
+ghost use Rattle.warp_block.specs.Inner.Logs.{IsLog};
 ghost use Rattle.warp_block.specs.View.{effective_at};
 ghost use Rattle.warp_block.specs.Sends.{SendsOnce};
-ghost use Rattle.warp_block.specs.Receive.{IsPut};
-ghost use Rattle.warp_block.specs.Held.{lists_in};
-ghost use Rattle.warp_block.specs.Step.{source_at, log_at, since_time, told, Extends, AreCut};
+ghost use Rattle.warp_block.specs.Inner.Receive.{IsPut};
+ghost use Rattle.warp_block.specs.Inner.Held.{lists_in};
+ghost use Rattle.warp_block.specs.Inner.Step.{source_at, log_at, since_time, told, Extends, AreCut};
 
 use super::Look;
 use super::emit::tell;

@@ -4,7 +4,7 @@ ghost use Rattle.std.specs.List.Sorted.{IsStrictlyIncreasing};
 ghost use Rattle.gate_netlist.specs.Circuit.{nets_of, driver_of, source_of, is_input as is_outer};
 ghost use Rattle.warp_block.specs.Portion.{slot_of};
 ghost use Rattle.warp_block.specs.PartOf.{is_own, is_used_by, part_nets, part_source};
-ghost use Rattle.warp_block.specs.Building.{driver_uses, place_of, AreMarked, IsCell, HasMore, AreCells};
+ghost use Rattle.warp_block.specs.Inner.Building.{driver_uses, place_of, AreMarked, IsCell, HasMore, AreCells};
 
 use super::slots::place_in;
 use crate::cell::{Cell, Span};

@@ -4,8 +4,8 @@ ghost use Rattle.std.specs.List.Sorted.{IsStrictlyIncreasing};
 ghost use Rattle.gate_netlist.specs.Circuit.{nets_of};
 ghost use Rattle.warp_block.specs.Portion.{slot_of};
 ghost use Rattle.warp_block.specs.PartOf.{is_own, part_nets, part_readers};
-ghost use Rattle.warp_block.specs.HeldPart.{stretch};
-ghost use Rattle.warp_block.specs.Building.{driver_uses, has, lists_of, AreRising, AreTold, AreReaders};
+ghost use Rattle.warp_block.specs.Inner.HeldPart.{stretch};
+ghost use Rattle.warp_block.specs.Inner.Building.{driver_uses, has, lists_of, AreRising, AreTold, AreReaders};
 
 use super::build::is_own;
 use super::slots::place_in;

@@ -1,5 +1,5 @@
 ghost use Rattle.std.specs.Prelude.{◌≡◌, ◌≤◌, ◌+◌, ◌↔◌, IsTrue, length};
-ghost use Rattle.warp_block.specs.SamePart.{SameCell, Spans};
+ghost use Rattle.warp_block.specs.Inner.SamePart.{SameCell, Spans};
 
 use crate::cell::Cell;
 use gate_values::{Kind, Logic};

@@ -1,7 +1,7 @@
 ghost use Rattle.std.specs.Prelude.{◌≡◌, ◌<◌, IsTrue, is_some, length};
 ghost use Rattle.std.specs.List.Sorted.{IsStrictlyIncreasing};
 ghost use Rattle.warp_block.specs.Portion.{slot_of};
-ghost use Rattle.warp_block.specs.Building.{place_of};
+ghost use Rattle.warp_block.specs.Inner.Building.{place_of};
 
 /// The place of a net among others, which ascend.
 pub(super) fn slot_in(nets: &[u32], net: u32) -> Option<usize>

@@ -3,12 +3,12 @@
 ghost use Rattle.std.specs.Prelude.{◌≡◌, ◌≤◌, ◌+◌, ◌↔◌, IsTrue, MatchOption};
 ghost use Rattle.gate_values.specs.Changes.{before_time};
 ghost use Rattle.gate_vcd.specs.Given.{changes_of};
-ghost use Rattle.gate_vcd.specs.Lists.{IsRising};
+ghost use Rattle.gate_vcd.specs.Inner.Lists.{IsRising};
 ghost use Rattle.gate_vcd.specs.Waves.{IsWave, IsUntil};
 ghost use Rattle.warp_block.specs.Limits.{most_horizon};
 ghost use Rattle.warp_block.specs.View.{log_of};
 ghost use Rattle.warp_core.specs.Matched.{seen_at, IsSettledAt, AreSettled, IsTold, IsToldAt, AreTold, EachBlock, told_of};
-ghost use Rattle.warp_core.specs.Walk.{IsNext};
+ghost use Rattle.warp_core.specs.Inner.Walk.{IsNext};
 ghost use Rattle.warp_core.specs.Gather.{AreCounted, IsFirst, IsFirstBlock};
 
 use gate_netlist::Cut;

@@ -12,7 +12,7 @@ ghost use Rattle.warp_block.specs.Sends.{SendsOnce};
 ghost use Rattle.warp_block.specs.View.{IsDone};
 ghost use Rattle.warp_core.specs.Matched.{no_process, seen_at};
 ghost use Rattle.warp_core.specs.Play.{IsOtherwiseSame};
-ghost use Rattle.warp_core.specs.Kept.{IsNextTime};
+ghost use Rattle.warp_core.specs.Inner.Kept.{IsNextTime};
 
 use warp_block::{Block, BlockFault, Message};
 

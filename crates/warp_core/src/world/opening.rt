@@ -4,8 +4,8 @@ ghost use Rattle.std.specs.Prelude.{◌≡◌, ◌≤◌, [], IfOk, OnOk};
 ghost use Rattle.gate_netlist.specs.Circuit.{CutFits};
 ghost use Rattle.gate_vcd.specs.Given.{Fits};
 ghost use Rattle.warp_block.specs.Limits.{most_horizon};
-ghost use Rattle.warp_core.specs.Kept.{AreNextTimes};
-ghost use Rattle.warp_core.specs.Opened.{AreOpened};
+ghost use Rattle.warp_core.specs.Inner.Kept.{AreNextTimes};
+ghost use Rattle.warp_core.specs.Inner.Opened.{AreOpened};
 
 use super::acts::next_of;
 use gate_netlist::{Circuit, Cut};

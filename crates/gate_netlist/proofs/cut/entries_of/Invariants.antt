@@ -1,4 +1,4 @@
-use Rattle.gate_netlist.specs.Owned.{AreOwned}
+use Rattle.gate_netlist.specs.Inner.Owned.{AreOwned}
 use Rattle.gate_netlist.proofs.cut.entries_of.Given as goal
 
 abbrev pub invariant-loop-net : goal.invariant-loop-net

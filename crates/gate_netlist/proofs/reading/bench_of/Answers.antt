@@ -1,7 +1,7 @@
 use Rattle.std.proofs.Common.{arith}
 use Rattle.gate_netlist.specs.Passes.{lines_after}
-use Rattle.gate_netlist.specs.Keys.{names_in}
-use Rattle.gate_netlist.specs.Meant.{meant}
+use Rattle.gate_netlist.specs.Inner.Keys.{names_in}
+use Rattle.gate_netlist.specs.Inner.Meant.{meant}
 use Rattle.gate_netlist.proofs.Accepting.{line_counted}
 use Rattle.gate_netlist.proofs.Resolving.{is_read, linked_text, linked_more, linked_fault, linked_all}
 use Rattle.gate_netlist.proofs.reading.bench_of.Goals as goal

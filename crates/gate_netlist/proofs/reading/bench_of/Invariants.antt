@@ -1,6 +1,6 @@
 use Rattle.std.proofs.Common.{◌≡◌, ◌+◌, ◌≤◌, length}
 use Rattle.gate_netlist.specs.Passes.{lines_after}
-use Rattle.gate_netlist.specs.Keys.{names_in}
+use Rattle.gate_netlist.specs.Inner.Keys.{names_in}
 use Rattle.gate_netlist.specs.Bench.{bench_of}
 use Rattle.gate_netlist.proofs.Accepting.{text_left}
 use Rattle.gate_netlist.proofs.Resolving.{linked_lines}

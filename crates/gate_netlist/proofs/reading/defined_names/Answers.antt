@@ -1,6 +1,6 @@
 use Rattle.gate_netlist.specs.Passes.{lines_after}
-use Rattle.gate_netlist.specs.Keys.{names_in}
-use Rattle.gate_netlist.specs.Meant.{meant}
+use Rattle.gate_netlist.specs.Inner.Keys.{names_in}
+use Rattle.gate_netlist.specs.Inner.Meant.{meant}
 use Rattle.gate_netlist.proofs.Accepting.{one_more, refused_at, all_read, line_counted}
 use Rattle.gate_netlist.proofs.Resolving.{within}
 use Rattle.gate_netlist.proofs.reading.defined_names.Goals as goal

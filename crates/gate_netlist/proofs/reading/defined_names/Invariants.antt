@@ -1,8 +1,8 @@
 use Rattle.std.proofs.Common.{◌≡◌, ◌+◌, ◌≤◌, length}
 use Rattle.gate_netlist.specs.Passes.{lines_after}
-use Rattle.gate_netlist.specs.Keys.{names_in}
+use Rattle.gate_netlist.specs.Inner.Keys.{names_in}
 use Rattle.gate_netlist.specs.Bench.{accepted}
-use Rattle.gate_netlist.specs.Passes.{defined_names}
+use Rattle.gate_netlist.specs.Inner.Passes.{defined_names}
 use Rattle.gate_netlist.proofs.Accepting.{after, text_left}
 use Rattle.gate_netlist.proofs.reading.defined_names.Given as goal
 

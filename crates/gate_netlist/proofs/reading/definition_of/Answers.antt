@@ -1,7 +1,7 @@
 use Rattle.std.proofs.Common.{Some, sym, ap}
 use Rattle.gate_netlist.specs.declared.bench.Definition.TheVariants.{Gate}
 use Rattle.std.proofs.lemmas.Simd.{map-map}
-use Rattle.gate_netlist.specs.Keys.{names_in}
+use Rattle.gate_netlist.specs.Inner.Keys.{names_in}
 use Rattle.gate_netlist.specs.Bench.{number_among}
 use Rattle.gate_netlist.proofs.reading.definition_of.Goals as goal
 

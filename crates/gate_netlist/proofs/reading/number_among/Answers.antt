@@ -1,7 +1,7 @@
 use Rattle.std.proofs.Common.{sym, ◌∙◌, string_bytes}
 use Rattle.std.specs.Str.{bytes_eq}
 use Rattle.std.proofs.lemmas.List.{length-map}
-use Rattle.gate_netlist.specs.Keys.{names_in}
+use Rattle.gate_netlist.specs.Inner.Keys.{names_in}
 use Rattle.gate_netlist.proofs.Positions.{position-map}
 use Rattle.gate_netlist.proofs.Naming.{place_some, place_none}
 use Rattle.gate_netlist.proofs.reading.number_among.Goals as goal

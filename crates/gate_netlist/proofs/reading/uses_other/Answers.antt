@@ -1,5 +1,5 @@
 use Rattle.std.proofs.Common.{not, sym, ap}
-use Rattle.gate_netlist.specs.Keys.{names_in}
+use Rattle.gate_netlist.specs.Inner.Keys.{names_in}
 use Rattle.gate_netlist.specs.Bench.{is_among}
 use Rattle.gate_netlist.proofs.Naming.{list_all-map}
 use Rattle.gate_netlist.proofs.reading.uses_other.Goals as goal

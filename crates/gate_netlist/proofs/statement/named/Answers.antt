@@ -1,7 +1,7 @@
 use Rattle.std.proofs.Common.{drop}
 use Rattle.std.proofs.lemmas.List.{take_rest, map_push}
-use Rattle.gate_netlist.specs.Meant.{names_meant}
-use Rattle.gate_netlist.specs.Tokens.{symbols_of}
+use Rattle.gate_netlist.specs.Inner.Meant.{names_meant}
+use Rattle.gate_netlist.specs.Inner.Tokens.{symbols_of}
 use Rattle.gate_netlist.proofs.Splitting.{ends_bare, ends_closed, ends_broken, ends_past, goes_on_at}
 use Rattle.gate_netlist.proofs.statement.named.Goals as goal
 

@@ -1,7 +1,7 @@
 use Rattle.std.proofs.Common.{◌≡◌, ◌++◌, ◌-◌, length, drop, option_map}
 use Rattle.gate_netlist.specs.Statements.{named}
-use Rattle.gate_netlist.specs.Meant.{names_meant}
-use Rattle.gate_netlist.specs.Tokens.{symbols_of}
+use Rattle.gate_netlist.specs.Inner.Meant.{names_meant}
+use Rattle.gate_netlist.specs.Inner.Tokens.{symbols_of}
 use Rattle.gate_netlist.proofs.statement.named.Given as goal
 
 abbrev pub invariant-loop-at : goal.invariant-loop-at

@@ -1,5 +1,5 @@
 use Rattle.std.proofs.Common.{sym, ◌∙◌}
-use Rattle.gate_netlist.specs.Tokens.{symbols_of}
+use Rattle.gate_netlist.specs.Inner.Tokens.{symbols_of}
 use Rattle.gate_netlist.proofs.Words.{symbols-end}
 use Rattle.gate_netlist.proofs.token.tokenize.Goals as goal
 

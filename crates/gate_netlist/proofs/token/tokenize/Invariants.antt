@@ -1,6 +1,6 @@
 use Rattle.std.proofs.Common.{◌≡◌, ◌++◌, length}
 use Rattle.gate_netlist.specs.Symbols.{symbols}
-use Rattle.gate_netlist.specs.Tokens.{symbols_of}
+use Rattle.gate_netlist.specs.Inner.Tokens.{symbols_of}
 use Rattle.gate_netlist.proofs.token.tokenize.Given as goal
 
 abbrev pub invariant-loop-rest : goal.invariant-loop-rest

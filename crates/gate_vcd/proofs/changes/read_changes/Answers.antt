@@ -1,7 +1,7 @@
 use Rattle.std.proofs.lemmas.Result.{err_from_is_err_and}
 use Rattle.gate_vcd.specs.Changes.{items, nothing, events_from}
-use Rattle.gate_vcd.specs.Items.{item_of, taken_in}
-use Rattle.gate_vcd.specs.Known.{knows}
+use Rattle.gate_vcd.specs.Inner.Items.{item_of, taken_in}
+use Rattle.gate_vcd.specs.Inner.Known.{knows}
 use Rattle.gate_vcd.proofs.ItemLaws.{goes-start, goes-on, goes-wrong, goes-out}
 use Rattle.gate_vcd.proofs.changes.read_changes.Goals as goal
 

@@ -1,7 +1,7 @@
 use Rattle.std.proofs.Common.{length}
 use Rattle.gate_vcd.specs.Changes.{events_from, items, nothing}
-use Rattle.gate_vcd.specs.Known.{knows}
-use Rattle.gate_vcd.specs.Items.{taken_in}
+use Rattle.gate_vcd.specs.Inner.Known.{knows}
+use Rattle.gate_vcd.specs.Inner.Items.{taken_in}
 use Rattle.gate_vcd.proofs.ItemLaws.{GoesOn}
 use Rattle.gate_vcd.proofs.changes.read_changes.Given as goal
 

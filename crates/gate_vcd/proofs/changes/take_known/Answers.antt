@@ -1,6 +1,6 @@
 use Rattle.std.proofs.Common.{◌∙◌}
-use Rattle.gate_vcd.specs.Items.{taken_in}
-use Rattle.gate_vcd.specs.Known.{sources_in}
+use Rattle.gate_vcd.specs.Inner.Items.{taken_in}
+use Rattle.gate_vcd.specs.Inner.Known.{sources_in}
 use Rattle.gate_vcd.proofs.Holding.{held-unused}
 use Rattle.gate_vcd.proofs.changes.take_known.Goals as goal
 

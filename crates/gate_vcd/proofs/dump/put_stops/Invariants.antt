@@ -1,4 +1,4 @@
-use Rattle.gate_vcd.specs.Walk.{IsWalked}
+use Rattle.gate_vcd.specs.Inner.Walk.{IsWalked}
 use Rattle.gate_vcd.proofs.dump.put_stops.Given as goal
 
 -- the changes so far

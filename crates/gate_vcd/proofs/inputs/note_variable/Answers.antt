@@ -1,6 +1,6 @@
 use Rattle.std.proofs.Common.{◌∙◌, sym, ap, ℕ, List, Bor, option_map}
 use Rattle.std.proofs.lemmas.Result.{on_ok_weaker}
-use Rattle.gate_vcd.specs.Scalars.{code_in}
+use Rattle.gate_vcd.specs.Inner.Scalars.{code_in}
 use Rattle.gate_vcd.proofs.InputLaws.{noted-plain, noted-short}
 use Rattle.gate_vcd.proofs.inputs.note_variable.Goals as goal
 

@@ -1,6 +1,6 @@
 use Rattle.std.proofs.Common.{◌≡◌, take}
-use Rattle.gate_vcd.specs.Known.{sources_by}
-use Rattle.gate_vcd.specs.Scalars.{numbers_of}
+use Rattle.gate_vcd.specs.Inner.Known.{sources_by}
+use Rattle.gate_vcd.specs.Inner.Scalars.{numbers_of}
 use Rattle.gate_vcd.proofs.inputs.numbers_of.Given as goal
 
 -- the numbers of the nets so far

@@ -1,4 +1,4 @@
-use Rattle.gate_vcd.specs.Scalars.{code_in}
+use Rattle.gate_vcd.specs.Inner.Scalars.{code_in}
 use Rattle.gate_vcd.proofs.InputLaws.{more_scalars}
 use Rattle.gate_vcd.proofs.inputs.scalars_of.Goals as goal
 

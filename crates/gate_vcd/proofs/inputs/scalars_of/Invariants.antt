@@ -1,6 +1,6 @@
 use Rattle.std.proofs.Common.{take}
-use Rattle.gate_vcd.specs.Commands.{variables}
-use Rattle.gate_vcd.specs.Scalars.{AreScalars}
+use Rattle.gate_vcd.specs.Inner.Commands.{variables}
+use Rattle.gate_vcd.specs.Inner.Scalars.{AreScalars}
 use Rattle.gate_vcd.proofs.inputs.scalars_of.Given as goal
 
 -- the scalars among the variables so far are kept

@@ -1,9 +1,9 @@
 use Rattle.std.proofs.Common.{◌≡◌, ℕ, List, None, is_some, take}
 use Rattle.std.specs.List.{list_any}
 use Rattle.std.specs.Str.{bytes_eq}
-use Rattle.gate_vcd.specs.Commands.{variables}
-use Rattle.gate_vcd.specs.Known.{flat}
-use Rattle.gate_vcd.specs.Table.{found_in}
+use Rattle.gate_vcd.specs.Inner.Commands.{variables}
+use Rattle.gate_vcd.specs.Inner.Known.{flat}
+use Rattle.gate_vcd.specs.Inner.Table.{found_in}
 use Rattle.gate_vcd.proofs.known.codes_of.Given as goal
 
 -- the codes of the variables so far are known

@@ -1,5 +1,5 @@
 use Rattle.std.proofs.Common.{◌≡◌, take}
-use Rattle.warp_block.specs.Held.{lists_in}
+use Rattle.warp_block.specs.Inner.Held.{lists_in}
 use Rattle.warp_block.proofs.look.copies.Given as goal
 
 -- so many lists are copied

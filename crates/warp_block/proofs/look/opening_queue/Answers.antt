@@ -3,7 +3,7 @@ use Rattle.std.proofs.lemmas.Bool.{cond-true, cond-false}
 use Rattle.gate_values.specs.declared.logic.Change.{Change}
 use Rattle.gate_values.specs.Changes.{before_time}
 use Rattle.gate_vcd.specs.Given.{changes_of}
-use Rattle.gate_vcd.specs.Lists.{IsRising}
+use Rattle.gate_vcd.specs.Inner.Lists.{IsRising}
 use Rattle.gate_vcd.proofs.Laid.{its_rising}
 use Rattle.warp_block.specs.Opening.{message_of}
 use Rattle.warp_block.specs.Portion.{is_input}

@@ -1,6 +1,7 @@
 use Rattle.std.proofs.Common.{◌≤◌, ◌-◌, drop, take, length, Some, IsSome, is_some, sym, ◌∙◌, ap, subst, arith}
 use Rattle.std.proofs.lemmas.List.{take_rest}
-use Rattle.warp_block.specs.Entries.{Received, effective_of, effective_in}
+use Rattle.warp_block.specs.Entries.{Received, effective_of}
+use Rattle.warp_block.specs.Inner.Entries.{effective_in}
 use Rattle.warp_block.specs.View.{IsLeast}
 use Rattle.warp_block.proofs.QueueOrder.{effective-first, effective-nowhere}
 use Rattle.warp_block.proofs.queue.next_effective.Goals as goal

@@ -1,5 +1,5 @@
 use Rattle.std.proofs.Common.{◌+◌, take, get_or, refl, sym, subst}
-use Rattle.warp_core.specs.Kept.{IsLeastOf}
+use Rattle.warp_core.specs.Inner.Kept.{IsLeastOf}
 use Rattle.warp_core.proofs.NextTimes.{least_more}
 use Rattle.warp_core.proofs.flight.least_of.Goals as goal
 

@@ -1,5 +1,5 @@
 use Rattle.std.proofs.Common.{take}
-use Rattle.warp_core.specs.Kept.{IsLeastOf}
+use Rattle.warp_core.specs.Inner.Kept.{IsLeastOf}
 use Rattle.warp_core.proofs.flight.least_of.Given as goal
 
 abbrev pub invariant-loop-time : goal.invariant-loop-time

@@ -1,5 +1,5 @@
 use Rattle.std.proofs.Common.{take}
-use Rattle.warp_core.specs.Kept.{IsSoonest}
+use Rattle.warp_core.specs.Inner.Kept.{IsSoonest}
 use Rattle.warp_core.proofs.flight.soonest_from.Given as goal
 
 -- the messages before the place are counted

@@ -1,7 +1,7 @@
 use Rattle.std.proofs.Common.{cond, ap, ◌∙◌, arith}
 use Rattle.std.proofs.lemmas.List.Elements.{All-head, All-rest}
 use Rattle.warp_rounds.specs.Seats.{SeatView}
-use Rattle.warp_rounds.specs.Inside.{IsOfTable}
+use Rattle.warp_rounds.specs.Inner.Inside.{IsOfTable}
 use Rattle.warp_rounds.proofs.Steps.{collect_keeps, open_keeps}
 use Rattle.warp_rounds.proofs.Ends.{takes_one, IsHandOf}
 use Rattle.warp_rounds.proofs.round.collected.Goals as goal

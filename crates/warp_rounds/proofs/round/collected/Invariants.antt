@@ -1,6 +1,6 @@
 use Rattle.std.proofs.Common.{◌≡◌, [], All}
 use Rattle.std.specs.Vec.Iter.{into_iter_items}
-use Rattle.warp_rounds.specs.Inside.{IsOfTable, IsTakenIn}
+use Rattle.warp_rounds.specs.Inner.Inside.{IsOfTable, IsTakenIn}
 use Rattle.warp_rounds.proofs.round.collected.Given as goal
 
 abbrev pub invariant-loop-place : goal.invariant-loop-place

@@ -1,5 +1,5 @@
 use Rattle.std.proofs.Common.{take}
-use Rattle.warp_rounds.specs.Turn.{HasReceived}
+use Rattle.warp_rounds.specs.Inner.Turn.{HasReceived}
 use Rattle.warp_rounds.proofs.turns.receive_all.Given as goal
 
 abbrev pub invariant-loop-message : goal.invariant-loop-message

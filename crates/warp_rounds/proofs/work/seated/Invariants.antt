@@ -1,6 +1,6 @@
 use Rattle.std.specs.Vec.Iter.{into_iter_items}
 use Rattle.warp_rounds.specs.Seats.{RoundId}
-use Rattle.warp_rounds.specs.Work.{AreOfRound, AreSeatsOfRound}
+use Rattle.warp_rounds.specs.Inner.Work.{AreOfRound, AreSeatsOfRound}
 use Rattle.warp_rounds.proofs.work.seated.Given as goal
 
 abbrev pub invariant-loop-seat : goal.invariant-loop-seat

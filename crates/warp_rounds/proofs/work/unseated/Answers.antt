@@ -1,7 +1,7 @@
 use Rattle.std.proofs.Common.{◌≡◌}
 use Rattle.std.proofs.lemmas.List.Elements.{All-head, All-tail, All-push, All-same}
 use Rattle.warp_rounds.specs.Seats.{SeatView}
-use Rattle.warp_rounds.specs.Work.{IsOfRound}
+use Rattle.warp_rounds.specs.Inner.Work.{IsOfRound}
 use Rattle.warp_rounds.proofs.work.unseated.Goals as goal
 
 pub loop-worker-preserved : goal.loop-worker-preserved

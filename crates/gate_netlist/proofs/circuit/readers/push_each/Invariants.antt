@@ -1,6 +1,6 @@
 use Rattle.std.proofs.Common.{◌≡◌, length, take}
-use Rattle.gate_netlist.specs.Groups.{group}
-use Rattle.gate_netlist.specs.Readers.{AreTold}
+use Rattle.gate_netlist.specs.Inner.Groups.{group}
+use Rattle.gate_netlist.specs.Inner.Readers.{AreTold}
 use Rattle.gate_netlist.proofs.circuit.readers.push_each.Given as goal
 
 abbrev pub invariant-loop-net : goal.invariant-loop-net

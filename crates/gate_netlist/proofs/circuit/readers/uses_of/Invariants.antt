@@ -1,5 +1,5 @@
 use Rattle.std.proofs.Common.{◌≡◌, length}
-use Rattle.gate_netlist.specs.Readers.{AreOpen, AreListed}
+use Rattle.gate_netlist.specs.Inner.Readers.{AreOpen, AreListed}
 use Rattle.gate_netlist.proofs.circuit.readers.uses_of.Given as goal
 
 abbrev pub invariant-loop-reader : goal.invariant-loop-reader

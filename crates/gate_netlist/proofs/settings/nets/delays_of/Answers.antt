@@ -2,7 +2,7 @@ use Rattle.std.proofs.Common.{rules, string_bytes}
 use Rattle.std.proofs.lemmas.Iterator.{YieldsList-from_slice, YieldsList-from_zip, YieldsList-from_map, items_from_collect}
 use Rattle.std.proofs.lemmas.Iterator.Consumers.{YieldsList-at}
 use Rattle.toml.specs.View.{table_view}
-use Rattle.gate_netlist.specs.Kinds.{members_in, delay_among}
+use Rattle.gate_netlist.specs.Inner.Kinds.{members_in, delay_among}
 use Rattle.gate_netlist.proofs.SettingNets.{delays_are}
 use Rattle.gate_netlist.proofs.settings.nets.delays_of.Goals as goal
 

@@ -1,7 +1,7 @@
 use Rattle.std.proofs.Common.{◌∙◌, sym, ℕ, List, Bor}
 use Rattle.std.specs.Str.{bytes_eq}
 use Rattle.indexmap.specs.IndexMap.{get_by}
-use Rattle.gate_vcd.specs.Table.{found_in}
+use Rattle.gate_vcd.specs.Inner.Table.{found_in}
 use Rattle.gate_vcd.proofs.TableLaws.{put-short, put-long}
 use Rattle.gate_vcd.proofs.table.CodeTable.insert.Goals as goal
 

@@ -1,6 +1,6 @@
 use Rattle.std.proofs.Common.{◌≤◌, length, drop}
-use Rattle.gate_vcd.specs.Commands.{variables}
-use Rattle.gate_vcd.specs.Scalars.{AreVectors}
+use Rattle.gate_vcd.specs.Inner.Commands.{variables}
+use Rattle.gate_vcd.specs.Inner.Scalars.{AreVectors}
 use Rattle.gate_vcd.proofs.vectors.Vectors.of.Given as goal
 
 -- the vectors among the variables from the place on are kept

@@ -1,5 +1,5 @@
 use Rattle.std.proofs.Common.{◌<◌, ◌∙◌, sym, length, arith}
-use Rattle.gate_vcd.specs.Scalars.{bit}
+use Rattle.gate_vcd.specs.Inner.Scalars.{bit}
 use Rattle.gate_vcd.proofs.VectorLaws.{left-start, left-stands, left-found, left-next, left-less, left-end, standing}
 use Rattle.gate_vcd.proofs.vectors.Vectors.source_of.Goals as goal
 

@@ -1,6 +1,6 @@
 use Rattle.std.proofs.Common.{List}
 use Rattle.gate_vcd.specs.Declarations.{Variable}
-use Rattle.gate_vcd.specs.Scalars.{AreVectors, bit}
+use Rattle.gate_vcd.specs.Inner.Scalars.{AreVectors, bit}
 use Rattle.gate_vcd.proofs.Links.{rank}
 use Rattle.gate_vcd.proofs.VectorLaws.{IsLeft}
 use Rattle.gate_vcd.proofs.vectors.Vectors.source_of.Given as goal

@@ -2,8 +2,8 @@ use Rattle.std.proofs.Common.{◌-◌, ◌≤◌, max, drop, List, sym, ◌∙�
 use Rattle.std.specs.Result.{IfErr}
 use Rattle.warp_block.specs.View.{View, Process, Saved}
 use Rattle.warp_block.specs.Lawful.{IsLawfulProcess}
-use Rattle.warp_block.specs.StateLists.{now_of, saved_by}
-use Rattle.warp_block.specs.Present.{IsPresent}
+use Rattle.warp_block.specs.Inner.StateLists.{now_of, saved_by}
+use Rattle.warp_block.specs.Inner.Present.{IsPresent}
 use Rattle.warp_block.specs.Commit.{IsCommitted, IsCommitRefusal}
 use Rattle.warp_block.proofs.Receiving.{saved_rise}
 use Rattle.warp_block.proofs.Committed.{committed_process, committed, refused_with}

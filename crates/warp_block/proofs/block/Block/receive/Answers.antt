@@ -7,12 +7,13 @@ use Rattle.warp_block.specs.Entries.{effective_of}
 use Rattle.warp_block.specs.Portion.{hears}
 use Rattle.warp_block.specs.View.{Process, Saved, effective_at}
 use Rattle.warp_block.specs.Lawful.{IsSaved, AreSaved}
-use Rattle.warp_block.specs.Receive.{IsPut, IsRefusal, refusal_of}
-use Rattle.warp_block.specs.StateLists.{now_of, saved_by}
+use Rattle.warp_block.specs.Receive.{IsRefusal, refusal_of}
+use Rattle.warp_block.specs.Inner.Receive.{IsPut}
+use Rattle.warp_block.specs.Inner.StateLists.{now_of, saved_by}
 use Rattle.warp_block.proofs.Slots.{slot_is}
 use Rattle.warp_block.proofs.Sends.{once_nothing, same_logs, same_standing}
 use Rattle.warp_block.proofs.Receiving.{rolled, kept, rolled_saved, kept_saved, refused_memory, saved_rise, not_late, kept_present}
-use Rattle.warp_block.specs.Present.{newest_of}
+use Rattle.warp_block.specs.Inner.Present.{newest_of}
 use Rattle.warp_block.proofs.Keeping.{first_floor, at_newest}
 use Rattle.warp_block.proofs.block.Block.receive.Goals as goal
 

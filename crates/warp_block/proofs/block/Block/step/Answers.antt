@@ -4,8 +4,8 @@ use Rattle.std.proofs.lemmas.Result.{err_from_is_err_and}
 use Rattle.warp_block.specs.declared.state.TheConstants.{SAVE_EVERY}
 use Rattle.warp_block.specs.View.{View, Process, Saved, IsLeast, IsEventTime}
 use Rattle.warp_block.specs.Lawful.{IsSaved}
-use Rattle.warp_block.specs.StateLists.{saved_by}
-use Rattle.warp_block.specs.Present.{AreStates}
+use Rattle.warp_block.specs.Inner.StateLists.{saved_by}
+use Rattle.warp_block.specs.Inner.Present.{AreStates}
 use Rattle.warp_block.proofs.SavingStep.{one_advanced, quiet_before_least}
 use Rattle.warp_block.proofs.Keeping.{AreKept, rising, first_of, none_dropped, back_again, few_since_saved, stepped, saved_too}
 use Rattle.warp_block.proofs.block.Block.step.Goals as goal

@@ -1,6 +1,6 @@
 use Rattle.std.proofs.Common.{◌≡◌, ◌-◌}
-use Rattle.warp_block.specs.StateLists.{now_of, saved_by}
-use Rattle.warp_block.specs.Present.{AreStates}
+use Rattle.warp_block.specs.Inner.StateLists.{now_of, saved_by}
+use Rattle.warp_block.specs.Inner.Present.{AreStates}
 use Rattle.warp_block.proofs.look.Look.coast.Given as goal
 
 abbrev pub invariant-loop : goal.invariant-loop

@@ -1,5 +1,5 @@
 use Rattle.std.proofs.Common.{◌≡◌, ◌+◌, length, refl, arith}
-use Rattle.warp_block.specs.Held.{lists_in, view_of}
+use Rattle.warp_block.specs.Inner.Held.{lists_in, view_of}
 use Rattle.warp_block.proofs.Finishing.{finish_lawful, finish_sends, partly_rises, cut_back}
 use Rattle.warp_block.proofs.Rows.{rows_len}
 use Rattle.warp_block.proofs.look.Look.finish.Goals as goal

@@ -1,7 +1,7 @@
 use Rattle.std.proofs.Common.{length, ap, ◌∙◌, arith}
 use Rattle.std.proofs.lemmas.List.{length-map}
 use Rattle.warp_block.specs.View.{moment_before}
-use Rattle.warp_block.specs.StateLists.{now_of}
+use Rattle.warp_block.specs.Inner.StateLists.{now_of}
 use Rattle.warp_block.proofs.look.Look.go_over.Goals as goal
 
 pub set_values-requires-clause-values : goal.set_values-requires-clause-values

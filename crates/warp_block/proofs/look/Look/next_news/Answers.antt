@@ -1,10 +1,11 @@
 use Rattle.std.proofs.Common.{ap, sym, ◌∙◌, subst, List, get_or}
 use Rattle.gate_values.specs.declared.logic.Change.{Change}
 use Rattle.gate_values.specs.Changes.{pair_at}
-use Rattle.warp_block.specs.Entries.{Received, IsQueue, effective_in}
-use Rattle.warp_block.specs.Logs.{IsLog}
+use Rattle.warp_block.specs.Entries.{Received, IsQueue}
+use Rattle.warp_block.specs.Inner.Entries.{effective_in}
+use Rattle.warp_block.specs.Inner.Logs.{IsLog}
 use Rattle.warp_block.specs.View.{news_of}
-use Rattle.warp_block.specs.Held.{view_of}
+use Rattle.warp_block.specs.Inner.Held.{view_of}
 use Rattle.warp_block.proofs.Rows.{in_part, queue_row, log_row, queue_ordered, log_rises, news_own, news_read, same_next}
 use Rattle.warp_block.proofs.look.Look.next_news.Goals as goal
 

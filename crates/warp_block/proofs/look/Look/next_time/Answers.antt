@@ -1,6 +1,6 @@
 use Rattle.std.proofs.Common.{ℕ, ap, subst}
 use Rattle.warp_block.specs.View.{View, IsLeast}
-use Rattle.warp_block.specs.Advance.{IsBusyFrom}
+use Rattle.warp_block.specs.Inner.Advance.{IsBusyFrom}
 use Rattle.warp_block.proofs.look.Look.next_time.Goals as goal
 
 pub returns : goal.returns

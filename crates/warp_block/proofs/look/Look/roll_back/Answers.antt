@@ -3,8 +3,8 @@ use Rattle.std.specs.declared.alloc.Global.{Global}
 use Rattle.std.proofs.lemmas.List.{map-set, length-map}
 use Rattle.gate_values.specs.declared.logic.Change.{Change}
 use Rattle.warp_block.specs.Entries.{Received, IsQueue, entry_in}
-use Rattle.warp_block.specs.Logs.{IsLog}
-use Rattle.warp_block.specs.Held.{lists_in, view_of}
+use Rattle.warp_block.specs.Inner.Logs.{IsLog}
+use Rattle.warp_block.specs.Inner.Held.{lists_in, view_of}
 use Rattle.warp_block.proofs.Rows.{in_part, queue_row, queue_ordered, queues_kept, rows_len, all_rise}
 use Rattle.warp_block.proofs.Rolling.{roll_lawful, roll_sends, put_is}
 use Rattle.warp_block.proofs.look.Look.roll_back.Goals as goal

@@ -4,7 +4,7 @@ use Rattle.gate_values.specs.declared.logic.Logic.{Logic}
 use Rattle.gate_values.specs.declared.logic.Logic.TheVariants.{X}
 use Rattle.warp_block.specs.Portion.{Portion}
 use Rattle.warp_block.specs.View.{Saved, moment_before}
-use Rattle.warp_block.specs.StateLists.{now_of}
+use Rattle.warp_block.specs.Inner.StateLists.{now_of}
 use Rattle.warp_block.proofs.Coasting.{IsSetAt, none_set, set_next, all_set}
 use Rattle.warp_block.proofs.look.Look.set_values.Goals as goal
 

@@ -1,6 +1,6 @@
 use Rattle.std.proofs.Common.{◌≡◌, ◌+◌, ◌<◌, map}
 use Rattle.warp_block.specs.View.{moment_before}
-use Rattle.warp_block.specs.StateLists.{now_of, saved_by, FitTogether}
+use Rattle.warp_block.specs.Inner.StateLists.{now_of, saved_by, FitTogether}
 use Rattle.warp_block.proofs.Coasting.{IsSetAt}
 use Rattle.warp_block.proofs.look.Look.set_values.Given as goal
 

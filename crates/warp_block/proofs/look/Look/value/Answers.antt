@@ -2,9 +2,10 @@ use Rattle.std.proofs.Common.{ap, sym, ◌∙◌, subst, List}
 use Rattle.gate_values.specs.declared.logic.Logic.TheVariants.{X}
 use Rattle.gate_values.specs.declared.logic.Change.{Change}
 use Rattle.gate_values.specs.Changes.{latest, held}
-use Rattle.warp_block.specs.Entries.{Received, IsQueue, effective_in}
-use Rattle.warp_block.specs.Logs.{IsLog}
-use Rattle.warp_block.specs.Held.{view_of}
+use Rattle.warp_block.specs.Entries.{Received, IsQueue}
+use Rattle.warp_block.specs.Inner.Entries.{effective_in}
+use Rattle.warp_block.specs.Inner.Logs.{IsLog}
+use Rattle.warp_block.specs.Inner.Held.{view_of}
 use Rattle.warp_block.proofs.Rows.{in_part, queue_row, log_row, queue_ordered, log_rises, value_own, value_read}
 use Rattle.warp_block.proofs.look.Look.value.Goals as goal
 

@@ -1,8 +1,8 @@
 use Rattle.std.proofs.Common.{rules, ◌<◌, length, refl, ap, sym, ◌∙◌, arith}
 use Rattle.warp_block.specs.declared.message.Sign.TheVariants.{Plus}
-use Rattle.warp_block.specs.Moments.{moment_of}
-use Rattle.warp_block.specs.Held.{lists_in}
-use Rattle.warp_block.specs.Step.{log_at, emitted}
+use Rattle.warp_block.specs.Inner.Moments.{moment_of}
+use Rattle.warp_block.specs.Inner.Held.{lists_in}
+use Rattle.warp_block.specs.Inner.Step.{log_at, emitted}
 use Rattle.warp_block.proofs.Rows.{row_at}
 use Rattle.warp_block.proofs.Emitting.{IsEmitted-more, IsPartlyEmitted-some, told-more}
 use Rattle.warp_block.proofs.look.emit.emit_all.Goals as goal

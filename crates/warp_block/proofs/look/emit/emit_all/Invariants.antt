@@ -1,8 +1,8 @@
 use Rattle.std.proofs.Common.{◌≡◌, ◌++◌, vec_len}
 use Rattle.warp_block.specs.declared.message.Sign.TheVariants.{Plus}
-use Rattle.warp_block.specs.Moments.{moment_of}
-use Rattle.warp_block.specs.Held.{lists_in}
-use Rattle.warp_block.specs.Step.{log_at, emitted, told, IsEmitted}
+use Rattle.warp_block.specs.Inner.Moments.{moment_of}
+use Rattle.warp_block.specs.Inner.Held.{lists_in}
+use Rattle.warp_block.specs.Inner.Step.{log_at, emitted, told, IsEmitted}
 use Rattle.warp_block.proofs.look.emit.emit_all.Given as goal
 
 abbrev pub invariant-loop-slot : goal.invariant-loop-slot

@@ -1,5 +1,5 @@
 use Rattle.std.proofs.Common.{◌≡◌, ◌++◌, take}
-use Rattle.warp_block.specs.Step.{sent}
+use Rattle.warp_block.specs.Inner.Step.{sent}
 use Rattle.warp_block.proofs.look.emit.send.Given as goal
 
 abbrev pub invariant-loop-reader : goal.invariant-loop-reader

@@ -1,6 +1,6 @@
 use Rattle.std.proofs.Common.{◌≡◌, ◌++◌, take}
 use Rattle.std.specs.List.{flat_map}
-use Rattle.warp_block.specs.Step.{sent}
+use Rattle.warp_block.specs.Inner.Step.{sent}
 use Rattle.warp_block.proofs.look.emit.tell.Given as goal
 
 abbrev pub invariant-loop-change : goal.invariant-loop-change

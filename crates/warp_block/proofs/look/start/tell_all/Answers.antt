@@ -1,7 +1,7 @@
 use Rattle.std.proofs.Common.{◌<◌, length, sym, ◌∙◌, arith}
 use Rattle.warp_block.specs.declared.message.Sign.TheVariants.{Plus}
-use Rattle.warp_block.specs.Held.{lists_in}
-use Rattle.warp_block.specs.Step.{log_at}
+use Rattle.warp_block.specs.Inner.Held.{lists_in}
+use Rattle.warp_block.specs.Inner.Step.{log_at}
 use Rattle.warp_block.proofs.Rows.{row_at}
 use Rattle.warp_block.proofs.Emitting.{told-more}
 use Rattle.warp_block.proofs.look.start.tell_all.Goals as goal

@@ -1,7 +1,7 @@
 use Rattle.std.proofs.Common.{◌≡◌, ◌++◌}
 use Rattle.warp_block.specs.declared.message.Sign.TheVariants.{Plus}
-use Rattle.warp_block.specs.Held.{lists_in}
-use Rattle.warp_block.specs.Step.{log_at, told}
+use Rattle.warp_block.specs.Inner.Held.{lists_in}
+use Rattle.warp_block.specs.Inner.Step.{log_at, told}
 use Rattle.warp_block.proofs.look.start.tell_all.Given as goal
 
 abbrev pub invariant-loop-slot : goal.invariant-loop-slot

@@ -1,6 +1,6 @@
 use Rattle.std.proofs.Common.{◌<◌, length, arith}
 use Rattle.std.proofs.lemmas.List.{length-map}
-use Rattle.warp_block.specs.Held.{lists_in}
+use Rattle.warp_block.specs.Inner.Held.{lists_in}
 use Rattle.warp_block.proofs.Rows.{row_at}
 use Rattle.warp_block.proofs.Emitting.{IsLog-kept, AreCut-more}
 use Rattle.warp_block.proofs.look.undo.cut_all.Goals as goal

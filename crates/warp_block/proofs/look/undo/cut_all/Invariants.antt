@@ -1,6 +1,6 @@
 use Rattle.std.proofs.Common.{◌≡◌, vec_len}
-use Rattle.warp_block.specs.Held.{lists_in}
-use Rattle.warp_block.specs.Step.{AreCut}
+use Rattle.warp_block.specs.Inner.Held.{lists_in}
+use Rattle.warp_block.specs.Inner.Step.{AreCut}
 use Rattle.warp_block.proofs.look.undo.cut_all.Given as goal
 
 abbrev pub invariant-loop-slot : goal.invariant-loop-slot

@@ -2,9 +2,9 @@ use Rattle.std.proofs.Common.{◌<◌, ◌+◌, length, refl, ap, sym, ◌∙◌
 use Rattle.std.proofs.lemmas.List.{length-map}
 use Rattle.gate_values.specs.Behaviour.{delay_of}
 use Rattle.warp_block.specs.declared.message.Sign.TheVariants.{Minus}
-use Rattle.warp_block.specs.Held.{lists_in}
-use Rattle.warp_block.specs.Logs.{IsLog}
-use Rattle.warp_block.specs.Step.{source_at, log_at, since_time}
+use Rattle.warp_block.specs.Inner.Held.{lists_in}
+use Rattle.warp_block.specs.Inner.Logs.{IsLog}
+use Rattle.warp_block.specs.Inner.Step.{source_at, log_at, since_time}
 use Rattle.warp_block.proofs.Rows.{row_at}
 use Rattle.warp_block.proofs.Emitting.{IsLog-kept, told-more}
 use Rattle.warp_block.proofs.look.undo.take_back_all.Goals as goal

@@ -1,8 +1,8 @@
 use Rattle.std.proofs.Common.{◌≡◌, ◌++◌, ◌+◌}
 use Rattle.gate_values.specs.Behaviour.{delay_of}
 use Rattle.warp_block.specs.declared.message.Sign.TheVariants.{Minus}
-use Rattle.warp_block.specs.Held.{lists_in}
-use Rattle.warp_block.specs.Step.{source_at, log_at, since_time, told}
+use Rattle.warp_block.specs.Inner.Held.{lists_in}
+use Rattle.warp_block.specs.Inner.Step.{source_at, log_at, since_time, told}
 use Rattle.warp_block.proofs.look.undo.take_back_all.Given as goal
 
 abbrev pub invariant-loop-slot : goal.invariant-loop-slot

@@ -1,5 +1,5 @@
 use Rattle.std.proofs.Common.{ℕ, ◌<◌}
-use Rattle.warp_block.specs.SamePart.{SameAt}
+use Rattle.warp_block.specs.Inner.SamePart.{SameAt}
 use Rattle.warp_block.proofs.part.Part.is_same_everywhere.Given as goal
 
 abbrev pub invariant-loop-slot : goal.invariant-loop-slot

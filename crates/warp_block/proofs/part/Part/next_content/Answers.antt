@@ -2,7 +2,7 @@ use Rattle.std.proofs.Common.{sym, ◌∙◌, length, arith}
 use Rattle.std.proofs.lemmas.List.{get_or_default}
 use Rattle.gate_values.specs.declared.logic.Logic.TheVariants.{Zero, X}
 use Rattle.warp_block.specs.declared.cell.Cell.TheVariants.{Flop}
-use Rattle.warp_block.specs.HeldPart.{CellFits}
+use Rattle.warp_block.specs.Inner.HeldPart.{CellFits}
 use Rattle.warp_block.proofs.PartHeld.{flop_content, fits-at}
 use Rattle.warp_block.proofs.part.Part.next_content.Goals as goal
 

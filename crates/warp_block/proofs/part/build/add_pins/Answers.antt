@@ -1,4 +1,4 @@
-use Rattle.warp_block.specs.Building.{place_of}
+use Rattle.warp_block.specs.Inner.Building.{place_of}
 use Rattle.warp_block.proofs.PartBuilding.{pushed_more}
 use Rattle.warp_block.proofs.part.build.add_pins.Goals as goal
 

@@ -1,5 +1,5 @@
 use Rattle.std.proofs.Common.{◌≡◌, length}
-use Rattle.warp_block.specs.Building.{AreCells}
+use Rattle.warp_block.specs.Inner.Building.{AreCells}
 use Rattle.warp_block.proofs.part.build.cells_of.Given as goal
 
 abbrev pub invariant-loop-net : goal.invariant-loop-net

@@ -1,5 +1,5 @@
 use Rattle.std.proofs.Common.{take}
-use Rattle.warp_block.specs.Building.{AreMarked}
+use Rattle.warp_block.specs.Inner.Building.{AreMarked}
 use Rattle.warp_block.proofs.part.build.mark_all.Given as goal
 
 abbrev pub invariant-loop-net : goal.invariant-loop-net

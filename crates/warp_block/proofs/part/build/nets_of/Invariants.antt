@@ -1,5 +1,5 @@
 use Rattle.std.proofs.Common.{◌≡◌}
-use Rattle.warp_block.specs.Building.{nets_below}
+use Rattle.warp_block.specs.Inner.Building.{nets_below}
 use Rattle.warp_block.proofs.part.build.nets_of.Given as goal
 
 abbrev pub invariant-loop-net : goal.invariant-loop-net

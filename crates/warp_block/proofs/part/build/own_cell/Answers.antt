@@ -1,7 +1,7 @@
 use Rattle.std.proofs.Common.{◌≡◌, map, sym, ◌∙◌, arith}
 use Rattle.gate_netlist.specs.Circuit.{driver_of}
 use Rattle.gate_netlist.specs.declared.driver.Driver.TheVariants.{Gate, Flop}
-use Rattle.warp_block.specs.Building.{place_of}
+use Rattle.warp_block.specs.Inner.Building.{place_of}
 use Rattle.warp_block.proofs.PartBuilding.{gate_is, flop_is, gate_cell, flop_cell, places_within}
 use Rattle.warp_block.proofs.part.build.own_cell.Goals as goal
 

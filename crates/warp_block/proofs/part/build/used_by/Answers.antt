@@ -1,7 +1,7 @@
 use Rattle.std.proofs.Common.{◌≡◌, Bool, false, replicate, ap, sym, ◌∙◌, rules, arith}
 use Rattle.std.proofs.lemmas.List.{with_items_is}
 use Rattle.gate_netlist.specs.Circuit.{nets_of}
-use Rattle.warp_block.specs.Building.{AreMarked, driver_uses}
+use Rattle.warp_block.specs.Inner.Building.{AreMarked, driver_uses}
 use Rattle.warp_block.proofs.PartBuilding.{AreUsed-none, AreUsed-own, AreUsed-other, AreUsed-all, marked-below}
 use Rattle.warp_block.proofs.part.build.used_by.Goals as goal
 use Rattle.warp_block.proofs.part.build.used_by.Goals.{then-is_own, else-is_own}

@@ -1,4 +1,4 @@
-use Rattle.warp_block.specs.Building.{AreUsed}
+use Rattle.warp_block.specs.Inner.Building.{AreUsed}
 use Rattle.warp_block.proofs.part.build.used_by.Given as goal
 
 abbrev pub invariant-loop-net : goal.invariant-loop-net

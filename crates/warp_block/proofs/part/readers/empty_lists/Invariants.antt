@@ -1,5 +1,5 @@
 use Rattle.std.proofs.Common.{◌≡◌, [], replicate}
-use Rattle.warp_block.specs.Building.{lists_of}
+use Rattle.warp_block.specs.Inner.Building.{lists_of}
 use Rattle.warp_block.proofs.part.readers.empty_lists.Given as goal
 
 abbrev pub invariant-loop : goal.invariant-loop

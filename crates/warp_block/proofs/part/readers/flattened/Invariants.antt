@@ -1,8 +1,8 @@
 use Rattle.std.proofs.Common.{◌≡◌, ◌+◌, ◌≤◌, length, map, take}
 use Rattle.std.specs.List.{All}
 use Rattle.warp_block.specs.declared.cell.Span.{Span}
-use Rattle.warp_block.specs.HeldPart.{stretch}
-use Rattle.warp_block.specs.Building.{lists_of}
+use Rattle.warp_block.specs.Inner.HeldPart.{stretch}
+use Rattle.warp_block.specs.Inner.Building.{lists_of}
 use Rattle.warp_block.proofs.part.readers.flattened.Given as goal
 
 abbrev pub invariant-loop-list : goal.invariant-loop-list

@@ -1,4 +1,4 @@
-use Rattle.warp_block.specs.Building.{lists_of, AreReaders}
+use Rattle.warp_block.specs.Inner.Building.{lists_of, AreReaders}
 use Rattle.warp_block.proofs.part.readers.readers_of.Given as goal
 
 abbrev pub invariant-loop-gate : goal.invariant-loop-gate

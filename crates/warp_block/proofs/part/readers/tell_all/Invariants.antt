@@ -1,5 +1,5 @@
 use Rattle.std.proofs.Common.{◌≡◌, length, take}
-use Rattle.warp_block.specs.Building.{lists_of, AreTold}
+use Rattle.warp_block.specs.Inner.Building.{lists_of, AreTold}
 use Rattle.warp_block.proofs.part.readers.tell_all.Given as goal
 
 abbrev pub invariant-loop-net : goal.invariant-loop-net

@@ -1,8 +1,8 @@
 use Rattle.std.proofs.Common.{◌≡◌, ◌≤◌, map, drop, length, get_or, List, ap, sym, ◌∙◌, subst, All}
 use Rattle.std.proofs.lemmas.List.Elements.{All-drop}
 use Rattle.warp_block.specs.declared.states.Place.{Place}
-use Rattle.warp_block.specs.States.{states_at, earlier}
-use Rattle.warp_block.specs.StateLists.{now_of, IsOld}
+use Rattle.warp_block.specs.Inner.States.{states_at, earlier}
+use Rattle.warp_block.specs.Inner.StateLists.{now_of, IsOld}
 use Rattle.warp_block.proofs.Undoing.{left_from, left_states, left_within, left_rising}
 use Rattle.warp_block.proofs.states.States.forget.Goals as goal
 

@@ -5,9 +5,9 @@ use Rattle.std.proofs.lemmas.List.Elements.{All-take}
 use Rattle.warp_block.specs.declared.states.Old.{Old}
 use Rattle.warp_block.specs.declared.states.Place.{Place}
 use Rattle.warp_block.specs.View.{Saved}
-use Rattle.warp_block.specs.States.{back, state_at, states_at}
-use Rattle.warp_block.specs.StateLists.{now_of, saved_by, IsOld}
-use Rattle.warp_block.specs.Present.{unsaved, newest_of}
+use Rattle.warp_block.specs.Inner.States.{back, state_at, states_at}
+use Rattle.warp_block.specs.Inner.StateLists.{now_of, saved_by, IsOld}
+use Rattle.warp_block.specs.Inner.Present.{unsaved, newest_of}
 use Rattle.warp_block.proofs.Newest.{newest_take}
 use Rattle.warp_block.proofs.Undoing.{rolled_back, rolled_now, rolled_within, rolled_rising, state_point, places_rise, first_kept, ends}
 use Rattle.warp_block.proofs.states.States.roll_back.Goals as goal

@@ -1,7 +1,7 @@
 use Rattle.std.proofs.Common.{◌+◌, ◌∙◌, ap, subst, sym}
 use Rattle.gate_values.specs.Changes.{before_time}
 use Rattle.gate_vcd.specs.Given.{changes_of}
-use Rattle.gate_vcd.specs.Lists.{IsRising}
+use Rattle.gate_vcd.specs.Inner.Lists.{IsRising}
 use Rattle.gate_vcd.specs.Waves.{IsWave, IsUntil}
 use Rattle.gate_vcd.proofs.Laid.{its_rising}
 use Rattle.warp_core.proofs.Finished.{given_wave}

@@ -1,4 +1,4 @@
-use Rattle.warp_core.specs.Walk.{IsWalked}
+use Rattle.warp_core.specs.Inner.Walk.{IsWalked}
 use Rattle.warp_core.proofs.gathering.told.is_told.Given as goal
 
 abbrev pub invariant-loop-change : goal.invariant-loop-change

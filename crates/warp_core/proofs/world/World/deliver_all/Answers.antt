@@ -2,7 +2,7 @@ use Rattle.std.proofs.Common.{◌≡◌, ◌+◌, ◌-◌, ◌<◌, ap, sym, sub
 use Rattle.std.proofs.lemmas.Bool.{cases_eq}
 use Rattle.gate_values.specs.declared.logic.Logic.TheVariants.{Zero}
 use Rattle.warp_block.specs.declared.message.Sign.TheVariants.{Plus}
-use Rattle.warp_core.specs.Drive.{IsPast}
+use Rattle.warp_core.specs.Inner.Drive.{IsPast}
 use Rattle.warp_core.specs.World.{Scene}
 use Rattle.warp_core.proofs.Driving.{delivered_keeps, received_step, delivered_size, course_then, other_block}
 use Rattle.warp_core.proofs.world.World.deliver_all.Goals as goal

@@ -1,6 +1,6 @@
 use Rattle.std.proofs.Common.{◌≡◌, ℕ, ◌<◌, ◌≤◌, length, get_or}
 use Rattle.warp_block.specs.declared.message.Message.{Message}
-use Rattle.warp_core.specs.Drive.{IsPast}
+use Rattle.warp_core.specs.Inner.Drive.{IsPast}
 use Rattle.warp_core.specs.Play.{IsSameCourse}
 use Rattle.warp_core.specs.World.{IsBefore}
 use Rattle.warp_core.proofs.world.World.deliver_all.Given as goal

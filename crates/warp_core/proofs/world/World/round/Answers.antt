@@ -1,7 +1,8 @@
 use Rattle.std.proofs.Common.{◌≡◌, ◌<◌, ℕ, get_or, ap, sym, ◌∙◌, subst, arith, inl, inr}
 use Rattle.std.proofs.lemmas.Bool.{cases_eq}
 use Rattle.std.proofs.lemmas.List.Elements.{All-get_or}
-use Rattle.warp_core.specs.Drive.{IsOrder, IsPast}
+use Rattle.warp_core.specs.Drive.{IsOrder}
+use Rattle.warp_core.specs.Inner.Drive.{IsPast}
 use Rattle.warp_core.proofs.Driving.{course_then, raised}
 use Rattle.warp_core.proofs.world.World.round.Goals as goal
 

@@ -1,5 +1,5 @@
 use Rattle.std.proofs.Common.{ℕ, ◌<◌, get_or}
-use Rattle.warp_core.specs.Drive.{IsPast}
+use Rattle.warp_core.specs.Inner.Drive.{IsPast}
 use Rattle.warp_core.specs.Play.{IsSameCourse}
 use Rattle.warp_core.specs.World.{IsBefore}
 use Rattle.warp_core.proofs.world.World.round.Given as goal

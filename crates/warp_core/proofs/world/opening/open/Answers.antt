@@ -4,7 +4,7 @@ use Rattle.warp_block.specs.Opening.{silent_view, opening_view}
 use Rattle.warp_block.specs.Portion.{Portion}
 use Rattle.warp_block.specs.Sends.{SendsOnce}
 use Rattle.warp_block.specs.View.{Process}
-use Rattle.warp_core.specs.Opened.{AreOpened}
+use Rattle.warp_core.specs.Inner.Opened.{AreOpened}
 use Rattle.warp_core.proofs.StartingWorlds.{more_opened}
 use Rattle.warp_core.proofs.world.opening.open.Goals as goal
 

@@ -1,4 +1,4 @@
-use Rattle.warp_core.specs.Opened.{AreOpened}
+use Rattle.warp_core.specs.Inner.Opened.{AreOpened}
 use Rattle.warp_core.proofs.world.opening.open.Given as goal
 
 abbrev pub invariant-loop-number : goal.invariant-loop-number

@@ -1,5 +1,5 @@
 use Rattle.std.proofs.Common.{◌≡◌, ◌-◌, ◌≤◌, [], replicate}
-use Rattle.warp_rounds.specs.Rule.{empty_hand}
+use Rattle.warp_rounds.specs.Inner.Rule.{empty_hand}
 use Rattle.warp_rounds.specs.Seats.{empty_seat}
 use Rattle.warp_rounds.proofs.round.Round.new.Given as goal
 

@@ -3,7 +3,7 @@ use Rattle.std.proofs.lemmas.List.Elements.{All-rest, All-push, All-same}
 use Rattle.std.specs.declared.thread.PromisedHandle.{PromisedHandle}
 use Rattle.warp_rounds.specs.declared.work.Worker.{Worker}
 use Rattle.warp_rounds.specs.declared.work.OfRound.{OfRound}
-use Rattle.warp_rounds.specs.Work.{IsOfRound}
+use Rattle.warp_rounds.specs.Inner.Work.{IsOfRound}
 use Rattle.warp_rounds.proofs.work.fn.work_all.scope.Goals as goal
 
 pub loop-worker-preserved : goal.loop-worker-preserved

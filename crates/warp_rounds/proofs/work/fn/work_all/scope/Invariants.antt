@@ -1,6 +1,6 @@
 use Rattle.std.proofs.Common.{◌≡◌, All, length}
 use Rattle.std.specs.Vec.Iter.{into_iter_items}
-use Rattle.warp_rounds.specs.Work.{IsOfRound, AreOfRound}
+use Rattle.warp_rounds.specs.Inner.Work.{IsOfRound, AreOfRound}
 use Rattle.warp_rounds.proofs.work.fn.work_all.scope.Given as goal
 
 abbrev pub invariant-loop-worker : goal.invariant-loop-worker

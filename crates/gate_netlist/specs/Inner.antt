@@ -1,0 +1,19 @@
+-- What only the proofs of this crate need: no contract of a public call speaks of it.
+pub mod Clocked
+pub mod Faults
+pub mod Groups
+pub mod Held
+pub mod HeldBench
+pub mod HeldCut
+pub mod HeldParts
+pub mod Keys
+pub mod Kinds
+pub mod Meaning
+pub mod Meant
+pub mod Members
+pub mod Netlist
+pub mod Owned
+pub mod Passes
+pub mod Readers
+pub mod Splits
+pub mod Tokens

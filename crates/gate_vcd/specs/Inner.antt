@@ -1,0 +1,19 @@
+-- What only the proofs of this crate need: no contract of a public call speaks of it.
+pub mod Commands
+pub mod Grown
+pub mod Headers
+pub mod Held
+pub mod HeldWaves
+pub mod Items
+pub mod Known
+pub mod Lists
+pub mod Lots
+pub mod Reading
+pub mod Scalars
+pub mod Scopes
+pub mod Sink
+pub mod Sought
+pub mod Table
+pub mod Walk
+pub mod Waves
+pub mod Words

@@ -1,0 +1,92 @@
+-- What a reader of changes keeps of the codes of a text.
+use Rattle.std.specs.Prelude.{◌≡◌, ◌⊎◌, ◌≤◌, ℕ, zero, suc, Bool, false, ◌&&◌, ◌||◌, nat_eq, if◌then◌else◌, List, length, map, get_or, slice_get, position, Option, Some, None, is_some, option_map, option_and_then}
+use Rattle.std.specs.Option.{option_map_or}
+use Rattle.std.specs.List.{list_any}
+use Rattle.std.specs.Str.{bytes_eq}
+use Rattle.indexmap.specs.IndexSet.{IndexSet}
+use Rattle.gate_netlist.specs.declared.seed.TextSeed.{TextSeed}
+use Rattle.gate_vcd.specs.declared.source.Source.{Source as Held}
+use Rattle.gate_vcd.specs.declared.known.KnownCodes.{KnownCodes}
+use Rattle.gate_vcd.specs.Inner.Table.{found_in}
+use Rattle.gate_vcd.specs.Changes.{Source}
+
+-- a source, without where it lies in memory
+abbrev pub source : Held → Source
+source s = record { code = s.code.now; place = s.place }
+
+abbrev pub source_by : Option Held → Option Source
+source_by s = option_map source s
+
+abbrev pub same_source : Source → Source → Bool
+same_source a b = bytes_eq a.code b.code && nat_eq a.place b.place
+
+-- sources with numbers
+abbrev pub Sources : Type 0
+Sources = IndexSet Held TextSeed
+
+abbrev pub is_taken : Sources → Source → Bool
+is_taken sources s = list_any (λ k. same_source s (source k)) sources.keys
+
+abbrev pub number_of : Sources → Source → Option ℕ
+number_of sources s = position (λ k. same_source s (source k)) sources.keys
+
+-- the last place below n that passes a test
+abbrev pub last_below : {X : Type 0} → (X → Bool) → List X → ℕ → Option ℕ
+last_below p xs zero = None
+last_below p xs (suc n) = if option_map_or p (slice_get xs n) false then Some n else last_below p xs n
+
+abbrev pub is_of : List ℕ → Source → Bool
+is_of code s = bytes_eq s.code code
+
+-- the places of the sources fall
+abbrev pub AreFalling : List Source → Type 0
+AreFalling sources = (i j : ℕ) (a b : Source) → i ≤ j → slice_get sources i ≡ Some a → slice_get sources j ≡ Some b → b.place ≤ a.place
+
+-- the same of the nets that have a source
+abbrev pub AreFallingNets : List (Option Source) → Type 0
+AreFallingNets nets = (i j : ℕ) (a b : Source) → i ≤ j → slice_get nets i ≡ Some (Some a) → slice_get nets j ≡ Some (Some b) → b.place ≤ a.place
+
+-- Each code refers to its last source, and each source to the one before it of the same code; the places fall,
+-- so that those of a code rise from its last source on.
+pub record AreLinked (last : List ℕ → Option ℕ) (before : List (Option ℕ)) (sources : List Source) : Type 0 where
+  pub count : length before ≡ length sources
+  pub ends : (code : List ℕ) → last code ≡ last_below (is_of code) sources (length sources)
+  pub falls : AreFalling sources
+  pub links : (k : ℕ) (s : Source) → slice_get sources k ≡ Some s → get_or before k None ≡ last_below (is_of s.code) sources k
+
+-- no code is joined with its absence
+abbrev pub flat : Option (Option ℕ) → Option ℕ
+flat o = option_and_then (λ x. x) o
+
+abbrev pub sources_in : KnownCodes → List Source
+sources_in known = map source known.used.keys
+
+-- some variable has the code
+abbrev pub knows : KnownCodes → List ℕ → Bool
+knows known code = is_some (found_in known.last code)
+
+abbrev pub IsLinked : KnownCodes → Type 0
+IsLinked known = AreLinked (λ code. flat (found_in known.last code)) known.before.items (sources_in known)
+
+-- some net takes its values from the code
+abbrev pub is_used : List (Option Source) → List ℕ → Bool
+is_used nets code = list_any (λ taken. option_map_or (is_of code) taken false) nets
+
+-- some net takes the source
+abbrev pub takes : List (Option Source) → Source → Bool
+takes nets s = list_any (λ taken. option_map_or (same_source s) taken false) nets
+
+-- sources, without where they lie in memory
+abbrev pub sources_by : List (Option Held) → List (Option Source)
+sources_by nets = map source_by nets
+
+-- no source that is kept stands at a place below that of this one
+abbrev pub IsLeast : KnownCodes → Option Source → Type 0
+IsLeast known taken = (s : Source) → taken ≡ Some s → (k : ℕ) (a : Source) → slice_get (sources_in known) k ≡ Some a → s.place ≤ a.place
+
+-- what is kept, with the source of one net more
+pub record Takes (old new : KnownCodes) (taken : Option Source) : Type 0 where
+  pub kept : (k : ℕ) (a : Source) → slice_get (sources_in new) k ≡ Some a → (slice_get (sources_in old) k ≡ Some a) ⊎ (taken ≡ Some a)
+  pub linked : IsLinked new
+  pub codes : (code : List ℕ) → knows new code ≡ (knows old code || option_map_or (is_of code) taken false)
+  pub used : (s : Source) → is_taken new.used s ≡ (is_taken old.used s || option_map_or (same_source s) taken false)

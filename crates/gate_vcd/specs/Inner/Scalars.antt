@@ -1,0 +1,82 @@
+-- What a reader keeps of the variables: the scalars by their names, the vectors by their bases.
+use Rattle.std.specs.Prelude.{◌≡◌, ◌<◌, ℕ, ◌-◌, Bool, nat_eq, if◌then◌else◌, List, [], ◌∷◌, length, take, codes, Option, Some, None, slice_get, option_map, option_and_then, map, Result, Ok, Err}
+use Rattle.std.specs.List.{ends_with, filter_map}
+use Rattle.std.specs.Borrow.{Bor}
+use Rattle.std.specs.Str.{bytes_eq}
+use Rattle.gate_netlist.specs.declared.seed.TextSeed.{TextSeed}
+use Rattle.indexmap.specs.IndexMap.{IndexMap, get_by}
+use Rattle.gate_vcd.specs.declared.fault.StimFault.{StimFault}
+use Rattle.gate_vcd.specs.declared.inputs.Inputs.{Inputs}
+use Rattle.gate_vcd.specs.declared.inputs.Inputs.TheVariants.{Found, Lacking}
+use Rattle.gate_vcd.specs.declared.vectors.Vector.{Vector as HeldVector}
+use Rattle.gate_vcd.specs.declared.vectors.Bit.{Bit as HeldBit}
+use Rattle.gate_vcd.specs.declared.vectors.Kept.{Kept}
+use Rattle.gate_vcd.specs.declared.vectors.Vectors.{Vectors}
+use Rattle.gate_vcd.specs.Declarations.{Variable}
+use Rattle.gate_vcd.specs.Changes.{Source}
+use Rattle.gate_vcd.specs.Vectors.{Vector, Bit, vector_of}
+use Rattle.gate_vcd.specs.Inputs.{scalar_code}
+use Rattle.gate_vcd.specs.Inner.Known.{Sources, number_of, sources_by}
+
+-- codes by the names of the nets that they are scalars of
+abbrev pub Scalars : Type 0
+Scalars = IndexMap (Bor (List ℕ)) (Bor (List ℕ)) TextSeed
+
+-- the code kept for a name
+abbrev pub code_in : Scalars → List ℕ → Option (List ℕ)
+code_in scalars name = option_map (λ (code : Bor (List ℕ)). code.now) (get_by (λ (k : Bor (List ℕ)). bytes_eq name k.now) scalars)
+
+-- for each name the code of the first scalar is kept
+abbrev pub AreScalars : Scalars → List Variable → Type 0
+AreScalars scalars vs = (name : List ℕ) → code_in scalars name ≡ scalar_code vs name
+
+-- vectors and bits, without where they lie in memory
+abbrev pub vector : HeldVector → Vector
+vector v = record { base = v.base.now; left = v.left; right = v.right }
+
+abbrev pub vector_by : Option HeldVector → Option Vector
+vector_by v = option_map vector v
+
+abbrev pub bit : HeldBit → Bit
+bit b = record { base = b.base.now; index = b.index }
+
+-- the texts before a bracket and in it
+abbrev pub two_texts : Option (Bor (List ℕ) × Bor (List ℕ)) → Option (List ℕ × List ℕ)
+two_texts o = option_map (λ (x : Bor (List ℕ) × Bor (List ℕ)). (x.0.now, x.1.now)) o
+
+-- the vectors of a base among variables, each with its code
+abbrev pub with_code : List ℕ → Variable → Option (Vector × List ℕ)
+with_code base v = option_and_then (λ x. if bytes_eq base x.base then Some (x, v.code) else None) (vector_of v)
+
+abbrev pub vectors_of : List ℕ → List Variable → List (Vector × List ℕ)
+vectors_of base vs = filter_map (with_code base) vs
+
+-- From a place on, which is below a bound, each vector refers to the next one of its base: these are all.
+abbrev pub Leads : List Kept → ℕ → Option ℕ → List (Vector × List ℕ) → Type 0
+Leads kept bound next [] = next ≡ None
+Leads kept bound next (x ∷ xs) = (k : ℕ) × (v : Kept) × (next ≡ Some k) × (k < bound) × (slice_get kept k ≡ Some v) × ((vector v.vector, v.code.now) ≡ x) × Leads kept k v.next xs
+
+-- the place of the first vector of a base
+abbrev pub first_in : Vectors → List ℕ → Option ℕ
+first_in vectors base = get_by (λ (k : Bor (List ℕ)). bytes_eq base k.now) vectors.first
+
+-- for each base its vectors are kept in their order
+abbrev pub AreVectors : Vectors → List Variable → Type 0
+AreVectors vectors vs = (base : List ℕ) → Leads vectors.kept.items (length vectors.kept.items) (first_in vectors base) (vectors_of base vs)
+
+-- these are the sources of the nets, or the fault of the first input without one
+abbrev pub AreInputs : Inputs → Result (List (Option Source)) StimFault → Type 0
+AreInputs (Found sources) reading = reading ≡ Ok (sources_by sources.items)
+AreInputs (Lacking e) reading = reading ≡ Err e
+
+-- the numbers of sources
+abbrev pub numbers_of : Sources → List (Option Source) → List (Option ℕ)
+numbers_of used nets = map (option_and_then (number_of used)) nets
+
+-- the text before an index of 0 of 0, where it ends with one
+abbrev pub without_index : List ℕ → Option (List ℕ)
+without_index text = if ends_with nat_eq text (codes "[0:0]") then Some (take (length text - 5) text) else None
+
+-- the code, where the names are the same
+abbrev pub code_if : Bool → List ℕ → Option (List ℕ)
+code_if b code = if b then Some code else None

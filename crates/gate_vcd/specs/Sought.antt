@@ -1,9 +1,0 @@
--- What is kept of the variables for the inputs.
-use Rattle.gate_vcd.specs.declared.inputs.Given.{Given}
-use Rattle.gate_vcd.specs.Commands.{variables}
-use Rattle.gate_vcd.specs.Scalars.{AreScalars, AreVectors}
-
--- the scalars and the vectors are those of the variables
-pub record IsGiven (g : Given) : Type 0 where
-  pub scalars : AreScalars g.scalars (variables g.all.now)
-  pub vectors : AreVectors g.vectors (variables g.all.now)

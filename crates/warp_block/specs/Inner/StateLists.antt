@@ -1,0 +1,33 @@
+-- What contracts see of a block's states.
+use Rattle.std.specs.Prelude.{◌≡◌, ℕ, ◌<◌, List, map, length, vec_len, vec_capacity}
+use Rattle.std.specs.List.{All}
+use Rattle.std.specs.List.Sorted.{IsNonDecreasingBy}
+use Rattle.warp_block.specs.declared.states.Old.{Old}
+use Rattle.warp_block.specs.declared.states.Old.TheVariants.{Value, Content}
+use Rattle.warp_block.specs.declared.states.Place.{Place}
+use Rattle.warp_block.specs.declared.states.States.{States}
+use Rattle.warp_block.specs.View.{Saved}
+use Rattle.warp_block.specs.Inner.States.{states_at, AreWithin}
+
+-- the present state
+abbrev pub now_of : States → Saved
+now_of s = record { mark = s.mark; values = s.values.items; contents = s.contents.items }
+
+-- the saved states, the oldest first
+abbrev pub saved_by : States → List Saved
+saved_by s = states_at (now_of s) s.undo.items s.saved.items
+
+-- what is to be put back belongs to places that there are
+abbrev pub IsOld : ℕ → ℕ → Old → Type 0
+IsOld values contents (Value place value) = place < values
+IsOld values contents (Content place value) = place < contents
+
+-- no saved state begins past the end of what is to be put back, and this belongs to places that there are
+pub record FitTogether (s : States) : Type 0 where
+  pub within : AreWithin s.undo.items s.saved.items
+  pub rising : IsNonDecreasingBy (λ (p : Place). p.start) s.saved.items
+  pub olds : All (IsOld (length s.values.items) (length s.contents.items)) s.undo.items
+
+-- one more state can be saved
+abbrev pub HasRoom : States → Type 0
+HasRoom s = vec_len s.saved < vec_capacity s.saved

@@ -1,0 +1,6 @@
+-- What only the proofs of this crate need: no contract of a public call speaks of it.
+pub mod Fit
+pub mod Inside
+pub mod Rule
+pub mod Turn
+pub mod Work

@@ -1,0 +1,22 @@
+-- What only proofs need beside `Turn`.
+use Rattle.std.specs.Prelude.{◌↔◌, Bool, IsTrue, ℕ, ◌<◌, ◌≤◌, List}
+use Rattle.warp_block.specs.declared.message.Message.{Message}
+use Rattle.warp_block.specs.View.{View, IsEventTime}
+use Rattle.warp_block.specs.Lawful.{IsLawful}
+use Rattle.warp_block.specs.Sends.{Sends}
+use Rattle.warp_rounds.specs.Turn.{AreReceived, IsPending, IsAfterPending}
+
+-- whether the messages, received one after another, take finished event times back: the mark falls
+abbrev pub AreFelt : View → List Message → Bool → Type 0
+AreFelt old ms felt = (heard : View) × AreReceived old heard ms × (IsTrue felt ↔ (heard.mark < old.mark))
+
+-- a time at or after one at which something is left
+abbrev pub IsFromPending : View → List Message → ℕ → Type 0
+IsFromPending v ms t = (u : ℕ) × IsPending v ms u × (u ≤ t)
+
+-- Some messages of a list were received, and what has come of it: when something is left to do, and what was sent.
+pub record HasReceived (old new : View) (all some : List Message) (before out : List Message) : Type 0 where
+  pub received : AreReceived old new some
+  pub lawful : IsLawful new
+  pub pending : (t : ℕ) → IsEventTime new t → IsFromPending old all t
+  pub sends : Sends old new (IsAfterPending old all) before out
