@@ -1,4 +1,5 @@
 pub mod Entries
+pub mod Faults
 pub mod Limits
 pub mod Portion
 pub mod View

@@ -1,40 +1,79 @@
-ghost use Rattle.std.specs.Prelude.{◌≡◌};
+ghost use Rattle.std.specs.Prelude.{◌≡◌, Some};
+ghost use Rattle.warp_block.specs.Faults.{block_fault_number, block_fault_name};
 ghost use Rattle.warp_block.specs.declared.fault.BlockFault.TheVariants as fault;
 
 use std::alloc::{AllocError, AllocFailed};
-use thiserror::Error;
+use std::error::Error;
+use std::fmt;
 
 /// Why a block refuses a call: the first five causes are of [`receive`](crate::Block::receive), want of memory is of
 /// [`advance`](crate::Block::advance) too, and the last three are of [`commit`](crate::Block::commit). Of the causes that
-/// apply to a call the first in this order is answered, want of memory last.
-#[derive(Clone, Copy, Debug, PartialEq, Eq, Error)]
+/// apply to a call the first in this order is answered, want of memory last. Each cause has a number, its place in this
+/// order from 1, which stays.
+#[derive(Clone, Copy, Debug, PartialEq, Eq)]
 pub enum BlockFault {
     /// The message is for another block, or for a net that the block reads from no other block.
-    #[error("WrongNet")]
     WrongNet,
     /// The message's time is past the horizon.
-    #[error("PastHorizon")]
     PastHorizon,
     /// The message's time is below the floor.
-    #[error("BelowFloor")]
     BelowFloor,
     /// A number of an entry would be past 10^30, either way.
-    #[error("CountLimit")]
     CountLimit,
     /// A growth was refused.
-    #[error("Memory")]
     Memory,
     /// The floor would go back.
-    #[error("FloorBack")]
     FloorBack,
     /// An event time is below the floor that was asked for.
-    #[error("Unprocessed")]
     Unprocessed,
     /// The entry of this net at this time, below the floor that was asked for, isn't settled: messages and antimessages
     /// on it are under way.
-    #[error("Unsettled")]
     Unsettled { net: u32, time: u64 },
 }
+
+impl BlockFault {
+    /// The number of the cause.
+    pub fn number(self) -> u32
+        ensures { result ≡ block_fault_number self }
+    {
+        match self {
+            BlockFault::WrongNet => 1,
+            BlockFault::PastHorizon => 2,
+            BlockFault::BelowFloor => 3,
+            BlockFault::CountLimit => 4,
+            BlockFault::Memory => 5,
+            BlockFault::FloorBack => 6,
+            BlockFault::Unprocessed => 7,
+            BlockFault::Unsettled { .. } => 8,
+        }
+    }
+
+    /// The name of the cause.
+    pub fn name(self) -> &'static str
+        ensures { result.now ≡ block_fault_name self }
+    {
+        match self {
+            BlockFault::WrongNet => "WrongNet",
+            BlockFault::PastHorizon => "PastHorizon",
+            BlockFault::BelowFloor => "BelowFloor",
+            BlockFault::CountLimit => "CountLimit",
+            BlockFault::Memory => "Memory",
+            BlockFault::FloorBack => "FloorBack",
+            BlockFault::Unprocessed => "Unprocessed",
+            BlockFault::Unsettled { .. } => "Unsettled",
+        }
+    }
+}
+
+impl fmt::Display for BlockFault {
+    ghost output = { λ cause. Some (block_fault_name cause) };
+
+    fn fmt<W: fmt::Write>(&self, f: &mut fmt::Formatter<W>) -> fmt::Result {
+        f.write_str(self.name())
+    }
+}
+
+impl Error for BlockFault {}
 
 impl From<AllocError> for BlockFault {
     ghost from_gives = { λ _ cause. cause ≡ fault.Memory };

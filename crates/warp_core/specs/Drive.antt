@@ -19,6 +19,10 @@ abbrev pub IsDriveRefusal : ℕ → List ℕ → DriveFault → Type 0
 IsDriveRefusal count order BadOrder = ¬ IsOrder count order
 IsDriveRefusal count order Memory = IsOrder count order
 
+abbrev pub drive_fault_number : DriveFault → ℕ
+drive_fault_number Memory = 1
+drive_fault_number BadOrder = 2
+
 abbrev pub drive_fault_name : DriveFault → List ℕ
 drive_fault_name Memory = codes "Memory"
 drive_fault_name BadOrder = codes "BadOrder"

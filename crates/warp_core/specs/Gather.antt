@@ -57,6 +57,14 @@ abbrev pub IsGathered : Design → Ownership → Given → ℕ → List Process 
 IsGathered d cut g horizon blocks (Ok waves) = AreMatched d cut g horizon blocks × AreCircuitWaves d g horizon waves
 IsGathered d cut g horizon blocks (Err fault) = IsFault d cut g horizon blocks fault
 
+abbrev pub gather_fault_number : GatherFault → ℕ
+gather_fault_number WrongCount = 1
+gather_fault_number (WrongPart b) = 2
+gather_fault_number (Unfinished b) = 3
+gather_fault_number (Unsettled b n t) = 4
+gather_fault_number (Mismatch b n) = 5
+gather_fault_number Memory = 6
+
 abbrev pub gather_fault_name : GatherFault → List ℕ
 gather_fault_name WrongCount = codes "WrongCount"
 gather_fault_name (WrongPart b) = codes "WrongPart"

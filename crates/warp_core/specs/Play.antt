@@ -74,6 +74,11 @@ abbrev pub IsAfterRefusal : Scene → Scene → Event → PlayFault → Type 0
 IsAfterRefusal old new (Advance b steps) Memory = (count : ℕ) × (count < steps) × IsRun old new b count
 IsAfterRefusal old new event fault = new ≡ old
 
+abbrev pub play_fault_number : PlayFault → ℕ
+play_fault_number NoSuchBlock = 1
+play_fault_number NoSuchMessage = 2
+play_fault_number Memory = 3
+
 abbrev pub play_fault_name : PlayFault → List ℕ
 play_fault_name NoSuchBlock = codes "NoSuchBlock"
 play_fault_name NoSuchMessage = codes "NoSuchMessage"

@@ -94,6 +94,11 @@ IsOfSchedule fault = fault.cause ≡ Memory → ⊥
 
 -- ---- names of the causes
 
+abbrev pub schedule_cause_number : ScheduleCause → ℕ
+schedule_cause_number BadLine = 1
+schedule_cause_number NumberTooLarge = 2
+schedule_cause_number Memory = 3
+
 abbrev pub schedule_cause_name : ScheduleCause → List ℕ
 schedule_cause_name BadLine = codes "BadLine"
 schedule_cause_name NumberTooLarge = codes "NumberTooLarge"

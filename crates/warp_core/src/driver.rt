@@ -1,4 +1,4 @@
-ghost use Rattle.std.specs.Prelude.{◌≡◌, ◌≤◌, ◌<◌, ◌+◌, ◌==◌, ◌↔◌, ℕ, IsTrue, IfOk, IfErr, OnOk, OnErr, length, get_or, take, unwrap_or};
+ghost use Rattle.std.specs.Prelude.{◌≡◌, Some, ◌≤◌, ◌<◌, ◌+◌, ◌==◌, ◌↔◌, ℕ, IsTrue, IfOk, IfErr, OnOk, OnErr, length, get_or, take, unwrap_or};
 ghost use Rattle.std.specs.List.{All, count_by};
 ghost use Rattle.gate_netlist.specs.Circuit.{CutFits};
 ghost use Rattle.gate_vcd.specs.Given.{Fits};
@@ -6,7 +6,7 @@ ghost use Rattle.warp_block.specs.Limits.{most_horizon};
 ghost use Rattle.warp_core.specs.Values.{AreCircuitWaves};
 ghost use Rattle.warp_core.specs.World.{IsBefore};
 ghost use Rattle.warp_core.specs.Play.{IsSameCourse};
-ghost use Rattle.warp_core.specs.Drive.{IsOrder, IsRaised, IsDriveRefusal, drive_fault_name};
+ghost use Rattle.warp_core.specs.Drive.{IsOrder, IsRaised, IsDriveRefusal, drive_fault_number, drive_fault_name};
 ghost use Rattle.warp_core.specs.Inner.Drive.{IsPast};
 ghost use Rattle.warp_core.specs.declared.event.PlayFault.TheVariants as play;
 ghost use Rattle.warp_core.specs.declared.driver.DriveFault.TheVariants as fault;
@@ -16,20 +16,26 @@ use crate::world::World;
 use gate_netlist::{Circuit, Cut};
 use gate_vcd::{Stimulus, Waves};
 use std::alloc::{AllocError, Global};
-use thiserror::Error;
+use std::error::Error;
+use std::fmt;
 
-/// Why a world isn't driven.
-#[derive(Clone, Copy, Debug, PartialEq, Eq, Error)]
+/// Why a world isn't driven. Each cause has a number, which stays.
+#[derive(Clone, Copy, Debug, PartialEq, Eq)]
 pub enum DriveFault {
     /// A growth was refused.
-    #[error("Memory")]
-    Memory,
+    Memory = 1,
     /// The order is no permutation of the blocks.
-    #[error("BadOrder")]
-    BadOrder,
+    BadOrder = 2,
 }
 
 impl DriveFault {
+    /// The number of the cause.
+    pub fn number(self) -> u32
+        ensures { result ≡ drive_fault_number self }
+    {
+        self as u32
+    }
+
     /// The name of the cause.
     pub fn name(self) -> &'static str
         ensures { result.now ≡ drive_fault_name self }
@@ -40,6 +46,16 @@ impl DriveFault {
         }
     }
 }
+
+impl fmt::Display for DriveFault {
+    ghost output = { λ cause. Some (drive_fault_name cause) };
+
+    fn fmt<W: fmt::Write>(&self, f: &mut fmt::Formatter<W>) -> fmt::Result {
+        f.write_str(self.name())
+    }
+}
+
+impl Error for DriveFault {}
 
 impl From<AllocError> for DriveFault {
     ghost from_gives = { λ _ cause. cause ≡ fault.Memory };

@@ -1,7 +1,8 @@
-ghost use Rattle.std.specs.Prelude.{◌≡◌};
-ghost use Rattle.warp_core.specs.Play.{play_fault_name};
+ghost use Rattle.std.specs.Prelude.{◌≡◌, Some};
+ghost use Rattle.warp_core.specs.Play.{play_fault_number, play_fault_name};
 
-use thiserror::Error;
+use std::error::Error;
+use std::fmt;
 
 /// What can happen in a [`World`](crate::World).
 #[derive(Clone, Copy, Debug, PartialEq, Eq)]
@@ -14,21 +15,25 @@ pub enum Event {
     Commit,
 }
 
-/// Why an event is refused.
-#[derive(Clone, Copy, Debug, PartialEq, Eq, Error)]
+/// Why an event is refused. Each cause has a number, which stays.
+#[derive(Clone, Copy, Debug, PartialEq, Eq)]
 pub enum PlayFault {
     /// There is no block of this number.
-    #[error("NoSuchBlock")]
-    NoSuchBlock,
+    NoSuchBlock = 1,
     /// There is no such place among the messages in flight.
-    #[error("NoSuchMessage")]
-    NoSuchMessage,
+    NoSuchMessage = 2,
     /// A growth was refused.
-    #[error("Memory")]
-    Memory,
+    Memory = 3,
 }
 
 impl PlayFault {
+    /// The number of the cause.
+    pub fn number(self) -> u32
+        ensures { result ≡ play_fault_number self }
+    {
+        self as u32
+    }
+
     /// The name of the cause.
     pub fn name(self) -> &'static str
         ensures { result.now ≡ play_fault_name self }
@@ -40,3 +45,13 @@ impl PlayFault {
         }
     }
 }
+
+impl fmt::Display for PlayFault {
+    ghost output = { λ cause. Some (play_fault_name cause) };
+
+    fn fmt<W: fmt::Write>(&self, f: &mut fmt::Formatter<W>) -> fmt::Result {
+        f.write_str(self.name())
+    }
+}
+
+impl Error for PlayFault {}

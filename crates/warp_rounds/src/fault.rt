@@ -1,13 +1,13 @@
 ghost use Rattle.std.specs.Prelude.{◌≡◌};
 ghost use Rattle.warp_rounds.specs.declared.fault.RunFault.TheVariants as fault;
-ghost use Rattle.warp_rounds.specs.Faults.{fault_of_block, fault_of_gathering};
+ghost use Rattle.warp_rounds.specs.Faults.{run_fault_number, fault_of_block, fault_of_gathering};
 
 use std::alloc::{AllocError, AllocFailed};
 use thiserror::Error;
 use warp_block::BlockFault;
 use warp_core::GatherFault;
 
-/// Why a run answers no waves. Where several workers met a fault, one of theirs is answered. Times are in the
+/// Why a run answers no waves. Each cause has a number, which stays. Where several workers met a fault, one of theirs is answered. Times are in the
 /// stimulus's timescale.
 #[derive(Clone, Copy, Debug, PartialEq, Eq, Error)]
 pub enum RunFault {
@@ -26,6 +26,21 @@ pub enum RunFault {
     /// A growth was refused, in a block or in gathering too.
     #[error("memory")]
     Memory,
+}
+
+impl RunFault {
+    /// The number of the cause.
+    pub fn number(self) -> u32
+        ensures { result ≡ run_fault_number self }
+    {
+        match self {
+            RunFault::Block(_) => 1,
+            RunFault::Stalled { .. } => 2,
+            RunFault::Gather(_) => 3,
+            RunFault::NoThread => 4,
+            RunFault::Memory => 5,
+        }
+    }
 }
 
 impl From<BlockFault> for RunFault {

@@ -1,5 +1,6 @@
 ghost use Rattle.std.specs.Prelude.{◌≡◌, ◌<◌, ◌++◌, min, true, false, [], ◌∷◌, IfOk, IfSome, IfNone, All, replicate};
 ghost use Rattle.warp_rounds.specs.Inner.Rule.{IsLast};
+ghost use Rattle.warp_rounds.specs.Faults.{end_fault_number};
 ghost use Rattle.warp_rounds.specs.Seats.{empty_seat, IsEnd};
 ghost use Rattle.warp_rounds.specs.Inner.Inside.{IsOfTable, IsTakenIn};
 
@@ -48,15 +49,24 @@ impl Model for RoundSeat {
     ghost invariant = { IsSeat };
 }
 
-/// Why a round tells no time at its end.
+/// Why a round tells no time at its end. Each cause has a number, which stays.
 #[derive(Clone, Copy, Debug, PartialEq, Eq, Error)]
 pub enum EndFault {
     /// A seat of the round is missing.
     #[error("WrongSeats")]
-    WrongSeats,
+    WrongSeats = 1,
     /// A block was not drawn.
     #[error("Undrawn")]
-    Undrawn,
+    Undrawn = 2,
+}
+
+impl EndFault {
+    /// The number of the cause.
+    pub fn number(self) -> u32
+        ensures { result ≡ end_fault_number self }
+    {
+        self as u32
+    }
 }
 
 impl Round {

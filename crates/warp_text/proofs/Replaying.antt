@@ -1,5 +1,6 @@
 -- Events are played one after the other, and what comes of it.
-use Rattle.std.proofs.Common.{◌≡◌, Some, IfOk, IfErr, slice_get, ℕ, ◌+◌, ◌<◌, ◌≤◌, List, [], ◌∷◌, ◌++◌, length, take, get_or, Result, Ok, Err, refl, ap, sym, ◌∙◌, subst}
+use Rattle.std.proofs.Common.{◌≡◌, Some, IfOk, IfErr, slice_get, ℕ, ◌+◌, ◌<◌, ◌≤◌, List, [], ◌∷◌, ◌++◌, length, take, get_or, Option, Result, Ok, Err, Vec, refl, ap, sym, ◌∙◌, subst}
+use Rattle.std.specs.declared.alloc.Global.{Global}
 use Rattle.std.proofs.lemmas.List.{take_more, take_all}
 use Rattle.std.proofs.lemmas.Option.{slice_get-get_or}
 use Rattle.gate_netlist.specs.Circuit.{Design}
@@ -12,7 +13,9 @@ use Rattle.warp_core.specs.declared.event.PlayFault.TheVariants as play
 use Rattle.warp_core.specs.World.{Scene, IsLeastTime}
 use Rattle.warp_core.specs.Play.{IsPlayed, IsRefused, IsSameCourse}
 use Rattle.warp_text.specs.Inner.FaultLines.{event_fault}
-use Rattle.warp_text.specs.Replay.{ArePlayed, AreComplete, IsStart, Stops, Plays}
+use Rattle.warp_text.specs.Replay.{ArePlayed, AreComplete, IsStart, Stops, Plays, IsReplay}
+use Rattle.warp_text.specs.Inner.Replay.{IsReplayed}
+use Rattle.warp_text.specs.Answer.{IsCircuitOf}
 use Rattle.warp_text.specs.declared.fault.Fault.{Fault}
 use Rattle.warp_text.specs.declared.fault.Fault.TheVariants as faults
 
@@ -97,3 +100,17 @@ pub plays_through : (X : Type 0) (d : Design) (cut : Ownership) (g : Given) (unt
     → IfOk result (λ _. IsLeastTime world (until + 1)) → IfErr result (Stops world []) → Plays {X = X} d cut g until events result
 plays_through X d cut g until events start world (Ok x) is played e least h = (start, is, complete start world events until played e least)
 plays_through X d cut g until events start world (Err fault) is played e least h = plays_stopped X d cut g until events start fault is (stopped_after start world events fault played h)
+
+-- what is answered to a stimulus and a schedule over the circuit of two texts is answered to all four
+pub replayed : (bench text stimulus schedule : List ℕ) (blocks : Option ℕ) (until : ℕ) (d : Design) (result : Result (Vec ℕ Global) Fault)
+    → IsCircuitOf bench text d → IsReplayed d stimulus schedule blocks until result → IsReplay bench text stimulus schedule blocks until result
+unfolding IsReplay
+replayed bench text stimulus schedule blocks until d (Ok dump) is (r, read, rest) = (d, is, r, read, rest)
+replayed bench text stimulus schedule blocks until d (Err (faults.Event number cause)) is (r, read, rest) = (d, is, r, read, rest)
+replayed bench text stimulus schedule blocks until d (Err (faults.Unfinished time)) is (r, read, rest) = (d, is, r, read, rest)
+replayed bench text stimulus schedule blocks until d (Err (faults.Schedule f)) is (r, read, bad) = (d, is, r, read, bad)
+replayed bench text stimulus schedule blocks until d (Err (faults.Stimulus f)) is read = (d, is, read)
+replayed bench text stimulus schedule blocks until d (Err faults.Memory) is h = tt
+replayed bench text stimulus schedule blocks until d (Err (faults.Bench f)) is h = absurd h
+replayed bench text stimulus schedule blocks until d (Err (faults.Settings f)) is h = absurd h
+replayed bench text stimulus schedule blocks until d (Err (faults.Run f)) is h = absurd h

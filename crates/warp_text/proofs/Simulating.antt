@@ -1,7 +1,8 @@
 -- The dump of a circuit's waves is that of its values, and that under the signals that the stimulus's text means.
-use Rattle.std.proofs.Common.{◌≡◌, ℕ, ◌+◌, ◌<◌, ◌≤◌, ◌⊎◌, inl, inr, List, [], ap, ◌∙◌, arith}
+use Rattle.std.proofs.Common.{◌≡◌, ℕ, ◌+◌, ◌<◌, ◌≤◌, ◌⊎◌, inl, inr, List, [], Result, Ok, Err, Vec, ap, ◌∙◌, arith}
 use Rattle.std.proofs.lemmas.List.{get_or_past}
 use mathlib.Core.Path.{fun_ext}
+use Rattle.std.specs.declared.alloc.Global.{Global}
 use Rattle.gate_values.specs.declared.logic.Logic.{Logic}
 use Rattle.gate_values.specs.declared.logic.Change.{Change}
 use Rattle.gate_values.specs.Behaviour.{value}
@@ -14,7 +15,10 @@ use Rattle.gate_vcd.specs.Waves.{wave_of, wave_value, IsUntil}
 use Rattle.gate_vcd.proofs.DumpLaws.{dump_text-waves}
 use Rattle.gate_vcd.proofs.WaveValues.{changes-IsWave}
 use Rattle.warp_core.specs.Values.{given_by, value_under, AreCircuitWaves}
-use Rattle.warp_text.specs.Answer.{circuit_value}
+use Rattle.warp_text.specs.Answer.{circuit_value, IsCircuitOf, IsAnswer}
+use Rattle.warp_text.specs.Inner.Answer.{IsDumped}
+use Rattle.warp_text.specs.declared.fault.Fault.{Fault}
+use Rattle.warp_text.specs.declared.fault.Fault.TheVariants as faults
 
 -- a circuit's waves have no change past the horizon
 pub waves_until : (d : Design) (g : Given) (horizon : ℕ) (lists : List (List Change)) → AreCircuitWaves d g horizon lists → (n : ℕ) → IsUntil horizon (wave_of lists n)
@@ -38,3 +42,17 @@ dump-means top d r g until m =
     let same : given_by g ≡ (λ (time net : ℕ). signal r net time) = fun_ext (λ time. fun_ext (λ net. m.values net time)) in
     ap (λ (scale : Timescale). dump_text top d.names scale (value_under d g) until) m.timescale
     ∙ ap (λ (given : ℕ → ℕ → Logic). dump_text top d.names r.timescale (λ n t. value (source_of d) given n t) until) same
+
+-- what is answered to a stimulus over the circuit of two texts is answered to all three
+pub answered : (bench text stimulus : List ℕ) (until : ℕ) (d : Design) (result : Result (Vec ℕ Global) Fault)
+    → IsCircuitOf bench text d → IsDumped d stimulus until result → IsAnswer bench text stimulus until result
+unfolding IsAnswer
+answered bench text stimulus until d (Ok dump) is (r, read, same) = (d, is, r, read, same)
+answered bench text stimulus until d (Err (faults.Stimulus f)) is read = (d, is, read)
+answered bench text stimulus until d (Err (faults.Run f)) is (r, read, run) = (d, is, r, read, run)
+answered bench text stimulus until d (Err faults.Memory) is h = tt
+answered bench text stimulus until d (Err (faults.Bench f)) is h = absurd h
+answered bench text stimulus until d (Err (faults.Settings f)) is h = absurd h
+answered bench text stimulus until d (Err (faults.Schedule f)) is h = absurd h
+answered bench text stimulus until d (Err (faults.Event number cause)) is h = absurd h
+answered bench text stimulus until d (Err (faults.Unfinished time)) is h = absurd h

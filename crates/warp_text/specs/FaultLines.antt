@@ -9,7 +9,7 @@ use Rattle.gate_vcd.specs.Faults.{stim_cause_name}
 use Rattle.gate_vcd.specs.declared.fault.StimCause.{StimCause}
 use Rattle.gate_vcd.specs.declared.fault.StimCause.TheVariants as stimulus
 use Rattle.gate_vcd.specs.declared.fault.StimFault.{StimFault}
-use Rattle.warp_block.specs.declared.fault.BlockFault.{BlockFault}
+use Rattle.warp_block.specs.Faults.{block_fault_name}
 use Rattle.warp_block.specs.declared.fault.BlockFault.TheVariants as block
 use Rattle.warp_core.specs.Gather.{gather_fault_name}
 use Rattle.warp_core.specs.Play.{play_fault_name}
@@ -27,16 +27,6 @@ abbrev pub place_word : StimCause → List ℕ
 place_word stimulus.MissingInput = codes "net"
 place_word stimulus.NotScalar = codes "net"
 place_word _ = codes "at"
-
-abbrev pub block_fault_name : BlockFault → List ℕ
-block_fault_name block.WrongNet = codes "WrongNet"
-block_fault_name block.PastHorizon = codes "PastHorizon"
-block_fault_name block.BelowFloor = codes "BelowFloor"
-block_fault_name block.CountLimit = codes "CountLimit"
-block_fault_name block.Memory = codes "Memory"
-block_fault_name block.FloorBack = codes "FloorBack"
-block_fault_name block.Unprocessed = codes "Unprocessed"
-block_fault_name (block.Unsettled net time) = codes "Unsettled"
 
 -- of a run that is refused though its texts are not
 abbrev pub run_fault_line : RunFault → List ℕ

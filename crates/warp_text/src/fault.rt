@@ -9,7 +9,6 @@ ghost use Rattle.warp_text.specs.FaultLines.{
   stimulus_fault,
   schedule_fault,
   run_fault,
-  block_fault_name,
 };
 ghost use Rattle.warp_text.specs.declared.fault.Fault.TheVariants as faults;
 
@@ -60,22 +59,6 @@ fn place_name(cause: StimCause) -> &'static str
     }
 }
 
-/// The name of a block's fault.
-fn block_fault_name(fault: BlockFault) -> &'static str
-    ensures { result.now ≡ block_fault_name fault }
-{
-    match fault {
-        BlockFault::WrongNet => "WrongNet",
-        BlockFault::PastHorizon => "PastHorizon",
-        BlockFault::BelowFloor => "BelowFloor",
-        BlockFault::CountLimit => "CountLimit",
-        BlockFault::Memory => "Memory",
-        BlockFault::FloorBack => "FloorBack",
-        BlockFault::Unprocessed => "Unprocessed",
-        BlockFault::Unsettled { .. } => "Unsettled",
-    }
-}
-
 /// The fault's line on standard error, without its end.
 impl fmt::Display for Fault {
     ghost output = { λ f. Some (fault_line f) };
@@ -103,7 +86,7 @@ impl fmt::Display for Fault {
                 write!(f, "schedule line {line}: {cause}")
             }
             Fault::Run(RunFault::Block(block)) => {
-                let cause = block_fault_name(*block);
+                let cause = block.name();
                 write!(f, "run: block {cause}")
             }
             Fault::Run(RunFault::Stalled { time }) => write!(f, "run: stalled at {time}"),

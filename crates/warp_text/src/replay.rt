@@ -125,6 +125,7 @@ fn replay_on(
 /// The texts are judged in this order, and the first that is refused is answered, with its fault; then the first event
 /// that is refused; then, where something is left to do after the last event, the least time of it. Want of memory in any
 /// part is `Fault::Memory`, and no other fault carries it.
+#[tactic(auto, unfolding(crate::specs::Replay::IsReplay))]
 pub fn replay_text(
     alloc: Global,
     bench: &[u8],

@@ -105,6 +105,7 @@ fn dump_under<G: Gate + Sync, R: Threads + Wait + Sync>(
 /// The texts are judged in this order, and the first that is refused is answered, with its fault; then the run's fault.
 /// Want of memory in any part is `Fault::Memory`, and no other fault carries it. The gate is lent each block as its
 /// turns begin and end.
+#[tactic(auto, unfolding(crate::specs::Answer::IsAnswer))]
 pub fn simulate_text<G: Gate + Sync, R: Threads + Wait + Sync>(
     rt: &R,
     alloc: Global,
