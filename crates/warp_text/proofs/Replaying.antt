@@ -105,9 +105,9 @@ plays_through X d cut g until events start world (Err fault) is played e least h
 pub replayed : (bench text stimulus schedule : List ℕ) (blocks : Option ℕ) (until : ℕ) (d : Design) (result : Result (Vec ℕ Global) Fault)
     → IsCircuitOf bench text d → IsReplayed d stimulus schedule blocks until result → IsReplay bench text stimulus schedule blocks until result
 unfolding IsReplay
-replayed bench text stimulus schedule blocks until d (Ok dump) is (r, read, rest) = (d, is, r, read, rest)
-replayed bench text stimulus schedule blocks until d (Err (faults.Event number cause)) is (r, read, rest) = (d, is, r, read, rest)
-replayed bench text stimulus schedule blocks until d (Err (faults.Unfinished time)) is (r, read, rest) = (d, is, r, read, rest)
+replayed bench text stimulus schedule blocks until d (Ok dump) is (r, read, events, listed, rest) = (d, is, r, read, events, listed, rest)
+replayed bench text stimulus schedule blocks until d (Err (faults.Event number cause)) is (r, read, events, listed, rest) = (d, is, r, read, events, listed, rest)
+replayed bench text stimulus schedule blocks until d (Err (faults.Unfinished time)) is (r, read, events, listed, rest) = (d, is, r, read, events, listed, rest)
 replayed bench text stimulus schedule blocks until d (Err (faults.Schedule f)) is (r, read, bad) = (d, is, r, read, bad)
 replayed bench text stimulus schedule blocks until d (Err (faults.Stimulus f)) is read = (d, is, read)
 replayed bench text stimulus schedule blocks until d (Err faults.Memory) is h = tt
