@@ -93,24 +93,11 @@ fn drivers_of(
     requires { length names.now.keys ≤ 1000000 }
     ensures { IfOk result (λ drivers. drivers.items ≡ drivers_of (table_view table.now) (map string_bytes names.now.keys) definitions.items) }
 {
-    drivers_among(alloc, table, names, names.as_slice(), definitions)
-}
-
-/// What sets each of some nets.
-fn drivers_among(
-    alloc: Global,
-    table: &Table,
-    all: &Names,
-    names: &[String],
-    definitions: Vec<Definition>,
-) -> Result<Vec<Driver>, AllocError>
-    requires { length all.now.keys ≤ 1000000 }
-    ensures { IfOk result (λ drivers. drivers.items ≡ map (λ net. driver_by (table_view table.now) (map string_bytes all.now.keys) (string_bytes net.0) net.1) (zip names.now definitions.items)) }
-{
     names
+        .as_slice()
         .iter()
         .zip(definitions)
-        .map(|(name, definition)| driver_by(table, all, name.as_str(), definition))
+        .map(|(name, definition)| driver_by(table, names, name.as_str(), definition))
         .collect(alloc)
 }
 
