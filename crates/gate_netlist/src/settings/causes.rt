@@ -1,11 +1,11 @@
-ghost use Rattle.std.specs.Prelude.{◌≡◌, ◌&&◌, ℕ, List, codes, not, is_none, string_bytes};
+ghost use Rattle.std.specs.Prelude.{◌≡◌, ◌&&◌, codes, not, is_none};
 ghost use Rattle.std.specs.Prelude.{false};
 ghost use Rattle.std.specs.Option.{option_map_or};
-ghost use Rattle.std.specs.List.{list_any, list_all, zip};
+ghost use Rattle.std.specs.List.{list_all};
 ghost use Rattle.std.specs.Str.{bytes_eq};
 ghost use Rattle.toml.specs.Data.{get_member, as_str};
 ghost use Rattle.toml.specs.View.{view, table_view};
-ghost use Rattle.gate_netlist.specs.Settings.{as_delay, as_block, as_content, table_at, clock_name};
+ghost use Rattle.gate_netlist.specs.Settings.{as_delay, table_at, clock_name};
 ghost use Rattle.gate_netlist.specs.Netlist.{any_net};
 ghost use Rattle.gate_netlist.specs.Symbols.{is_letter};
 ghost use Rattle.gate_netlist.specs.Causes.{is_input_line, is_flop_line, is_driven, is_flop_name, any_member, is_unknown_top, is_gate_key, has_unknown_key, has_unknown_net, is_bad_delay, has_bad_delay, is_name, is_missing_clock, lacks_clock, has_bad_clock, has_bad_init, has_bad_block, cause_of};

@@ -1,6 +1,5 @@
 //! What the settings say of flip-flops: the clock of each, and what it begins with.
 ghost use Rattle.std.specs.Prelude.{◌≡◌, codes, map, option_map, string_bytes};
-ghost use Rattle.std.specs.List.{list_any, zip};
 ghost use Rattle.toml.specs.View.{table_view};
 ghost use Rattle.gate_netlist.specs.Netlist.{any_net};
 ghost use Rattle.gate_netlist.specs.Settings.{table_at, text_at, clock_of_flop, takes_clock, initial_content};

@@ -1,5 +1,5 @@
 //! Tests of each member of a table, and of each net.
-ghost use Rattle.std.specs.Prelude.{◌≡◌, map, string_bytes};
+ghost use Rattle.std.specs.Prelude.{map, string_bytes};
 ghost use Rattle.toml.specs.View.{table_view};
 ghost use Rattle.gate_netlist.specs.Settings.{table_at};
 ghost use Rattle.gate_netlist.specs.Inner.Members.{IsAnyMember, IsAnyNet};

@@ -1,8 +1,6 @@
-ghost use Rattle.std.specs.Prelude.{◌≡◌, ℕ, ◌+◌, ◌≤◌, List, map, fold, max, string_bytes, IfOk, unwrap_or};
-ghost use Rattle.std.specs.List.{zip};
-ghost use Rattle.std.specs.BTreeMap.{values};
-ghost use Rattle.toml.specs.View.{view, table_view};
-ghost use Rattle.gate_netlist.specs.Settings.{as_block, delay_at, default_delay, net_block, greatest_block};
+ghost use Rattle.std.specs.Prelude.{◌≡◌, map, string_bytes, IfOk, unwrap_or};
+ghost use Rattle.toml.specs.View.{table_view};
+ghost use Rattle.gate_netlist.specs.Settings.{delay_at, default_delay, net_block, greatest_block};
 ghost use Rattle.gate_netlist.specs.Inner.Kinds.{kind_delays, delay_of_kind, members_in, delay_among};
 ghost use Rattle.gate_netlist.specs.Meaning.{delays_of, owners_of};
 

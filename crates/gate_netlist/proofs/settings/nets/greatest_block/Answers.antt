@@ -1,4 +1,4 @@
-use Rattle.std.proofs.Common.{rules, tests, ◌∙◌, max, unwrap_or, arith}
+use Rattle.std.proofs.Common.{rules, ◌∙◌, max, unwrap_or, arith}
 use Rattle.std.proofs.lemmas.Iterator.Consumers.{YieldsList-from_rest, fold_from_yields_List}
 use Rattle.toml.specs.View.{view}
 use Rattle.gate_netlist.specs.Settings.{as_block}
