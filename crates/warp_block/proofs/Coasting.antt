@@ -1,13 +1,13 @@
 -- Values and contents that are set place by place.
-use Rattle.std.proofs.Common.{◌≡◌, ◌≢◌, ℕ, suc, ◌+◌, ◌<◌, ◌≤◌, ◌⊎◌, true, inl, inr, Option, Some, None, List, map, length, get_or, set, refl, ap, sym, ◌∙◌, subst, arith, is_some, get_or-set_same, get_or-set_other}
+use Rattle.std.proofs.Common.{◌≡◌, ◌≢◌, ℕ, suc, ◌+◌, ◌<◌, ◌≤◌, inl, inr, Option, Some, None, List, map, length, get_or, set, refl, ap, sym, ◌∙◌, subst, arith, get_or-set_same, get_or-set_other}
 use Rattle.std.proofs.lemmas.Bool.{cases_eq}
-use Rattle.std.proofs.lemmas.List.{length-map, length-set, get_or-map, ext_get_or}
+use Rattle.std.proofs.lemmas.List.{length-set, get_or-map}
 use Rattle.gate_values.specs.declared.logic.Logic.{Logic}
 use Rattle.gate_values.specs.declared.logic.Logic.TheVariants.{X}
 use Rattle.gate_values.specs.Behaviour.{Source, Outside, Gate, Flop, Moment, next_content, history}
 use Rattle.gate_values.specs.Inner.Behaviour.{IsOver}
 use Rattle.warp_block.specs.Inner.Moments.{moment_of, value_in}
-use Rattle.warp_block.specs.Portion.{slot_of}
+use Rattle.warp_block.specs.Inner.Placed.{IsSetAt}
 use Rattle.warp_block.specs.Inner.Step.{source_at, net_at}
 use Rattle.warp_block.specs.Inner.Contents.{clock_of, content_by, IsContent}
 use Rattle.warp_block.specs.View.{View, Saved, moment_before, block_value}
@@ -18,12 +18,6 @@ use Rattle.warp_block.proofs.Views.{IsUsed, over_used}
 use Rattle.warp_block.proofs.Rows.{source_here}
 use Rattle.warp_block.proofs.Quiet.{IsQuietFrom}
 use Rattle.warp_block.proofs.Filling.{in_map, content_is_next}
-
--- The places that are done have a target's elements, and the others the old ones.
-pub record IsSetAt (done : ℕ → Type 0) (old target now : List Logic) : Type 0 where
-  pub same : length now ≡ length old
-  pub set : (i : ℕ) → i < length old → done i → get_or now i X ≡ get_or target i X
-  pub rest : (i : ℕ) → i < length old → (done i → ⊥) → get_or now i X ≡ get_or old i X
 
 -- one place more
 pub set_more : (done done' : ℕ → Type 0) (old target now : List Logic) (p : ℕ) (x : Logic) → IsSetAt done old target now → p < length old → x ≡ get_or target p X →
@@ -39,19 +33,6 @@ set_more done done' old target now p x h l is from to here = record {
     | inr e ↦ get_or-set_other now p i x X e ∙ h.rest i k (λ d. not (to i d))
   ];
 }
-
--- the first places, one place more
-pub set_next : (old target now : List Logic) (p : ℕ) (x : Logic) → IsSetAt (λ i. i < p) old target now → p < length old → x ≡ get_or target p X → IsSetAt (λ i. i < p + 1) old target (set now p x)
-set_next old target now p x h l is =
-    set_more (λ i. i < p) (λ i. i < p + 1) old target now p x h l is (λ i ne d. omega (arith, ne, d)) (λ i d. omega (arith, d)) (omega arith)
-
-pub none_set : (old target : List Logic) → IsSetAt (λ i. i < 0) old target old
-none_set old target = record { same = refl; set = λ i l d. absurd (omega (arith, d)); rest = λ i l not. refl }
-
--- all places
-pub all_set : (old target now : List Logic) (p : ℕ) → IsSetAt (λ i. i < p) old target now → length old ≤ p → length target ≡ length old → now ≡ target
-all_set old target now p h all count =
-    ext_get_or X now target (h.same ∙ sym count) (λ i l. (let k : i < length old = omega (arith, l, h.same) in h.set i k (omega (arith, k, all))))
 
 none_content : (s : Source) (now : ℕ → Logic) (m : Moment) (n : ℕ) → clock_of s ≡ None → next_content s now m n ≡ X
 none_content Outside now m n e = refl
@@ -71,13 +52,13 @@ clock_over N Outside c e o = cc
 clock_over N (Gate kind delay inputs) c e o = cc
 clock_over N (Flop delay d clk i) c e o = (let same : clk ≡ c = cc in subst N same (o refl).2)
 
--- a clock is among the nets
-clock_among : (v : View) (is : IsLawful v) (i : ℕ) → i < length v.part.nets → (c : ℕ) → clock_of (source_at v.part i) ≡ Some c → is_some (slot_of v.part.nets c) ≡ true
-clock_among v is i h c e =
+-- a clock is among the nets that are used
+pub clock_used : (v : View) (is : IsLawful v) (i : ℕ) → i < length v.part.nets → (c : ℕ) → clock_of (source_at v.part i) ≡ Some c → IsUsed v.part c
+clock_used v is i h c e =
     let here = source_here v is i h in
     let over : IsDriven (source_at v.part i) → IsOver (IsUsed v.part) (source_at v.part i) =
     subst (λ (s : Source). IsDriven s → IsOver (IsUsed v.part) s) here (over_used v.part is.part (get_or v.part.nets i 0)) in
-    (clock_over (IsUsed v.part) (source_at v.part i) c e over).1
+    clock_over (IsUsed v.part) (source_at v.part i) c e over
 
 module _ (v : View) (is : IsLawful v) (last : Saved) (saved : IsSaved v last) (time : ℕ)
     (earlier : last.mark ≤ v.mark) (from : last.mark ≤ time) (until : time ≤ v.horizon) (quiet : IsQuietFrom v is last.mark time) where
@@ -94,7 +75,7 @@ module _ (v : View) (is : IsLawful v) (last : Saved) (saved : IsSaved v last) (t
       ∙ content_is_next v is last saved time after earlier from until quiet refl i h
   content_from contents i h same (Some c) e =
       same_content (source_at v.part i) c (block_value v c time) (value_in v.part.nets after) (moment_of v.part.nets last.values contents) (moment_of v.part.nets last.values last.contents) (net_at v.part i) e
-      (sym (in_map v.part.nets (moment_before v (time + 1)).value X c (clock_among v is i h c e)
+      (sym (in_map v.part.nets (moment_before v (time + 1)).value X c (clock_used v is i h c e).1
       ∙ ap (λ t. (moment_before v t).value c) (let e : time + 1 ≡ suc time = omega arith in e)))
       (λ k. refl)
       (of_net-at v.part.nets contents X i is.part.ascending h ∙ (same ∙ sym (of_net-at v.part.nets last.contents X i is.part.ascending h)))

@@ -1,25 +1,23 @@
 -- What committing leaves.
-use Rattle.std.proofs.Common.{◌≡◌, ℕ, zero, suc, Bool, true, false, cond, ◌&&◌, ◌+◌, ◌-◌, ◌<◌, ◌≤◌, nat_le, min, max, Option, None, is_some, Result, Ok, Err, List, [], ◌∷◌, map, drop, length, inl, inr, refl, ap, sym, ◌∙◌, subst, arith, All}
+use Rattle.std.proofs.Common.{◌≡◌, ℕ, zero, suc, Bool, true, false, cond, ◌+◌, ◌-◌, ◌<◌, ◌≤◌, nat_le, min, max, Option, Result, Ok, Err, List, [], ◌∷◌, drop, length, inl, inr, refl, ap, sym, ◌∙◌, subst, arith, All}
 use Rattle.std.specs.Result.{IfErr, IsErrAnd}
-use Rattle.std.specs.List.{count_by, drop-map}
+use Rattle.std.specs.List.{count_by}
 use Rattle.std.specs.List.Sorted.{IsPartitionPoint}
-use Rattle.std.proofs.lemmas.Bool.{cond-true, cases_Bool, cases_lt, lt-leb, and_parts, true≢false}
+use Rattle.std.proofs.lemmas.Bool.{cases_Bool, cases_lt, lt-leb, true≢false}
 use Rattle.std.proofs.lemmas.List.Elements.{All-drop}
-use Rattle.std.proofs.lemmas.List.Folds.{Any-from_list_any}
 use Rattle.std.proofs.lemmas.List.Sums.{sum_by-cons}
 use Rattle.gate_values.specs.declared.logic.Logic.{Logic}
 use Rattle.gate_values.specs.Behaviour.{Source, value, delay_of}
-use Rattle.gate_values.specs.Changes.{changes, before_time, pair_at}
+use Rattle.gate_values.specs.Changes.{changes, before_time}
 use Rattle.gate_values.proofs.ChangeLists.{before_time-changes}
 use Rattle.warp_block.specs.declared.fault.BlockFault.{BlockFault}
-use Rattle.warp_block.specs.Entries.{effective_of, is_settled}
-use Rattle.warp_block.specs.Portion.{is_driven, source_of, is_used}
-use Rattle.warp_block.specs.View.{View, Saved, entry_of, effective_at, news_of, is_busy, busy_times}
+use Rattle.warp_block.specs.Entries.{is_settled}
+use Rattle.warp_block.specs.Portion.{is_driven, source_of}
+use Rattle.warp_block.specs.View.{View, Saved, entry_of, effective_at, is_busy, busy_times}
 use Rattle.warp_block.specs.Lawful.{IsLawful, IsSaved, AreSpaced, AreSaved, IsLawfulProcess, lawful_log}
 use Rattle.warp_block.specs.Inner.Advance.{IsQuiet}
 use Rattle.warp_block.specs.Commit.{IsCommittable, IsCommitted, IsCommitRefusal}
-use Rattle.warp_block.proofs.Running.{given, run_log, run_log-past, driven_or_not, le_cases}
-use Rattle.warp_block.proofs.Views.{timed, news_of-run}
+use Rattle.warp_block.proofs.Running.{given, run_log, le_cases}
 use Rattle.warp_block.proofs.Quiet.{quiet_log_to}
 use Rattle.warp_block.proofs.SavingTimes.{times-split, times-none}
 use Rattle.warp_block.proofs.SavingStates.{map_same}

@@ -18,7 +18,7 @@ abbrev pub NoneUnsettled : View → ℕ → ℕ → Type 0
 NoneUnsettled v end n = (k t : ℕ) → k < n → IsUnsettledBelow v end (get_or v.part.nets k 0) t → ⊥
 
 -- an unsettled entry stands at a place
-unsettled_place : (v : View) (end n t : ℕ) → IsUnsettledBelow v end n t → (k : ℕ) × (k < length v.part.nets) × (get_or v.part.nets k 0 ≡ n)
+pub unsettled_place : (v : View) (end n t : ℕ) → IsUnsettledBelow v end n t → (k : ℕ) × (k < length v.part.nets) × (get_or v.part.nets k 0 ≡ n)
 unsettled_place v end n t h = go (slot_of v.part.nets n) refl
   where
     go : (o : Option ℕ) → slot_of v.part.nets n ≡ o → (k : ℕ) × (k < length v.part.nets) × (get_or v.part.nets k 0 ≡ n)

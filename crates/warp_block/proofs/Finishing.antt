@@ -68,7 +68,7 @@ module _ (v : View) (is : IsLawful v) (state : Saved) (saved : IsSaved v state) 
   pub kept_log : (i : ℕ) → i < length v.part.nets → log_at v.logs i ≡ run_log source (effective_at v) s v.horizon (at_net i)
   kept_log i h = log_is v is i h ∙ sym (quiet_log_to v is s (at_net i) from (omega arith) quiet)
 
-  emitted-driven : (i : ℕ) → i < length v.part.nets → IsDriven (source_at v.part i) → emitted v.part m i (log_at v.logs i) s v.horizon ≡ added (block_value v (at_net i)) (s + delay_of (source (at_net i))) v.horizon
+  pub emitted-driven : (i : ℕ) → i < length v.part.nets → IsDriven (source_at v.part i) → emitted v.part m i (log_at v.logs i) s v.horizon ≡ added (block_value v (at_net i)) (s + delay_of (source (at_net i))) v.horizon
   emitted-driven i h d =
       let n : ℕ = at_net i in
       let here = source_here v is i h in

@@ -1,5 +1,5 @@
 -- The state that a block goes on from.
-use Rattle.std.proofs.Common.{◌≡◌, ℕ, zero, suc, true, false, ◌&&◌, is_some, inl, inr, map, ◌+◌, ◌-◌, ◌<◌, ◌≤◌, Option, Some, None, List, [], ◌∷◌, take, drop, length, get_or, refl, ap, sym, ◌∙◌, subst, arith, All}
+use Rattle.std.proofs.Common.{◌≡◌, ℕ, zero, suc, true, ◌&&◌, is_some, inl, inr, ◌+◌, ◌-◌, ◌<◌, ◌≤◌, None, List, [], ◌∷◌, take, drop, length, get_or, refl, ap, sym, ◌∙◌, subst, arith, All}
 use Rattle.std.specs.List.Sorted.{IsPartitionPoint}
 use Rattle.std.proofs.lemmas.Bool.{cond-true, and_parts, cases_lt, true≢false}
 use Rattle.std.proofs.lemmas.List.{take_all}
@@ -11,7 +11,7 @@ use Rattle.warp_block.specs.Portion.{is_driven, source_of, is_used}
 use Rattle.warp_block.proofs.Running.{run_log, run_log-past, driven_or_not}
 use Rattle.warp_block.proofs.Views.{timed, news_of-run}
 use Rattle.warp_block.specs.View.{View, Saved, effective_at, news_of, is_busy, busy_times}
-use Rattle.warp_block.specs.Lawful.{IsLawful, IsSaved, AreSpaced, AreSaved, IsLawfulProcess}
+use Rattle.warp_block.specs.Lawful.{IsLawful, IsSaved, AreSaved}
 use Rattle.warp_block.specs.Inner.Present.{newest, newest_of, unsaved, IsPresent, IsPresentFrom}
 use Rattle.warp_block.proofs.SavingTimes.{times-split, times-none, times-one, times-agree}
 use Rattle.warp_block.proofs.SavingStates.{saved_kept, spaced_last, spaced_until}

@@ -1,14 +1,13 @@
 -- What holds of a block's states, whatever is done with them.
-use Rattle.std.proofs.Common.{◌≡◌, ◌≢◌, ℕ, zero, suc, refl, Some, true, false, ◌+◌, ◌-◌, ◌<◌, ◌≤◌, ◌==◌, ◌++◌, max, List, [], ◌∷◌, take, drop, length, get_or, ap, sym, ◌∙◌, subst, arith, All}
+use Rattle.std.proofs.Common.{◌≡◌, ◌≢◌, ℕ, Some, true, ◌+◌, ◌<◌, ◌≤◌, ◌++◌, List, [], ◌∷◌, take, length, get_or, ap, sym, ◌∙◌, subst, arith}
 use Rattle.std.specs.List.Sorted.{IsNonDecreasingBy, IsPartitionPoint}
-use Rattle.std.proofs.lemmas.Bool.{eq-eqb, true≢false}
 use Rattle.warp_block.specs.declared.states.States.{States}
 use Rattle.warp_block.specs.declared.state.TheConstants.{SAVE_EVERY}
 use Rattle.warp_block.specs.View.{View, Saved, is_busy, IsLeast, IsEventTime}
-use Rattle.warp_block.specs.Lawful.{IsLawful, IsSaved, AreSaved, IsLawfulProcess}
+use Rattle.warp_block.specs.Lawful.{IsLawful, IsSaved, AreSpaced, AreSaved, IsLawfulProcess}
 use Rattle.warp_block.specs.Inner.Advance.{IsCaughtUp}
 use Rattle.warp_block.specs.Inner.StateLists.{now_of, saved_by, FitTogether}
-use Rattle.warp_block.specs.Inner.Present.{newest, newest_of, IsPresent, IsPresentFrom, AreStates}
+use Rattle.warp_block.specs.Inner.Present.{newest, newest_of, oldest_of, IsPresent, AreStates}
 use Rattle.warp_block.proofs.Newest.{newest_of_push}
 use Rattle.warp_block.proofs.SavingStep.{one_saved, one_unsaved, one_present}
 use Rattle.warp_block.proofs.Receiving.{saved_rise}
@@ -98,3 +97,15 @@ module _ (v w : View) (old mid : States) (h : AreStates v old) (isw : IsLawful w
       (subst (λ (ss : List Saved). IsLawfulProcess (record { seen = w; saved = ss })) (sym all)
       (one_saved v w h.law.seen isw part horizon floor queues time mark least (saved_by old) h.law (now_of old) old.since h.present caught (now_of mid) at holds (sym since ∙ due)))
       (now ∙ sym (ap newest_of all ∙ newest_of_push (saved_by old) (now_of mid))) none fit
+
+newest_high : (v : View) (s : Saved) (ss : List Saved) → AreSpaced v s.mark ss → s.mark ≤ (newest s ss).mark
+newest_high v s [] h = omega arith
+newest_high v s (r ∷ ss) h = (let up = h.0 in let rest = newest_high v r ss h.3 in omega (arith, up, rest))
+
+-- the present state isn't before the oldest saved one
+pub oldest_low : (v : View) (s : States) → AreStates v s → oldest_of (saved_by s) ≤ (now_of s).mark
+oldest_low v s h = go (saved_by s) h.law.saved h.present.from
+  where
+    go : (ss : List Saved) → AreSaved v ss → (newest_of ss).mark ≤ (now_of s).mark → oldest_of ss ≤ (now_of s).mark
+    go [] saved from = absurd saved
+    go (x ∷ ss) saved from = (let up = newest_high v x ss saved.1 in omega (arith, up, from))

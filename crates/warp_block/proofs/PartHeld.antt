@@ -1,5 +1,5 @@
 -- What the fields of a part say of its nets.
-use Rattle.std.proofs.Common.{◌≡◌, ℕ, suc, ◌+◌, ◌-◌, ◌<◌, List, [], ◌∷◌, map, take, drop, length, get_or, Some, refl, ap, sym, subst, ◌∙◌, arith}
+use Rattle.std.proofs.Common.{◌≡◌, ℕ, suc, ◌+◌, ◌-◌, ◌<◌, List, [], ◌∷◌, map, take, drop, length, get_or, refl, ap, subst, ◌∙◌, arith}
 use Rattle.std.specs.List.{All}
 use Rattle.std.specs.List.Sorted.{IsStrictlyIncreasing}
 use Rattle.std.proofs.lemmas.List.{get_or-map}
@@ -15,7 +15,6 @@ use Rattle.warp_block.specs.declared.part.Part.TheInside.{Inside}
 use Rattle.warp_block.specs.Inner.HeldPart.{IsHeld, portion_of, cell_source, stretch, CellFits}
 use Rattle.warp_block.specs.declared.cell.Span.{Span}
 use Rattle.warp_block.specs.Inner.Moments.{value_in, moment_of}
-use Rattle.warp_block.specs.Inner.Contents.{clock_of}
 use Rattle.warp_block.proofs.Slots.{of_net-at}
 
 -- a copy of the fields is a part
@@ -82,10 +81,3 @@ module _ (p : Inside) (h : IsHeld p) (values contents : List Logic) (i : ℕ) (e
       let before = of_net-at p.nets.items values X clock up fits.1 in
       let given = of_net-at p.nets.items values X d up fits.0 in
       rw (source-at p i e (Flop delay d clock init) h l is) cc
-
-  -- the clock of a flip-flop, and of no other place
-  pub clock_found : (delay d clock : ℕ) (init : Logic) → get_or p.cells.items i e ≡ Flop delay d clock init → Some (get_or p.nets.items clock 0) ≡ clock_of (get_or (portion_of p).sources i Outside)
-  clock_found delay d clock init is = sym (ap clock_of (source-at p i e (Flop delay d clock init) h l is))
-
-  pub clock_within : (delay d clock : ℕ) (init : Logic) → get_or p.cells.items i e ≡ Flop delay d clock init → clock < length p.nets.items
-  clock_within delay d clock init is = (fits-at p i e (Flop delay d clock init) h l is).1

@@ -14,7 +14,7 @@ use Rattle.warp_block.specs.Inner.Advance.{IsQuiet}
 use Rattle.warp_block.proofs.Running.{given, run_log, run_news, run_log-quiet, steady, le_cases}
 use Rattle.warp_block.proofs.Views.{IsUsed, timed, over_used, news_of-run, quiet_news}
 
-flip_quiet : (content v d : Logic) → flip_of content v v d ≡ content
+pub flip_quiet : (content v d : Logic) → flip_of content v v d ≡ content
 unfolding flip_of
 flip_quiet content Zero d = refl
 flip_quiet content One d = refl

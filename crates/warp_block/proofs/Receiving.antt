@@ -1,9 +1,9 @@
 -- What taking a message makes of a block.
-use Rattle.std.proofs.Common.{◌≡◌, ◌≢◌, ℕ, zero, suc, ℤ, pos, ◌+ℤ◌, ◌<◌, ◌≤◌, ◌⊎◌, ◌==◌, Bool, true, false, cond, Option, Some, None, Result, Ok, Err, List, [], ◌∷◌, map, take, length, get_or, inl, inr, refl, ap, sym, ◌∙◌, subst, arith, All}
+use Rattle.std.proofs.Common.{◌≡◌, ◌≢◌, ℕ, zero, suc, ℤ, pos, ◌+ℤ◌, ◌<◌, ◌≤◌, ◌⊎◌, ◌==◌, Bool, true, false, cond, Option, Some, None, Result, Ok, Err, List, [], ◌∷◌, take, length, get_or, inl, inr, refl, ap, sym, ◌∙◌, subst, arith, All}
 use Rattle.std.specs.Result.{IfErr, IsErrAnd}
 use Rattle.std.specs.List.Sorted.{IsPartitionPoint, IsNonDecreasingBy}
 use Rattle.std.proofs.lemmas.Bool.{cases_Bool, cases_eq, cases_lt, true≢false, ne_eqb, eq-eqb, and_left, and_right}
-use Rattle.std.proofs.lemmas.List.{length-take, get_or-take, length-map, get_or-map}
+use Rattle.std.proofs.lemmas.List.{length-take, get_or-take}
 use Rattle.std.proofs.lemmas.List.Elements.{All-take}
 use Rattle.std.proofs.lemmas.Int.{ints}
 use Rattle.gate_values.specs.declared.logic.Logic.{Logic}
@@ -222,7 +222,7 @@ saved_rise v [] h = absurd h
 saved_rise v (s ∷ ss) h = spaced_rise v s ss h.1
 
 -- effective values that don't differ are the same
-same_value : (x y : Logic) → ((x ≡ y → ⊥) → ⊥) → x ≡ y
+pub same_value : (x y : Logic) → ((x ≡ y → ⊥) → ⊥) → x ≡ y
 same_value x y h = elim (cases_Bool (same x y)) [
   | inl this ↦ same_is x y this
   | inr other ↦ absurd (h (λ e. true≢false (sym (same_refl x) ∙ (ap (same x) e ∙ other))))

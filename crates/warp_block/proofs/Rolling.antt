@@ -37,7 +37,7 @@ tail_log : (c : Change) (cs : List Change) → IsLog (c ∷ cs) → IsLog cs
 tail_log c cs is = record { in_order = λ i j d l h. is.in_order (suc i) (suc j) d (omega arith) (omega arith) }
 
 -- a rising log is its changes before a time, and then those since
-split_log : (end : ℕ) (cs : List Change) → IsLog cs → cs ≡ before_time end cs ++ since_time end cs
+pub split_log : (end : ℕ) (cs : List Change) → IsLog cs → cs ≡ before_time end cs ++ since_time end cs
 split_log end [] is = refl
 split_log end (c ∷ cs) is = elim (cases_lt c.time end) [
   | inl before ↦ rw (lt-ltb c.time end before, lt-leb end c.time before) (ap (λ (xs : List Change). c ∷ xs) (split_log end cs (tail_log c cs is)))

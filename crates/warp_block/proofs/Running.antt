@@ -76,7 +76,7 @@ longer f s d horizon = elim (le_cases (s + d) horizon) [
 abbrev pub added : (ℕ → Logic) → ℕ → ℕ → List Change
 added f t horizon = cond (leb t horizon) (change_at f t) []
 
-quiet_change : (f : ℕ → Logic) (s d horizon : ℕ) → 0 < d → ((t : ℕ) → s + d ≡ suc t → f (suc t) ≡ f t) → added f (s + d) horizon ≡ []
+pub quiet_change : (f : ℕ → Logic) (s d horizon : ℕ) → 0 < d → ((t : ℕ) → s + d ≡ suc t → f (suc t) ≡ f t) → added f (s + d) horizon ≡ []
 quiet_change f s d horizon h same_there =
     let e : s + d ≡ suc (pred (s + d)) = omega arith in
     elim (leb (s + d) horizon) as (λ b. cond b (change_at f (s + d)) [] ≡ []) [

@@ -1,8 +1,6 @@
 -- What finishing one event time does to a block.
-use Rattle.std.proofs.Common.{◌≡◌, ℕ, true, ◌+◌, ◌-◌, ◌<◌, ◌≤◌, ◌++◌, inl, inr, Option, Some, List, [], ◌∷◌, map, length, get_or, ap, sym, ◌∙◌, subst, arith}
+use Rattle.std.proofs.Common.{◌≡◌, ℕ, true, ◌+◌, ◌-◌, ◌<◌, ◌≤◌, ◌++◌, Some, List, [], ◌∷◌, ap, sym, ◌∙◌, subst, arith}
 use Rattle.std.specs.List.{All}
-use Rattle.std.proofs.lemmas.Bool.{cases_lt}
-use Rattle.std.proofs.lemmas.List.{get_or-map, length-map}
 use Rattle.std.proofs.lemmas.List.Elements.{All-nil, All-cons, All-push}
 use Rattle.warp_block.specs.declared.state.TheConstants.{SAVE_EVERY}
 use Rattle.warp_block.specs.Entries.{Received, entry_in, effective_of}

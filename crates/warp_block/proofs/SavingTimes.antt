@@ -58,11 +58,3 @@ pub times-one : (f : ℕ → Bool) (a b : ℕ) → b ≡ a + 1 → f a ≡ true 
 times-one f a b next h =
     let one : b - a ≡ suc 0 = omega (arith, next) in
     ap (λ n. run f a n) one ∙ (run-more f a 0 ∙ ap (λ t. cond t 1 0 + 0) h)
-
--- where none was counted, none passes
-pub none_counted : (f : ℕ → Bool) (a b : ℕ) → times f a b ≡ 0 → (t : ℕ) → a ≤ t → t < b → ¬ (f t ≡ true)
-none_counted f a b none t l k h =
-    let first : times f a b ≡ times f a t + times f t b = times-split f a t b l (omega arith) in
-    let second : times f t b ≡ times f t (t + 1) + times f (t + 1) b = times-split f t (t + 1) b (omega arith) (omega arith) in
-    let one : times f t (t + 1) ≡ 1 = times-one f t (t + 1) refl h in
-    omega (arith, first, second, one, none)

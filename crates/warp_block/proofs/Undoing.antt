@@ -1,9 +1,8 @@
 -- States that are put back.
-use Rattle.std.proofs.Common.{◌≡◌, ◌≢◌, ℕ, zero, suc, ◌+◌, ◌-◌, ◌<◌, ◌≤◌, ◌++◌, inl, inr, List, [], ◌∷◌, map, take, drop, length, get_or, set, refl, ap, sym, ◌∙◌, subst, arith, All, get_or-set_same, get_or-set_other}
+use Rattle.std.proofs.Common.{◌≡◌, ℕ, zero, suc, ◌+◌, ◌-◌, ◌<◌, ◌≤◌, ◌++◌, List, [], ◌∷◌, map, take, drop, length, get_or, set, refl, ap, sym, ◌∙◌, subst, arith, All}
 use Rattle.std.specs.List.Sorted.{IsNonDecreasingBy, IsPartitionPoint}
-use Rattle.std.proofs.lemmas.List.{append_assoc, drop-append-le, length-append, append-nil, length-take-le, length-take, get_or-take, take-map, length-map, get_or-map, get_or_default, get_or_append_left, get_or-drop, length-drop, drop-map, length-set, ext_get_or}
-use Rattle.std.proofs.lemmas.Bool.{cases_eq}
-use Rattle.std.proofs.lemmas.List.Elements.{All-head, All-tail, All-take}
+use Rattle.std.proofs.lemmas.List.{drop-append-le, length-append, length-take-le, length-take, get_or-take, take-map, length-map, get_or-map, get_or_default, get_or_append_left, get_or-drop, length-drop, drop-map, ext_get_or}
+use Rattle.std.proofs.lemmas.List.Elements.{All-head, All-tail}
 use Rattle.std.proofs.Math.Seq.{set-get_or, set-set, drop-nil}
 use Rattle.gate_values.specs.declared.logic.Logic.{Logic}
 use Rattle.warp_block.specs.declared.states.Old.{Old}
@@ -183,9 +182,6 @@ module _ (now : Saved) (undo : List Old) (places : List Place) (within : AreWith
   oldest : p ≡ get_or places count p
   oldest = at ∙ (get_or-drop count places 0 p ∙ ap (λ i. get_or places i p) (let e : count + 0 ≡ count = omega arith in e))
 
-  pub oldest_within : p.start ≤ length undo
-  oldest_within = subst (λ (q : Place). q.start ≤ length undo) (sym oldest) (within count p few)
-
   -- those that are left begin from the oldest one on
   pub left_from : All (λ (q : Place). p.start ≤ q.start) (drop count places)
   left_from j d l =
@@ -223,17 +219,6 @@ pub record AreEarlier (count i : ℕ) (old now : List Place) : Type 0 where
   pub same : length now ≡ length old
   pub below : (k : ℕ) (d : Place) → k < i → k < length old → get_or now k d ≡ earlier count (get_or old k d)
   pub above : (k : ℕ) (d : Place) → i ≤ k → get_or now k d ≡ get_or old k d
-
-pub one_earlier : (count i : ℕ) (old now : List Place) (p : Place) → AreEarlier count i old now → i < length old → p ≡ earlier count (get_or now i p) → AreEarlier count (i + 1) old (set now i p)
-one_earlier count i old now p h l is = record {
-  same = length-set now i p ∙ h.same;
-  below = λ k d less within. elim (cases_eq k i) [
-    | inl e ↦ subst (λ (j : ℕ). get_or (set now i p) j d ≡ earlier count (get_or old j d)) (sym e)
-        (get_or-set_same now i p d (omega (arith, l, h.same)) ∙ (is ∙ ap (earlier count) (h.above i p (omega arith) ∙ get_or_default old i p d l)))
-    | inr ne ↦ get_or-set_other now i k p d ne ∙ h.below k d (omega (arith, less, ne)) within
-  ];
-  above = λ k d more. (let ne : k ≢ i = omega (arith, more) in get_or-set_other now i k p d ne ∙ h.above k d (omega (arith, more)));
-}
 
 pub all_earlier : (count i : ℕ) (old now : List Place) → AreEarlier count i old now → length old ≤ i → now ≡ map (earlier count) old
 all_earlier count i [] [] h all = refl

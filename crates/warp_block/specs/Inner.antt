@@ -1,13 +1,17 @@
 -- What only the proofs of this crate need: no contract of a public call speaks of it.
 pub mod Advance
+pub mod Agenda
 pub mod Building
 pub mod Contents
 pub mod Entries
+pub mod Fan
 pub mod Held
 pub mod HeldBlock
 pub mod HeldPart
+pub mod Index
 pub mod Logs
 pub mod Moments
+pub mod Placed
 pub mod Present
 pub mod Receive
 pub mod SamePart
@@ -15,3 +19,4 @@ pub mod StateLists
 pub mod States
 pub mod Step
 pub mod View
+pub mod Woken

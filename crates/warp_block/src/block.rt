@@ -1,4 +1,4 @@
-ghost use Rattle.std.specs.Prelude.{◌≡◌, ◌≢◌, ◌+◌, ◌-◌, ◌≤◌, ◌<◌, ◌↔◌, ◌⊎◌, ℕ, IsTrue, IfOk, IfErr, OnOk, OnErr, Some, None, length, take, drop};
+ghost use Rattle.std.specs.Prelude.{◌≡◌, ◌≢◌, ◌+◌, ◌-◌, ◌≤◌, ◌<◌, ◌↔◌, ◌⊎◌, ℕ, IsTrue, IfOk, IfErr, OnOk, OnErr, Some, None};
 ghost use Rattle.warp_block.specs.Limits.{most_horizon};
 ghost use Rattle.warp_block.specs.declared.message.Sign.TheVariants.{Plus, Minus};
 ghost use Rattle.warp_block.specs.Entries.{no_messages};
@@ -10,22 +10,29 @@ ghost use Rattle.warp_block.specs.Advance.{IsAdvanced, IsAfterEvent};
 ghost use Rattle.warp_block.specs.Commit.{IsCommittable, IsCommitted, IsCommitRefusal};
 ghost use Rattle.warp_block.specs.Sends.{SendsOnce};
 
+use crate::agenda::Agenda;
 use crate::entry::Entry;
 use crate::fault::BlockFault;
+use crate::journal::Journal;
 use crate::look::Look;
 use crate::message::Message;
-use crate::part::Part;
+use crate::part::{Fan, Part};
 use crate::states::States;
 use gate_values::Change;
 use gate_vcd::Stimulus;
 use std::alloc::{AllocError, Global};
 use std::marker::Model;
 
-/// A logical process.
+/// A logical process. Beside what it shows it holds which places may have news at which times, which logged something
+/// because of which times, who looks at each place, and the states; the gates are a place to work in.
 #[derive(Debug, Drop)]
 pub struct Block {
     look: Look,
+    agenda: Agenda,
+    journal: Journal,
+    fan: Fan,
     states: States,
+    gates: Vec<u32>,
 }
 
 impl Model for Block {
@@ -59,9 +66,19 @@ impl Block {
     {
         let look = Look::new(alloc, part, stimulus, horizon)?;
         look.law();
+        let agenda = look.opening_agenda()?;
+        let journal = Journal::new(alloc);
+        let fan = Fan::of(alloc, look.part())?;
         let states = look.first_states()?;
         look.tell_logged(out)?;
-        Ok(Block { look, states })
+        Ok(Block {
+            look,
+            agenda,
+            journal,
+            fan,
+            states,
+            gates: Vec::new(alloc),
+        })
     }
 
     /// What is true of every block: its log and saved states are those of running what it has received, in order of
@@ -91,12 +108,20 @@ impl Block {
             Err(fault) => return Err(fault),
         };
         if self.look.is_straggler(slot, message.time, entry) {
-            self.look.roll_back(slot, message.time, entry, out)?;
+            self.look.receive_late(
+                slot,
+                message.time,
+                entry,
+                &mut self.agenda,
+                &mut self.journal,
+                out,
+            )?;
             self.look.law();
             self.states.roll_back(message.time);
             return Ok(());
         }
-        self.look.take_in(slot, message.time, entry)?;
+        self.look
+            .receive_in_time(slot, message.time, entry, &mut self.agenda)?;
         self.look.law();
         Ok(())
     }
@@ -113,7 +138,8 @@ impl Block {
         ensures sends { SendsOnce self.old.seen self.new.seen Plus (IsAfterEvent self.old.seen) out.old.items out.new.items }
     {
         for finished in 0..steps {
-            let Some(time) = self.look.next_time() else {
+            self.law();
+            let Some(time) = self.next_time() else {
                 return Ok(finished);
             };
             self.step(time, out)?;
@@ -131,8 +157,17 @@ impl Block {
         ensures err { OnErr result (self.new ≡ self.old) }
         ensures untold { OnErr result (out.new.items ≡ out.old.items) }
     {
-        self.look.coast(&mut self.states)?;
-        match self.look.pass(time, &mut self.states, out) {
+        self.look
+            .coast(&self.agenda, &self.fan, &mut self.gates, &mut self.states)?;
+        match self.look.pass(
+            time,
+            &mut self.agenda,
+            &mut self.journal,
+            &self.fan,
+            &mut self.gates,
+            &mut self.states,
+            out,
+        ) {
             Ok(()) => {}
             Err(error) => {
                 self.states.roll_back(self.look.mark());
@@ -159,9 +194,11 @@ impl Block {
         ensures refused { IfErr result (IsCommitRefusal self.old.seen floor) }
         ensures err { OnErr result (self.new ≡ self.old) }
     {
-        self.look.may_commit(floor)?;
+        self.look.may_commit(&self.agenda, floor)?;
         self.look.commit(floor);
         self.states.keep_from(floor);
+        self.agenda.forget_below(self.states.oldest());
+        self.journal.forget_below(floor);
         Ok(())
     }
 
@@ -204,14 +241,14 @@ impl Block {
     pub fn next_time(&self) -> Option<u64>
         ensures { IsLeast (IsEventTime self.now.seen) result }
     {
-        self.look.next_time()
+        self.look.next_busy(&self.agenda, self.look.mark())
     }
 
     /// Whether no event time is left.
     pub fn done(&self) -> bool
         ensures { IsTrue result ↔ IsDone self.now.seen }
     {
-        self.look.done()
+        self.next_time().is_none()
     }
 
     /// The changes of a net that the block has computed, after the initial content of a flip-flop, committed ones

@@ -1,4 +1,4 @@
-ghost use Rattle.std.specs.Prelude.{◌≡◌, ◌≢◌, ◌↔◌, IsTrue, IfSome, IfNone, ◌+ℤ◌, if◌then◌else◌};
+ghost use Rattle.std.specs.Prelude.{◌≡◌, ◌↔◌, IsTrue, ◌+ℤ◌, if◌then◌else◌};
 ghost use Rattle.warp_block.specs.Entries.{effective_of, bump_of, number_of, with_number, no_messages, one_message, is_settled, is_within, weight_of};
 
 use crate::message::Sign;

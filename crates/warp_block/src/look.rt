@@ -1,8 +1,7 @@
-ghost use Rattle.std.specs.Prelude.{◌≡◌, ◌≢◌, ◌≤◌, ◌<◌, ◌+◌, ℕ, ◌↔◌, IsTrue, IfOk, OnOk, OnErr, IsSome, if◌then◌else◌, length, slice_index};
+ghost use Rattle.std.specs.Prelude.{◌≡◌, ◌≢◌, ◌≤◌, ◌<◌, ◌+◌, ◌↔◌, IsTrue, IfOk, IsSome, if◌then◌else◌, length, slice_index};
 ghost use Rattle.warp_block.specs.Limits.{most_horizon};
-ghost use Rattle.warp_block.specs.declared.message.Sign.TheVariants.{Plus, Minus};
 ghost use Rattle.warp_block.specs.Entries.{no_messages, IsQueue};
-ghost use Rattle.warp_block.specs.Portion.{owns, slot_of, is_driven, is_used};
+ghost use Rattle.warp_block.specs.Portion.{slot_of, is_used};
 ghost use Rattle.warp_block.specs.View.{IsLeast, IsEventTime, IsDone, entry_of, log_of, block_value, news_of};
 ghost use Rattle.warp_block.specs.Inner.View.{earlier_of};
 ghost use Rattle.warp_block.specs.Lawful.{IsLawful};
@@ -12,13 +11,15 @@ ghost use Rattle.warp_block.specs.Receive.{is_for};
 ghost use Rattle.warp_block.specs.Inner.Held.{lists_in};
 
 mod admit;
+mod busy;
 mod commit;
 mod emit;
+mod late;
+mod listed;
+mod over;
 mod pass;
 mod start;
-mod undo;
 
-use crate::cell::Cell;
 use crate::entry::Entry;
 use crate::log;
 use crate::message::Message;
@@ -132,7 +133,7 @@ impl Look {
     }
 
     /// The least time from one on to the horizon at which something happens to a net that a gate of the block reads.
-    pub(crate) fn next_from(&self, from: u64) -> Option<u64>
+    fn next_from(&self, from: u64) -> Option<u64>
         ensures { IsLeast (IsBusyFrom self.now from) result }
     {
         let mut next = None;

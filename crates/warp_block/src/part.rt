@@ -1,4 +1,4 @@
-ghost use Rattle.std.specs.Prelude.{◌≡◌, ◌<◌, ◌≤◌, ℕ, false, [], if◌then◌else◌, IfOk, IfSome, OnOk, option_map, length, get_or, map, slice_index, vec_len, ◌↔◌, IsTrue};
+ghost use Rattle.std.specs.Prelude.{◌≡◌, ◌<◌, ◌≤◌, ℕ, false, [], if◌then◌else◌, IfOk, IfSome, OnOk, option_map, length, get_or, map, slice_index, ◌↔◌, IsTrue};
 ghost use Rattle.std.specs.List.{All};
 ghost use Rattle.std.specs.Cmp.Rules.{comparing};
 ghost use Rattle.std.proofs.Common.{rules};
@@ -13,11 +13,13 @@ ghost use Rattle.warp_block.specs.Inner.Moments.{moment_of};
 ghost use Rattle.warp_block.specs.Inner.Contents.{clock_of};
 
 mod build;
+mod fan;
 mod readers;
 mod same;
 mod slots;
 
 use crate::cell::{Cell, Span};
+pub(crate) use fan::Fan;
 use gate_netlist::{Circuit, Cut};
 use gate_values::{Logic, flip, table};
 use std::alloc::{AllocError, Global};

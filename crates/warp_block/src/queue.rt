@@ -37,7 +37,7 @@ impl Timed {
         Timed { time, entry }
     }
 
-    fn time(&self) -> u64
+    pub(crate) fn time(&self) -> u64
         ensures { result ≡ self.now.time }
     {
         self.time

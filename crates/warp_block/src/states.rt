@@ -3,7 +3,7 @@ ghost use Rattle.std.specs.Prelude.{◌≡◌, ◌<◌, ◌≤◌, ◌+◌, ◌-
 ghost use Rattle.std.specs.List.{All};
 ghost use Rattle.std.specs.List.Sorted.{IsNonDecreasingBy, IsPartitionPoint};
 ghost use Rattle.warp_block.specs.View.{Saved};
-ghost use Rattle.warp_block.specs.Inner.Present.{newest_of};
+ghost use Rattle.warp_block.specs.Inner.Present.{newest_of, oldest_of};
 ghost use Rattle.warp_block.specs.Inner.States.{put_back, back, earlier};
 ghost use Rattle.warp_block.specs.Inner.StateLists.{now_of, saved_by, IsOld, FitTogether, HasRoom};
 
@@ -67,6 +67,14 @@ impl States {
         ensures { result ≡ (now_of self.now).mark }
     {
         self.mark
+    }
+
+    /// The mark of the oldest saved state.
+    pub(crate) fn oldest(&self) -> u64
+        requires { 0 < length (saved_by self.now) }
+        ensures { result ≡ oldest_of (saved_by self.now) }
+    {
+        self.saved[0].mark
     }
 
     /// The present values, by place.

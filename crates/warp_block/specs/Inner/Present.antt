@@ -18,6 +18,11 @@ abbrev pub newest_of : List Saved → Saved
 newest_of [] = unsaved
 newest_of (s ∷ ss) = newest s ss
 
+-- the mark of the first of some states
+abbrev pub oldest_of : List Saved → ℕ
+oldest_of [] = 0
+oldest_of (s ∷ ss) = s.mark
+
 -- It holds the block's values and contents just before its mark, which isn't past the block's; so many busy times lie
 -- between the newest saved state and it.
 pub record IsPresentFrom (v : View) (base now : Saved) (since : ℕ) : Type 0 where

@@ -1,5 +1,5 @@
 -- What contracts see of a block's states.
-use Rattle.std.specs.Prelude.{◌≡◌, ℕ, ◌<◌, List, map, length, vec_len, vec_capacity}
+use Rattle.std.specs.Prelude.{ℕ, ◌<◌, List, length, vec_len, vec_capacity}
 use Rattle.std.specs.List.{All}
 use Rattle.std.specs.List.Sorted.{IsNonDecreasingBy}
 use Rattle.warp_block.specs.declared.states.Old.{Old}

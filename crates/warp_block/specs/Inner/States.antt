@@ -1,7 +1,6 @@
 -- Saved states, kept as what brings them back.
 use Rattle.std.specs.Prelude.{ℕ, List, [], ◌∷◌, map, drop, length, slice_set, ◌≤◌, ◌-◌}
 use Rattle.std.specs.List.{All}
-use Rattle.gate_values.specs.declared.logic.Logic.{Logic}
 use Rattle.warp_block.specs.declared.states.Old.{Old}
 use Rattle.warp_block.specs.declared.states.Old.TheVariants.{Value, Content}
 use Rattle.warp_block.specs.declared.states.Place.{Place}

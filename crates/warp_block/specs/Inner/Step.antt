@@ -1,5 +1,5 @@
 -- What the processing of a time adds to the logs and sends, place by place.
-use Rattle.std.specs.Prelude.{◌≡◌, ℕ, zero, suc, ◌+◌, ◌++◌, nat_le, if◌then◌else◌, List, [], ◌∷◌, map, get_or, slice_index, ◌<◌, ◌≤◌, ◌⊎◌}
+use Rattle.std.specs.Prelude.{◌≡◌, ℕ, zero, suc, ◌+◌, ◌++◌, nat_le, if◌then◌else◌, List, [], ◌∷◌, map, get_or, slice_index, ◌<◌, ◌≤◌, ◌⊎◌, false, IsTrue}
 use Rattle.std.specs.List.{flat_map, filter}
 use Rattle.gate_values.specs.declared.logic.Logic.{Logic}
 use Rattle.gate_values.specs.declared.logic.Logic.TheVariants.{X}
@@ -8,6 +8,7 @@ use Rattle.gate_values.specs.Behaviour.{Source, Outside, Moment, output, delay_o
 use Rattle.gate_values.specs.Changes.{same, last_value, before_time}
 use Rattle.warp_block.specs.declared.message.Message.{Message}
 use Rattle.warp_block.specs.declared.message.Sign.{Sign}
+use Rattle.warp_block.specs.Inner.Building.{has}
 use Rattle.warp_block.specs.Portion.{Portion, is_driven}
 
 -- what sets the net at a place
@@ -61,3 +62,20 @@ IsPartlyEmitted p m s horizon before logs =
 pub record AreCut (p : Portion) (mark i : ℕ) (before logs : List (List Change)) : Type 0 where
   pub below : (k : ℕ) → k < i → log_at logs k ≡ before_time (mark + delay_of (source_at p k)) (log_at before k)
   pub above : (k : ℕ) → i ≤ k → log_at logs k ≡ log_at before k
+
+-- what a log becomes when its place has added what it emits
+abbrev pub with_emitted : Portion → Moment → ℕ → ℕ → ℕ → List Change → List Change
+with_emitted p m s horizon i log = log ++ emitted p m i log s horizon
+
+-- what a log becomes when it has lost what was added because of the mark or of later times
+abbrev pub cut_from : Portion → ℕ → ℕ → List Change → List Change
+cut_from p mark i log = before_time (mark + delay_of (source_at p i)) log
+
+-- the logs of some places have made a step each, and the others haven't
+pub record AreStepped (step : ℕ → List Change → List Change) (places : List ℕ) (before logs : List (List Change)) : Type 0 where
+  pub done : (i : ℕ) → IsTrue (has places i) → log_at logs i ≡ step i (log_at before i)
+  pub kept : (i : ℕ) → has places i ≡ false → log_at logs i ≡ log_at before i
+
+-- the messages on some changes of some places to their readers
+abbrev pub told_of : Sign → Portion → (ℕ → List Change) → List ℕ → List Message
+told_of sign p cs places = flat_map (λ i. flat_map (sent sign (net_at p i) (get_or p.readers i [])) (cs i)) places

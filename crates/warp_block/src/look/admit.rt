@@ -1,4 +1,4 @@
-ghost use Rattle.std.specs.Prelude.{◌≡◌, ◌≢◌, ◌<◌, ◌↔◌, IsTrue, IfOk, IfErr, length, slice_index};
+ghost use Rattle.std.specs.Prelude.{◌≢◌, ◌<◌, ◌↔◌, IsTrue, IfOk, IfErr, length, slice_index};
 ghost use Rattle.warp_block.specs.Entries.{effective_of};
 ghost use Rattle.warp_block.specs.View.{effective_at};
 ghost use Rattle.warp_block.specs.Receive.{refusal_of, IsRefusal};

@@ -1,21 +1,32 @@
-ghost use Rattle.std.specs.Prelude.{◌≡◌, ◌≤◌, ◌<◌, ℕ, max, ◌↔◌, IsTrue, IfSome, IfNone, IfErr, OnOk};
+ghost use Rattle.std.specs.Prelude.{◌≡◌, ◌<◌, ℕ, max, ◌↔◌, IsTrue, IfSome, IfNone, IfErr, OnOk, length, slice_index};
+ghost use Rattle.warp_block.specs.Inner.Building.{has};
+ghost use Rattle.warp_block.specs.Entries.{is_settled};
+ghost use Rattle.warp_block.specs.View.{entry_of};
+ghost use Rattle.warp_block.specs.Inner.Agenda.{places_at};
+ghost use Rattle.warp_block.specs.Inner.Index.{IsIndexed};
 ghost use Rattle.warp_block.specs.Commit.{IsEventBelow, IsUnsettledBelow, IsFirstUnsettled, IsCommittable, IsCommitRefusal};
 
 use super::Look;
+use crate::agenda::Agenda;
 use crate::fault::BlockFault;
 use crate::queue;
 
 impl Look {
     /// Whether what is below a floor can be committed; the first cause to refuse it.
-    pub(crate) fn may_commit(&self, floor: u64) -> Result<(), BlockFault>
+    pub(crate) fn may_commit(&self, agenda: &Agenda, floor: u64) -> Result<(), BlockFault>
+        requires { IsIndexed self.now self.now.floor (places_at agenda.now.times) }
         ensures ok { OnOk result (IsCommittable self.now floor) }
         ensures err { IfErr result (IsCommitRefusal self.now floor) }
     {
+        self.law();
         if floor < self.floor() {
             return Err(BlockFault::FloorBack);
         }
-        if self.has_event_below(floor) {
+        if self.has_event_below(agenda, floor) {
             return Err(BlockFault::Unprocessed);
+        }
+        if self.are_settled(agenda, floor) {
+            return Ok(());
         }
         match self.first_unsettled(floor) {
             Some((net, time)) => Err(BlockFault::Unsettled { net, time }),
@@ -33,13 +44,49 @@ impl Look {
     }
 
     /// Whether an event time is below a time.
-    fn has_event_below(&self, time: u64) -> bool
+    fn has_event_below(&self, agenda: &Agenda, time: u64) -> bool
+        requires { IsIndexed self.now self.now.mark (places_at agenda.now.times) }
         ensures { IsTrue result ↔ ((t : ℕ) × IsEventBelow self.now time t) }
     {
-        match self.next_time() {
+        match self.next_busy(agenda, self.mark()) {
             Some(next) => next < time,
             None => false,
         }
+    }
+
+    /// Whether the entries below a time are settled: those of the places that are listed from the floor on.
+    fn are_settled(&self, agenda: &Agenda, end: u64) -> bool
+        requires { IsIndexed self.now self.now.floor (places_at agenda.now.times) }
+        ensures { IsTrue result → (n t : ℕ) → IsUnsettledBelow self.now end n t → ⊥ }
+    {
+        self.law();
+        let mut from = self.floor();
+        while from < end {
+            let Some(time) = agenda.next(from) else {
+                return true;
+            };
+            if time >= end {
+                return true;
+            }
+            if !self.are_settled_at(agenda.at(time), time) {
+                return false;
+            }
+            from = time + 1;
+        }
+        true
+    }
+
+    /// Whether the entries of some places at a time are settled.
+    fn are_settled_at(&self, places: &[u32], time: u64) -> bool
+        requires { (i : ℕ) → IsTrue (has places.now i) → i < length self.now.part.nets }
+        ensures { IsTrue result → (i : ℕ) → IsTrue (has places.now i) → IsTrue (is_settled (entry_of self.now (slice_index self.now.part.nets i) time)) }
+    {
+        for place in places {
+            if !self.entry_at(*place as usize, time).is_settled() {
+                return false;
+            }
+        }
+        true
     }
 
     /// The first entry below a time that isn't settled, by net, then time.

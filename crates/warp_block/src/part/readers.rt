@@ -33,7 +33,7 @@ pub(super) fn readers_of(
 }
 
 /// So many empty lists.
-fn empty_lists(alloc: Global, count: usize) -> Result<Vec<Vec<u32>>, AllocError>
+pub(super) fn empty_lists(alloc: Global, count: usize) -> Result<Vec<Vec<u32>>, AllocError>
     ensures { IfOk result (λ lists. lists_of lists.items ≡ replicate count []) }
 {
     let mut lists = Vec::with_capacity(alloc, count)?;

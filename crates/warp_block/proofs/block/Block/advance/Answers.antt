@@ -1,6 +1,6 @@
-use Rattle.std.proofs.Common.{inl, refl, subst, arith}
+use Rattle.std.proofs.Common.{inl, refl, arith}
 use Rattle.std.proofs.lemmas.Result.{err_from_is_err_and}
-use Rattle.warp_block.specs.View.{Process, IsEventTime}
+use Rattle.warp_block.specs.View.{IsEventTime}
 use Rattle.warp_block.specs.Lawful.{IsLawful}
 use Rattle.warp_block.proofs.SavingAdvance.{none_advanced, none_sent, more_advanced, more_under_way, more_sent}
 use Rattle.warp_block.proofs.block.Block.advance.Goals as goal
@@ -15,10 +15,8 @@ loop-finished-init c = record { advanced = none_advanced c.args.self.now.seen; w
 
 pub loop-finished-preserved : goal.loop-finished-preserved
 loop-finished-preserved c =
-    let P : Process → Type 0 = λ p. IsEventTime p.seen c.in-Some.time in
-    let event : IsEventTime c.loop-finished.self.seen c.in-Some.time = subst P c.self.view_is c.in-Some.ensures.0 in
-    let L : Process → Type 0 = λ p. IsLawful p.seen in
-    let lawful : IsLawful c.loop-finished.self.seen = subst L c.self.view_is c.self.invariant.law.seen in
+    let event : IsEventTime c.loop-finished.self.seen c.in-Some.time = c.in-Some.ensures.0 in
+    let lawful : IsLawful c.loop-finished.self.seen = c.law.ensures.seen in
     record {
       advanced = more_advanced c.args.self.now.seen c.loop-finished.self.seen c.step.new.self.seen c.loop-finished.finished lawful c.in_ok-step.ensures.lawful c.loop-finished.invariant.advanced c.in_ok-step.ensures.ok;
       way = more_under_way c.args.self.now.seen c.loop-finished.self.seen c.step.new.self.seen c.in-Some.time c.loop-finished.invariant.way event c.in_ok-step.ensures.mark;

@@ -1,6 +1,13 @@
-use Rattle.std.proofs.Common.{ap, subst}
-use Rattle.warp_block.specs.Portion.{IsPortion}
+use Rattle.std.proofs.Common.{◌≡◌, ℕ, length, ap, sym, ◌∙◌, subst}
+use Rattle.warp_block.specs.Portion.{Portion, IsPortion}
 use Rattle.warp_block.specs.View.{View}
+use Rattle.warp_block.specs.Inner.StateLists.{saved_by}
+use Rattle.warp_block.specs.Inner.Present.{oldest_of}
+use Rattle.warp_block.specs.Inner.Agenda.{places_at}
+use Rattle.warp_block.specs.Inner.Fan.{fan_of}
+use Rattle.warp_block.specs.Inner.Woken.{AreWoken}
+use Rattle.warp_block.specs.Inner.Index.{IsIndexed, IsNoted}
+use Rattle.warp_block.proofs.Opened.{IsNoted-new}
 use Rattle.warp_block.proofs.Starting.{begun}
 use Rattle.warp_block.proofs.Opening.{opening_told}
 use Rattle.warp_block.proofs.block.Block.new.Goals as goal
@@ -9,8 +16,16 @@ pub invariant_of-result : goal.invariant_of-result
 invariant_of-result c =
     let v = c.in_ok-look.look in
     let opened = c.in_ok-look.ensures in
+    let mark = ap (λ (w : View). w.mark) opened in
     let s = c.in_ok-states.ensures in
-    begun v c.in_ok-states.states c.law.ensures (ap (λ (w : View). w.mark) opened) (ap (λ (w : View). w.floor) opened) s.mark s.lawful s.saved s.since s.fit
+    let first : oldest_of (saved_by c.in_ok-states.states) ≡ 0 = ap oldest_of s.saved ∙ s.mark in
+    record {
+      states = begun v c.in_ok-states.states c.law.ensures mark (ap (λ (w : View). w.floor) opened) s.mark s.lawful s.saved s.since s.fit;
+      indexed = subst (λ (m : ℕ). IsIndexed v m (places_at c.in_ok-agenda.agenda.times)) (sym first) c.in_ok-agenda.ensures;
+      noted = subst (IsNoted v) (sym c.new-journal.ensures) (IsNoted-new v c.law.ensures mark);
+      flat = c.in_ok-fan.ensures.flat;
+      woken = subst (λ (p : Portion). AreWoken p (length p.nets) (fan_of c.in_ok-fan.fan)) c.part.ensures c.in_ok-fan.ensures.woken;
+    }
 
 pub returns-clause-sends : goal.returns-clause-sends
 returns-clause-sends c =

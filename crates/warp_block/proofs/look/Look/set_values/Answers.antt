@@ -1,16 +1,19 @@
-use Rattle.std.proofs.Common.{◌≡◌, ◌+◌, ◌<◌, ◌≤◌, suc, List, map, length, get_or, refl, ap, sym, ◌∙◌, subst, arith}
-use Rattle.std.proofs.lemmas.List.{length-map, get_or-map}
-use Rattle.gate_values.specs.declared.logic.Logic.{Logic}
-use Rattle.gate_values.specs.declared.logic.Logic.TheVariants.{X}
-use Rattle.warp_block.specs.Portion.{Portion}
-use Rattle.warp_block.specs.View.{Saved, moment_before}
+use Rattle.std.proofs.Common.{◌≡◌, ◌+◌, ◌<◌, ◌≤◌, ℕ, true, Option, None, All, List, map, length, refl, ap, sym, ◌∙◌, subst, arith}
+use Rattle.std.proofs.lemmas.List.{length-map}
+use Rattle.warp_block.specs.View.{IsLeast, moment_before}
 use Rattle.warp_block.specs.Inner.StateLists.{now_of}
-use Rattle.warp_block.proofs.Coasting.{IsSetAt, none_set, set_next, all_set}
+use Rattle.warp_block.specs.Inner.Placed.{IsSetAt, IsAmong, IsListed}
+use Rattle.warp_block.specs.Inner.Agenda.{places_at, is_listed}
+use Rattle.warp_block.proofs.Listing.{below_from_has, listed_from}
+use Rattle.warp_block.proofs.Listed.{none_listed, listed_more, all_listed}
 use Rattle.warp_block.proofs.look.Look.set_values.Goals as goal
 
-pub loop-slot-init : goal.loop-slot-init
-loop-slot-init c = record {
-  set = none_set (now_of c.args.states.now).values (map (moment_before c.args.self.now (c.args.time + 1)).value c.args.self.now.part.nets);
+pub loop-listed-init : goal.loop-listed-init
+loop-listed-init c = record {
+  set = subst (λ (m : ℕ). IsSetAt (IsListed (places_at c.args.agenda.now.times) (now_of c.args.states.now).mark m) (now_of c.args.states.now).values (map (moment_before c.args.self.now (c.args.time + 1)).value c.args.self.now.part.nets) (now_of c.args.states.now).values)
+      (sym c.mark-from.ensures) (none_listed (places_at c.args.agenda.now.times) (now_of c.args.states.now).mark (now_of c.args.states.now).values (map (moment_before c.args.self.now (c.args.time + 1)).value c.args.self.now.part.nets));
+  start = omega (arith, c.mark-from.ensures);
+  end = omega (arith, c.mark-from.ensures, c.requires.from);
   contents = refl;
   mark = refl;
   since = refl;
@@ -18,36 +21,51 @@ loop-slot-init c = record {
   fit = c.requires.fit;
 }
 
-pub set_value-requires-clause-place : goal.set_value-requires-clause-place
-set_value-requires-clause-place c =
-    let nets = c.len-slot-end.ensures.count ∙ ap (λ (p : Portion). length p.nets) c.part.ensures in
-    omega (arith, nets, c.loop-slot-test.true, c.requires.values, c.loop-slot.invariant.set.same)
+pub set_listed-requires-clause-values : goal.set_listed-requires-clause-values
+set_listed-requires-clause-values c =
+    c.loop-listed.invariant.set.same ∙ (ap length c.requires.values ∙ length-map c.args.self.now.part.nets (moment_before c.args.self.now (now_of c.args.states.now).mark).value)
 
-pub loop-slot-preserved : goal.loop-slot-preserved
-loop-slot-preserved c =
+pub set_listed-requires-clause-places : goal.set_listed-requires-clause-places
+set_listed-requires-clause-places c =
+    let n = length c.args.self.now.part.nets in
+    subst (λ (ps : List ℕ). All (λ p. p < n) ps) (sym c.at.ensures) (below_from_has (places_at c.args.agenda.now.times c.in-Some.listed) n (λ i h. c.requires.indexed.within c.in-Some.listed i h))
+
+pub set_listed-requires-clause-quiet : goal.set_listed-requires-clause-quiet
+set_listed-requires-clause-quiet c = λ t from below. c.requires.quiet t (omega (arith, from, c.requires.before)) below
+
+pub loop-listed-preserved : goal.loop-listed-preserved
+loop-listed-preserved c =
     let v = c.args.self.now in
-    let i = c.loop-slot.slot in
-    let nets = c.len-slot-end.ensures.count ∙ ap (λ (p : Portion). length p.nets) c.part.ensures in
-    let h : i < length v.part.nets = omega (arith, nets, c.loop-slot-test.true) in
+    let places = places_at c.args.agenda.now.times in
+    let m = (now_of c.args.states.now).mark in
     let f = (moment_before v (c.args.time + 1)).value in
-    let old = (now_of c.args.states.now).values in
-    let e = c.in_ok-set_value.ensures.now in
-    let is : c.value-value.result ≡ get_or (map f v.part.nets) i X =
-    c.value-value.ensures ∙ (ap (λ t. (moment_before v t).value (get_or v.part.nets c.loop-slot.slot 0)) (let k : suc c.args.time ≡ c.args.time + 1 = omega arith in k) ∙ sym (get_or-map f v.part.nets c.loop-slot.slot 0 X h)) in
+    let least = c.in-Some.ensures in
+    let on = least.0.0 in
+    let second = subst (λ (ps : List ℕ). IsSetAt (IsAmong ps (length ps)) (now_of c.loop-listed.states).values (map f v.part.nets) (now_of c.set_listed.new.states).values) c.at.ensures c.in_ok-set_listed.ensures.values in
     record {
-      set = subst (IsSetAt (λ k. k < i + 1) old (map f v.part.nets)) (sym (ap (λ (s : Saved). s.values) e))
-          (set_next old (map f v.part.nets) (now_of c.loop-slot.states).values i c.value-value.result c.loop-slot.invariant.set (omega (arith, h, c.requires.values)) is);
-      contents = ap (λ (s : Saved). s.contents) e ∙ c.loop-slot.invariant.contents;
-      mark = ap (λ (s : Saved). s.mark) e ∙ c.loop-slot.invariant.mark;
-      since = c.set_value.ensures.since ∙ c.loop-slot.invariant.since;
-      saved = c.set_value.ensures.saved ∙ c.loop-slot.invariant.saved;
-      fit = c.set_value.ensures.within;
+      set = listed_more places m c.loop-listed.from c.in-Some.listed (now_of c.args.states.now).values (map f v.part.nets) (now_of c.loop-listed.states).values (now_of c.set_listed.new.states).values
+          c.loop-listed.invariant.set second c.loop-listed.invariant.start on
+          (λ u i a b h. (let not_less = least.1 u (a, listed_from c.args.agenda.now.times u i h) in omega (arith, not_less, b)));
+      start = omega (arith, on, c.loop-listed.invariant.start);
+      end = omega (arith, c.if-listed-time.false);
+      contents = c.set_listed.ensures.contents ∙ c.loop-listed.invariant.contents;
+      mark = c.set_listed.ensures.mark ∙ c.loop-listed.invariant.mark;
+      since = c.set_listed.ensures.since ∙ c.loop-listed.invariant.since;
+      saved = c.set_listed.ensures.saved ∙ c.loop-listed.invariant.saved;
+      fit = c.set_listed.ensures.fit;
     }
 
-pub returns-clause-values : goal.returns-clause-values
-returns-clause-values c =
-    let v = c.args.self.now in
-    let nets = c.len-slot-end.ensures.count ∙ ap (λ (p : Portion). length p.nets) c.part.ensures in
-    let f = (moment_before v (c.args.time + 1)).value in
-    all_set (now_of c.args.states.now).values (map f v.part.nets) (now_of c.loop-slot.states).values c.loop-slot.slot c.loop-slot.invariant.set
-    (omega (arith, nets, c.loop-slot-test.false, c.requires.values)) (length-map v.part.nets f ∙ sym c.requires.values)
+pub returns-in_default-clause-values : goal.returns-in_default-clause-values
+returns-in_default-clause-values c =
+    let places = places_at c.args.agenda.now.times in
+    let P : ℕ → Type 0 = λ t. (c.loop-listed.from ≤ t) × (is_listed c.args.agenda.now.times t ≡ true) in
+    let none : IsLeast P None = subst (λ (r : Option ℕ). IsLeast P r) c.in_default.is c.next.ensures in
+    all_listed c.args.self.now c.law.ensures (now_of c.args.states.now).mark c.args.time c.loop-listed.from (now_of c.args.states.now).values (now_of c.loop-listed.states).values c.requires.values c.requires.before c.requires.from c.requires.until c.requires.quiet
+    places c.requires.indexed c.loop-listed.invariant.set (λ t i a b h. none t (a, listed_from c.args.agenda.now.times t i h))
+
+pub returns-then-listed-time-clause-values : goal.returns-then-listed-time-clause-values
+returns-then-listed-time-clause-values c =
+    let places = places_at c.args.agenda.now.times in
+    let least = c.in-Some.ensures in
+    all_listed c.args.self.now c.law.ensures (now_of c.args.states.now).mark c.args.time c.loop-listed.from (now_of c.args.states.now).values (now_of c.loop-listed.states).values c.requires.values c.requires.before c.requires.from c.requires.until c.requires.quiet
+    places c.requires.indexed c.loop-listed.invariant.set (λ t i a b h. (let not_less = least.1 t (a, listed_from c.args.agenda.now.times t i h) in omega (arith, not_less, b, c.if-listed-time.true)))

@@ -1,12 +1,10 @@
-use Rattle.std.proofs.Common.{◌≡◌, ℕ, zero, suc, ◌-◌, ◌<◌, ◌≤◌, ◌++◌, ◌∷◌, [], List, length, drop, take, get_or, refl, ap, sym, ◌∙◌, subst, arith, All}
-use Rattle.std.specs.List.Sorted.{IsNonDecreasingBy, IsPartitionPoint}
-use Rattle.std.proofs.lemmas.List.{length-map, length-take, length-take-le, get_or-take, get_or_default}
+use Rattle.std.proofs.Common.{◌≡◌, ℕ, ◌-◌, ◌≤◌, List, length, drop, take, get_or, ap, sym, ◌∙◌, subst, arith}
+use Rattle.std.proofs.lemmas.List.{length-map, length-take-le, get_or-take}
 use Rattle.std.proofs.lemmas.List.Elements.{All-take}
-use Rattle.warp_block.specs.declared.states.Old.{Old}
 use Rattle.warp_block.specs.declared.states.Place.{Place}
 use Rattle.warp_block.specs.View.{Saved}
 use Rattle.warp_block.specs.Inner.States.{back, state_at, states_at}
-use Rattle.warp_block.specs.Inner.StateLists.{now_of, saved_by, IsOld}
+use Rattle.warp_block.specs.Inner.StateLists.{now_of, IsOld}
 use Rattle.warp_block.specs.Inner.Present.{unsaved, newest_of}
 use Rattle.warp_block.proofs.Newest.{newest_take}
 use Rattle.warp_block.proofs.Undoing.{rolled_back, rolled_now, rolled_within, rolled_rising, state_point, places_rise, first_kept, ends}

@@ -1,0 +1,13 @@
+-- What contracts see of the lists of who looks at each place.
+use Rattle.std.specs.Prelude.{ℕ, ◌+◌, ◌≤◌, List, map, length}
+use Rattle.std.specs.List.{All}
+use Rattle.warp_block.specs.declared.cell.Span.{Span}
+use Rattle.warp_block.specs.declared.part.fan.Fan.{Fan}
+use Rattle.warp_block.specs.Inner.HeldPart.{stretch}
+
+abbrev pub fan_of : Fan → List (List ℕ)
+fan_of fan = map (stretch fan.places.items) fan.spans.items
+
+-- each list is a stretch that there is
+abbrev pub IsFlat : Fan → Type 0
+IsFlat fan = All (λ (span : Span). span.start + span.count ≤ length fan.places.items) fan.spans.items

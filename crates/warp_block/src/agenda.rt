@@ -1,0 +1,95 @@
+//! Which places have news or entries at which times.
+ghost use Rattle.std.specs.Prelude.{◌≡◌, ◌≤◌, ◌<◌, ◌++◌, ◌==◌, ℕ, [], ◌∷◌, IsTrue, if◌then◌else◌, OnOk, OnErr};
+ghost use Rattle.std.specs.List.Sorted.{IsStrictlyIncreasing};
+ghost use Rattle.warp_block.specs.View.{IsLeast};
+ghost use Rattle.warp_block.specs.Inner.Agenda.{places_at, is_listed};
+ghost use Rattle.warp_block.specs.Inner.Building.{has};
+
+use std::alloc::{AllocError, Global};
+use std::collections::BTreeMap;
+
+/// An index of event times: for each time the places that may have news or an entry at it.
+#[derive(Debug, Drop)]
+pub(crate) struct Agenda {
+    alloc: Global,
+    times: BTreeMap<u64, Vec<u32>>,
+}
+
+impl Agenda {
+    /// No place has news.
+    pub(crate) fn new(alloc: Global) -> Agenda
+        ensures { (t : ℕ) → places_at result.times t ≡ [] }
+    {
+        Agenda {
+            alloc,
+            times: BTreeMap::new(alloc),
+        }
+    }
+
+    /// The places that are listed at a time.
+    pub(crate) fn at(&self, time: u64) -> &[u32]
+        ensures { result.now ≡ places_at self.now.times time }
+    {
+        match self.times.get(&time) {
+            Some(places) => places.as_slice(),
+            None => &[],
+        }
+    }
+
+    /// The least time from a time on at which a list stands.
+    pub(crate) fn next(&self, from: u64) -> Option<u64>
+        ensures { IsLeast (λ t. (from ≤ t) × IsTrue (is_listed self.now.times t)) result }
+    {
+        match self.times.range(from..).next() {
+            Some((time, _)) => Some(*time),
+            None => None,
+        }
+    }
+
+    /// A place may have news at a time. After an error nothing has changed.
+    pub(crate) fn put(&mut self, time: u64, place: u32) -> Result<(), AllocError>
+        ensures ok { OnOk result ((t : ℕ) → places_at self.new.times t ≡ (if t == time then places_at self.old.times t ++ place ∷ [] else places_at self.old.times t)) }
+        ensures err { OnErr result ((t : ℕ) → places_at self.new.times t ≡ places_at self.old.times t) }
+    {
+        if let Some(places) = self.times.get_mut(&time) {
+            places.push(place)?;
+            return Ok(());
+        }
+        let mut places = Vec::with_capacity(self.alloc, 1)?;
+        places.push_reserved(place);
+        self.times.insert(time, places)?;
+        Ok(())
+    }
+
+    /// Puts the places of a time into ascending order, each once.
+    pub(crate) fn settle(&mut self, time: u64)
+        ensures rising { IsStrictlyIncreasing (places_at self.new.times time) }
+        ensures same { (t i : ℕ) → has (places_at self.new.times t) i ≡ has (places_at self.old.times t) i }
+    {
+        if let Some(places) = self.times.get_mut(&time) {
+            settle(places);
+        }
+    }
+
+    /// Forgets the times below one.
+    pub(crate) fn forget_below(&mut self, time: u64)
+        ensures kept { (t : ℕ) → time ≤ t → places_at self.new.times t ≡ places_at self.old.times t }
+        ensures gone { (t : ℕ) → t < time → places_at self.new.times t ≡ [] }
+    {
+        while let Some((first, _)) = self.times.first_key_value() {
+            if *first >= time {
+                return;
+            }
+            self.times.pop_first();
+        }
+    }
+}
+
+/// Puts some places into ascending order, each once.
+pub(crate) fn settle(places: &mut Vec<u32>)
+    ensures rising { IsStrictlyIncreasing places.new.items }
+    ensures same { (i : ℕ) → has places.new.items i ≡ has places.old.items i }
+{
+    places.sort_unstable();
+    places.dedup();
+}

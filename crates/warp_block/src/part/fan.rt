@@ -1,0 +1,90 @@
+ghost use Rattle.std.specs.Prelude.{◌≡◌, ◌<◌, ◌+◌, ℕ, [], IsTrue, IfOk, OnOk, length, map, get_or, slice_index};
+ghost use Rattle.std.specs.List.{All};
+ghost use Rattle.std.specs.List.Sorted.{IsStrictlyIncreasing};
+ghost use Rattle.warp_block.specs.Inner.Building.{has, lists_of};
+ghost use Rattle.warp_block.specs.Inner.Fan.{fan_of, IsFlat};
+ghost use Rattle.warp_block.specs.Inner.Step.{source_at};
+ghost use Rattle.warp_block.specs.Inner.Woken.{wakes, AreAdded, AreWoken};
+
+use super::Part;
+use super::readers::{empty_lists, flattened};
+use crate::agenda::settle;
+use crate::cell::{Cell, Span};
+use std::alloc::{AllocError, Global};
+use std::slice;
+
+/// For each place of a part the places whose gates look at it, and those of the flip-flops whose clock it is.
+#[derive(Debug, Drop)]
+pub(crate) struct Fan {
+    spans: Vec<Span>,
+    places: Vec<u32>,
+}
+
+impl Part {
+    /// The places whose news can change what the place puts out: a flip-flop's data can not.
+    fn wakes(&self, slot: usize) -> &[u32]
+        requires { slot < length self.now.nets }
+        ensures nets { map (slice_index self.now.nets) result.now ≡ wakes (source_at self.now slot) }
+        ensures places { All (λ place. place < length self.now.nets) result.now }
+    {
+        match &self.cells[slot] {
+            Cell::Input | Cell::Foreign => &[],
+            Cell::Gate { pins, .. } => &self.pins[pins.start..pins.start + pins.count],
+            Cell::Flop { clock, .. } => slice::from_ref(clock),
+        }
+    }
+}
+
+impl Fan {
+    /// That of a part.
+    pub(crate) fn of(alloc: Global, part: &Part) -> Result<Fan, AllocError>
+        ensures flat { IfOk result IsFlat }
+        ensures woken { IfOk result (λ fan. AreWoken part.now (length part.now.nets) (fan_of fan)) }
+    {
+        part.law();
+        let mut lists = empty_lists(alloc, part.len())?;
+        for slot in 0..part.len() {
+            add_all(part.wakes(slot), slot as u32, &mut lists)?;
+        }
+        let mut places = Vec::new(alloc);
+        let spans = flattened(alloc, &lists, &mut places)?;
+        Ok(Fan { spans, places })
+    }
+
+    /// The places that look at a place.
+    pub(crate) fn at(&self, place: usize) -> &[u32]
+        requires flat { IsFlat self.now }
+        requires place { place < length self.now.spans.items }
+        ensures { result.now ≡ get_or (fan_of self.now) place [] }
+    {
+        let span = self.spans[place];
+        &self.places[span.start..span.start + span.count]
+    }
+
+    /// The places whose output news at some places can change, each once, in ascending order, in place of what was there.
+    pub(crate) fn woken(&self, news: &[u32], gates: &mut Vec<u32>) -> Result<(), AllocError>
+        requires flat { IsFlat self.now }
+        requires news { All (λ place. place < length (fan_of self.now)) news.now }
+        ensures rising { OnOk result (IsStrictlyIncreasing gates.new.items) }
+        ensures woken { OnOk result ((i g : ℕ) → IsTrue (has news.now i) → IsTrue (has (get_or (fan_of self.now) i []) g) → IsTrue (has gates.new.items g)) }
+        ensures within { OnOk result ((g : ℕ) → IsTrue (has gates.new.items g) → (i : ℕ) × (i < length (fan_of self.now)) × IsTrue (has (get_or (fan_of self.now) i []) g)) }
+    {
+        gates.clear();
+        for place in news {
+            gates.extend_from_slice(self.at(*place as usize))?;
+        }
+        settle(gates);
+        Ok(())
+    }
+}
+
+/// Adds a place to the lists of some others.
+fn add_all(places: &[u32], added: u32, lists: &mut Vec<Vec<u32>>) -> Result<(), AllocError>
+    requires { All (λ place. place < length lists.old.items) places.now }
+    ensures { OnOk result (AreAdded places.now added (lists_of lists.old.items) (lists_of lists.new.items)) }
+{
+    for place in places {
+        lists[*place as usize].push(added)?;
+    }
+    Ok(())
+}
