@@ -1,14 +1,15 @@
 //! The program: gate-level simulation from a command line to a value change dump.
 //!
 //! It hands the words of its command line, the files and the three standard streams to [`program`], which
-//! says the status with which the process ends. All that is answered stands in `warp_text`.
+//! says the status with which the process ends. All that is answered stands in `warp_command`.
 #![tactic(auto)]
 
 use std::alloc::Global;
 use std::env;
 use std::io::ErrorKind;
 use std::process::ExitCode;
-use warp_text::{Failure, Fault, Outside, program, show};
+use warp_command::{Failure, Outside, program, show};
+use warp_text::Fault;
 
 /// The words of the command line, the program's own name first.
 fn words_of(rt: &HostRuntime) -> Result<Vec<String>, Failure<'static>> {

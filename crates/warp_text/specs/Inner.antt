@@ -1,5 +1,4 @@
 -- What only the proofs of this crate need: no contract of a public call speaks of it.
 pub mod Answer
 pub mod FaultLines
-pub mod Line
 pub mod Replay

@@ -1,13 +1,7 @@
 pub mod Options
 pub mod FaultLines
-pub mod Failures
-pub mod Joined
 pub mod Answer
 pub mod Replay
 pub mod CountLines
 pub mod NetLines
-pub mod Replies
-pub mod Outside
-pub mod Deliveries
-pub mod Endings
 pub mod Inner

@@ -1,0 +1,133 @@
+-- What a request is answered, over the texts in the order in which they are fetched.
+use Rattle.std.specs.Prelude.{◌≡◌, ℕ, List, [], Option, None, Some, Result, Ok, Err, Vec, codes, string_bytes, IsOkAnd}
+use Rattle.std.specs.Borrow.{Bor}
+use Rattle.std.specs.declared.alloc.Global.{Global}
+use Rattle.warp_text.specs.Answer.{IsAnswer, IsCounted, IsListed}
+use Rattle.warp_text.specs.Replay.{IsReplay}
+use Rattle.warp_text.specs.CountLines.{count_lines}
+use Rattle.warp_command.specs.Joined.{lines, before_parting, after_parting}
+use Rattle.gate_netlist.specs.declared.counts.Counts.{Counts}
+use Rattle.warp_command.specs.declared.failure.Failure.{Failure}
+use Rattle.warp_command.specs.declared.failure.Failure.TheVariants as failures
+use Rattle.warp_text.specs.declared.fault.Fault.TheVariants as faults
+use Rattle.warp_command.specs.declared.request.Request.{Request}
+use Rattle.warp_command.specs.declared.request.Request.TheVariants as requests
+use Rattle.warp_command.specs.declared.request.Run.{Run}
+use Rattle.warp_command.specs.declared.request.Replay.{Replay}
+use Rattle.warp_command.specs.declared.request.Check.{Check}
+use Rattle.warp_command.specs.declared.request.Listing.{Listing}
+use Rattle.warp_command.specs.declared.request.Sources.{Sources}
+use Rattle.warp_command.specs.declared.request.Sources.TheVariants as sources
+use Rattle.warp_command.specs.declared.texts.FetchFault.{FetchFault}
+use Rattle.warp_command.specs.declared.texts.FetchFault.TheVariants as fetches
+
+-- a text, or why there is none
+abbrev pub Reply : Type 0
+Reply = Result (Vec ℕ Global) Failure
+
+-- what a fetch of a name may answer, and what it leaves
+abbrev pub Gives : Type 0 → Type 1
+Gives T = T → List ℕ → Result (Vec ℕ Global) FetchFault → T → Type 0
+
+-- something is done with the texts' source, which answers and is left in a state
+abbrev pub Step : Type 0 → Type 1
+Step T = T → Reply → T → Type 0
+
+abbrev pub Continues : {T : Type 0} → (Vec ℕ Global → Step T) → Reply → T → Reply → T → Type 0
+Continues next (Ok text) middle result new = next text middle result new
+Continues next (Err failure) middle result new = (result ≡ Err failure) × (new ≡ middle)
+
+-- a text is had, and the next step is done with it; where there is none, that is the answer
+pub record Then {T : Type 0} (first : Step T) (next : Vec ℕ Global → Step T) (old : T) (result : Reply) (new : T) : Type 0 where
+  pub middle : T
+  pub text : Reply
+  pub had : first old text middle
+  pub continued : Continues next text middle result new
+
+-- the answer needs no text
+abbrev pub Ends : {T : Type 0} → (Reply → Type 0) → Step T
+Ends IsResult old result new = IsResult result × (new ≡ old)
+
+-- the text of a name, which the program can't read or has no memory for where the fetch fails
+abbrev pub Fetches : {T : Type 0} → Gives T → List ℕ → Step T
+Fetches gives name old (Ok text) new = gives old name (Ok text) new
+Fetches gives name old (Err (failures.Unreadable unread)) new = gives old name (Err fetches.Unreadable) new × (unread.now ≡ name)
+Fetches gives name old (Err (failures.Fault fault)) new = gives old name (Err fetches.Memory) new × (fault ≡ faults.Memory)
+Fetches gives name old (Err _) new = ⊥
+
+-- the settings' text, empty where the line names none
+abbrev pub FetchesSettings : {T : Type 0} → Gives T → Option (Bor (List ℕ)) → Step T
+FetchesSettings gives None = Ends (λ result. IsOkAnd result (λ text. text.items ≡ []))
+FetchesSettings gives (Some name) = Fetches gives name.now
+
+abbrev pub IsSimulated : (bench settings stimulus : List ℕ) (until : ℕ) → Reply → Type 0
+IsSimulated bench settings stimulus until (Ok dump) = IsAnswer bench settings stimulus until (Ok dump)
+IsSimulated bench settings stimulus until (Err (failures.Fault fault)) = IsAnswer bench settings stimulus until (Err fault)
+IsSimulated bench settings stimulus until (Err _) = ⊥
+
+-- standard input holds both texts
+abbrev pub RunsJoined : {T : Type 0} → Gives T → List ℕ → ℕ → Step T
+RunsJoined gives settings until =
+    Then (Fetches gives (codes "-")) (λ joined.
+    Ends (IsSimulated (before_parting (lines joined.items)) settings (after_parting (lines joined.items)) until))
+
+-- each text has its name
+abbrev pub RunsApart : {T : Type 0} → Gives T → (bench_name stimulus_name : List ℕ) → List ℕ → ℕ → Step T
+RunsApart gives bench_name stimulus_name settings until =
+    Then (Fetches gives bench_name) (λ bench.
+    Then (Fetches gives stimulus_name) (λ stimulus.
+    Ends (IsSimulated bench.items settings stimulus.items until)))
+
+abbrev pub RunsSources : {T : Type 0} → Gives T → Sources → List ℕ → ℕ → Step T
+RunsSources gives sources.Joined = RunsJoined gives
+RunsSources gives (sources.Apart bench stimulus) = RunsApart gives bench.now stimulus.now
+
+abbrev pub Runs : {T : Type 0} → Gives T → Run → Step T
+Runs gives run = Then (FetchesSettings gives run.settings) (λ settings. RunsSources gives run.sources settings.items run.options.until)
+
+abbrev pub IsReplayed : (bench settings stimulus schedule : List ℕ) → Option ℕ → ℕ → Reply → Type 0
+IsReplayed bench settings stimulus schedule blocks until (Ok dump) = IsReplay bench settings stimulus schedule blocks until (Ok dump)
+IsReplayed bench settings stimulus schedule blocks until (Err (failures.Fault fault)) = IsReplay bench settings stimulus schedule blocks until (Err fault)
+IsReplayed bench settings stimulus schedule blocks until (Err _) = ⊥
+
+-- a schedule is played
+abbrev pub Replays : {T : Type 0} → Gives T → Replay → Step T
+Replays gives replay =
+    Then (FetchesSettings gives replay.settings) (λ settings.
+    Then (Fetches gives replay.bench.now) (λ bench.
+    Then (Fetches gives replay.stimulus.now) (λ stimulus.
+    Then (Fetches gives replay.schedule.now) (λ schedule.
+    Ends (IsReplayed bench.items settings.items stimulus.items schedule.items replay.options.blocks replay.options.until)))))
+
+-- the counts are printed; want of memory may keep them from it
+abbrev pub IsCountReply : (bench settings : List ℕ) → Reply → Type 0
+IsCountReply bench settings (Ok text) = (counts : Counts) × (IsCounted bench settings (Ok counts) × (text.items ≡ count_lines counts))
+IsCountReply bench settings (Err (failures.Fault faults.Memory)) = Unit {0}
+IsCountReply bench settings (Err (failures.Fault fault)) = IsCounted bench settings (Err fault)
+IsCountReply bench settings (Err _) = ⊥
+
+abbrev pub Checks : {T : Type 0} → Gives T → Check → Step T
+Checks gives check =
+    Then (FetchesSettings gives check.settings) (λ settings.
+    Then (Fetches gives check.bench.now) (λ bench.
+    Ends (IsCountReply bench.items settings.items)))
+
+-- the nets are listed
+abbrev pub IsNetsReply : (bench settings : List ℕ) → Reply → Type 0
+IsNetsReply bench settings (Ok text) = IsListed bench settings (Ok text)
+IsNetsReply bench settings (Err (failures.Fault fault)) = IsListed bench settings (Err fault)
+IsNetsReply bench settings (Err _) = ⊥
+
+abbrev pub Lists : {T : Type 0} → Gives T → Listing → Step T
+Lists gives listing =
+    Then (FetchesSettings gives listing.settings) (λ settings.
+    Then (Fetches gives listing.bench.now) (λ bench.
+    Ends (IsNetsReply bench.items settings.items)))
+
+-- what a request is answered
+abbrev pub Replies : {T : Type 0} → Gives T → Request → Step T
+Replies gives (requests.Help text) = Ends (λ result. IsOkAnd result (λ shown. shown.items ≡ string_bytes text))
+Replies gives (requests.Run run) = Runs gives run
+Replies gives (requests.Replay replay) = Replays gives replay
+Replies gives (requests.Check check) = Checks gives check
+Replies gives (requests.Nets listing) = Lists gives listing

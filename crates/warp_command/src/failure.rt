@@ -1,0 +1,79 @@
+//! Why the program ends without a text on standard output.
+ghost use Rattle.std.specs.Prelude.{◌≡◌, Some};
+ghost use Rattle.warp_command.specs.Failures.{failure_text, failure_status};
+ghost use Rattle.warp_command.specs.declared.failure.Failure.TheVariants as failures;
+ghost use Rattle.warp_text.specs.declared.fault.Fault.TheVariants as faults;
+
+use std::alloc::{AllocError, Global};
+use std::fmt;
+use warp_text::Fault;
+
+/// Why the program ends without a text on standard output.
+#[derive(Debug, Drop)]
+pub enum Failure<'a> {
+    /// The line is refused; the text says why, and ends with a line's end.
+    Line(String),
+    /// A run lacks the name of its stimulus.
+    StimulusExpected,
+    /// A run whose texts are joined names a stimulus.
+    StimulusNotExpected,
+    /// The text of this name can't be read.
+    Unreadable(&'a str),
+    /// A text is refused, or memory ran out.
+    Fault(Fault),
+    /// Standard output doesn't take what is written.
+    Unwritten,
+}
+
+impl<'a> Failure<'a> {
+    /// The failure of a line that the program refuses itself, with a text that says why.
+    pub fn line(alloc: Global, text: &str) -> Failure<'a> {
+        match String::from_str(alloc, text) {
+            Ok(text) => Failure::Line(text),
+            Err(_) => Failure::Fault(Fault::Memory),
+        }
+    }
+
+    /// The program's exit status: 2 for a refused line, 4 for a file or a write, else the fault's.
+    pub fn status(&self) -> u8
+        ensures { result ≡ failure_status self.now }
+    {
+        match self {
+            Failure::Line(_) | Failure::StimulusExpected | Failure::StimulusNotExpected => 2,
+            Failure::Unreadable(_) | Failure::Unwritten => 4,
+            Failure::Fault(fault) => fault.status(),
+        }
+    }
+}
+
+/// The text on standard error, with its line's end.
+impl fmt::Display for Failure<'_> {
+    ghost output = { λ f. Some (failure_text f) };
+
+    fn fmt<W: fmt::Write>(&self, f: &mut fmt::Formatter<W>) -> fmt::Result {
+        match self {
+            Failure::Line(text) => f.write_str(text.as_str()),
+            Failure::StimulusExpected => f.write_str("stimulus expected\n"),
+            Failure::StimulusNotExpected => f.write_str("stimulus not expected\n"),
+            Failure::Unreadable(name) => write!(f, "cannot read {name}\n"),
+            Failure::Fault(fault) => write!(f, "{fault}\n"),
+            Failure::Unwritten => f.write_str("cannot write\n"),
+        }
+    }
+}
+
+impl From<Fault> for Failure<'_> {
+    ghost from_gives = { λ fault failure. failure ≡ failures.Fault fault };
+
+    fn from(fault: Fault) -> Self {
+        Failure::Fault(fault)
+    }
+}
+
+impl From<AllocError> for Failure<'_> {
+    ghost from_gives = { λ _ failure. failure ≡ failures.Fault faults.Memory };
+
+    fn from(_: AllocError) -> Self {
+        Failure::Fault(Fault::Memory)
+    }
+}

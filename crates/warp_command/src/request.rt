@@ -1,0 +1,53 @@
+//! What a command line asks for.
+use warp_text::Options;
+
+/// What the words of a command line ask for.
+#[derive(Debug, Drop)]
+pub enum Request<'a> {
+    /// To be shown this text.
+    Help(String),
+    Run(Run<'a>),
+    Replay(Replay<'a>),
+    Check(Check<'a>),
+    Nets(Listing<'a>),
+}
+
+/// To be shown the dump of a circuit.
+#[derive(Clone, Copy, Debug)]
+pub struct Run<'a> {
+    pub options: Options,
+    pub settings: Option<&'a str>,
+    pub sources: Sources<'a>,
+}
+
+/// Where a run's bench and stimulus stand: both in standard input, or in texts of these names.
+#[derive(Clone, Copy, Debug)]
+pub enum Sources<'a> {
+    Joined,
+    Apart { bench: &'a str, stimulus: &'a str },
+}
+
+/// To be shown the dump of a circuit whose blocks play a schedule. Each of the texts has a name; of the options, workers
+/// and window have no effect.
+#[derive(Clone, Copy, Debug)]
+pub struct Replay<'a> {
+    pub options: Options,
+    pub settings: Option<&'a str>,
+    pub bench: &'a str,
+    pub stimulus: &'a str,
+    pub schedule: &'a str,
+}
+
+/// To be shown how many parts a circuit has.
+#[derive(Clone, Copy, Debug)]
+pub struct Check<'a> {
+    pub settings: Option<&'a str>,
+    pub bench: &'a str,
+}
+
+/// To be shown what each net of a circuit is.
+#[derive(Clone, Copy, Debug)]
+pub struct Listing<'a> {
+    pub settings: Option<&'a str>,
+    pub bench: &'a str,
+}
