@@ -6,7 +6,7 @@ use Rattle.gate_netlist.specs.declared.fault.SettingsFault.TheVariants.{Toml, Un
 use Rattle.gate_netlist.specs.Netlist.{Netlist}
 use Rattle.gate_netlist.specs.Settings.{IsDocument}
 use Rattle.gate_netlist.specs.Causes.{cause_of, has_unknown_key, has_unknown_net, has_bad_delay, has_bad_block, has_bad_clock, has_bad_init}
-use Rattle.gate_netlist.specs.Meaning.{IsAnswer}
+use Rattle.gate_netlist.specs.Meaning.{IsSettled}
 use Rattle.gate_netlist.specs.Refusals.{IsOfDocument}
 
 -- a cause, if any, that some test of a document gives
@@ -29,7 +29,7 @@ cause_of-tested b ms = tested (has_unknown_key ms) (has_unknown_net b ms) (has_b
 pub cause_of-of_document : (b : Netlist) (ms : Members) → IfSome (cause_of b ms) IsOfDocument
 cause_of-of_document b ms = (cause_of-tested b ms).1
 
-pub answer_of_cause : (b : Netlist) (text : List ℕ) (ms : Members) (fault : SettingsFault) → IsDocument text ms → cause_of b ms ≡ Some fault → IsAnswer b text (Err fault)
+pub answer_of_cause : (b : Netlist) (text : List ℕ) (ms : Members) (fault : SettingsFault) → IsDocument text ms → cause_of b ms ≡ Some fault → IsSettled b text (Err fault)
 answer_of_cause b text ms Toml d h = absurd ((cause_of-tested b ms).0 h)
 answer_of_cause b text ms UnknownKey d h = (ms, d, h)
 answer_of_cause b text ms UnknownNet d h = (ms, d, h)

@@ -4,7 +4,7 @@ use Rattle.gate_netlist.specs.declared.fault.BenchCause.{BenchCause}
 use Rattle.gate_netlist.specs.declared.fault.BenchCause.TheVariants.{BadLine, InputCount, DrivenTwice, TooManyNets, Memory}
 use Rattle.gate_netlist.specs.declared.statement.GateWord.{GateWord}
 use Rattle.gate_netlist.specs.declared.statement.GateWord.TheVariants as word
-use Rattle.gate_netlist.specs.Symbols.{Symbol, Open, Close, Equals, Word, code_of, symbols, is_clean}
+use Rattle.gate_netlist.specs.Symbols.{Symbol, Open, Close, Equals, Word, before_comment, symbols, is_clean}
 use Rattle.gate_netlist.specs.Statements.{Name, Statement, says, gate_of, arguments, takes, marked, driven, driven_by, statement_of, meaning_of}
 use Rattle.gate_netlist.specs.Lines.{lines_of}
 use Rattle.gate_netlist.specs.Bench.{◌>>=◌, net_defined, is_among, refusal, unless, stated, at_line, accepted, nets_defined, uses_other, unless_undriven, bench_of}
@@ -53,7 +53,7 @@ statement_of-of_line _ = bad_line
 
 meaning_of-of_line : (line : List ℕ) → IfErr (meaning_of line) IsOfLine
 unfolding meaning_of
-meaning_of-of_line line = if-of_line (is_clean (code_of line)) _ _ (statement_of-of_line (symbols (code_of line))) (λ e. cc)
+meaning_of-of_line line = if-of_line (is_clean (before_comment line)) _ _ (statement_of-of_line (symbols (before_comment line))) (λ e. cc)
 
 -- ---- a line after others
 

@@ -18,7 +18,7 @@ use Rattle.gate_netlist.specs.Faults.{out_of_memory}
 use Rattle.gate_netlist.specs.Inner.Faults.{fault_at}
 use Rattle.gate_netlist.specs.Netlist.{NamesDiffer, Netlist}
 use Rattle.gate_netlist.specs.Inner.Netlist.{IsDefinition, IsNetlist}
-use Rattle.gate_netlist.specs.Symbols.{Symbol, Open, Close, Equals, Word, code_of, symbols, is_clean}
+use Rattle.gate_netlist.specs.Symbols.{Symbol, Open, Close, Equals, Word, before_comment, symbols, is_clean}
 use Rattle.gate_netlist.specs.Statements.{Name, Statement, Nothing, Input, Output, Gate, Flop, says, gate_of, arguments, takes, driven, driven_by, statement_of, meaning_of}
 use Rattle.gate_netlist.specs.Bench.{◌>>=◌, net_defined, is_among, refusal, unless, stated, at_line, accepted, nets_defined, uses_other, number_among, definition_of, output_of, with_last, each_once, netlist_by, unless_undriven, resolved, bench_of}
 use Rattle.gate_netlist.specs.Inner.Passes.{defined_names, linked}
@@ -82,7 +82,7 @@ enough-clean false ss c s e = absurd cc
 
 enough-meaning : (line : List ℕ) (s : Statement) → meaning_of line ≡ Ok s → HasEnough s
 unfolding meaning_of
-enough-meaning line s e = enough-clean (is_clean (code_of line)) (symbols (code_of line)) _ s e
+enough-meaning line s e = enough-clean (is_clean (before_comment line)) (symbols (before_comment line)) _ s e
 
 -- ---- what accepted lines say, one after the other
 

@@ -7,7 +7,7 @@ use Rattle.gate_netlist.specs.declared.fault.BenchCause.{BenchCause}
 use Rattle.gate_netlist.specs.declared.fault.BenchCause.TheVariants.{BadLine, BadName}
 use Rattle.gate_netlist.specs.declared.token.Token.{Token}
 use Rattle.gate_netlist.specs.Inner.Tokens.{symbol_of, symbols_of}
-use Rattle.gate_netlist.specs.Symbols.{Symbol, Open, Close, Comma, Equals, Word, code_of, is_allowed, is_end, symbols}
+use Rattle.gate_netlist.specs.Symbols.{Symbol, Open, Close, Comma, Equals, Word, before_comment, is_allowed, is_end, symbols}
 use Rattle.gate_netlist.specs.Inner.Splits.{word_first, after_open, has_comma, after_equals, closes}
 use Rattle.gate_netlist.specs.Statements.{Name, Statement, Nothing, named, arguments, marked, driven_by, statement_of, meaning_of}
 
@@ -129,9 +129,9 @@ list_any-map p f [] = refl
 list_any-map p f (x ∷ xs) = ap (λ b. p (f x) || b) (list_any-map p f xs)
 
 -- a line of allowed bytes, in these tokens
-pub meaning_at : (line : List ℕ) (ts : List Token) (t : Bool) → true ≡ list_all is_allowed (code_of line) → symbols_of ts ≡ symbols (code_of line) → t ≡ list_any (λ x. is_end (symbol_of x)) ts
+pub meaning_at : (line : List ℕ) (ts : List Token) (t : Bool) → true ≡ list_all is_allowed (before_comment line) → symbols_of ts ≡ symbols (before_comment line) → t ≡ list_any (λ x. is_end (symbol_of x)) ts
     → meaning_of line ≡ cond t (Err BadName) (statement_of (symbols_of ts))
 unfolding meaning_of
 meaning_at line ts t e f g =
-    let ended : list_any is_end (symbols (code_of line)) ≡ t = ap (list_any is_end) (sym f) ∙ list_any-map is_end symbol_of ts ∙ sym g in
-    rw (← e, ended, f) (elim t as (λ b. cond (true && not b) (statement_of (symbols (code_of line))) (Err BadName) ≡ cond b (Err BadName) (statement_of (symbols (code_of line)))) [ true ↦ refl | false ↦ refl ])
+    let ended : list_any is_end (symbols (before_comment line)) ≡ t = ap (list_any is_end) (sym f) ∙ list_any-map is_end symbol_of ts ∙ sym g in
+    rw (← e, ended, f) (elim t as (λ b. cond (true && not b) (statement_of (symbols (before_comment line))) (Err BadName) ≡ cond b (Err BadName) (statement_of (symbols (before_comment line)))) [ true ↦ refl | false ↦ refl ])

@@ -26,8 +26,8 @@ is_flop_line (Flop d) = true
 is_flop_line _ = false
 
 -- the name is that of a net which isn't an input
-abbrev pub is_driven : Netlist → List ℕ → Bool
-is_driven b name = option_map_or (λ n. not (is_input_line (get_or b.definitions n Input))) (net_named b name) false
+abbrev pub is_driven_name : Netlist → List ℕ → Bool
+is_driven_name b name = option_map_or (λ n. not (is_input_line (get_or b.definitions n Input))) (net_named b name) false
 
 -- the name is that of a flip-flop
 abbrev pub is_flop_name : Netlist → List ℕ → Bool
@@ -60,8 +60,8 @@ has_unknown_key ms = any_member is_unknown_top ms || any_member (λ k d. not (is
 -- a key of `net` or `block` that names no net, or names an input, or one of `clocks` or `init` that names no flip-flop
 abbrev pub has_unknown_net : Netlist → Members → Bool
 has_unknown_net b ms =
-    any_member (λ k d. not (is_driven b k)) (table_at (codes "net") ms)
-    || any_member (λ k d. not (is_driven b k)) (table_at (codes "block") ms)
+    any_member (λ k d. not (is_driven_name b k)) (table_at (codes "net") ms)
+    || any_member (λ k d. not (is_driven_name b k)) (table_at (codes "block") ms)
     || any_member (λ k d. not (is_flop_name b k)) (table_at (codes "clocks") ms)
     || any_member (λ k d. not (is_flop_name b k)) (table_at (codes "init") ms)
 

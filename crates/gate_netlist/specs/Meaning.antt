@@ -65,8 +65,8 @@ unfoldable pub circuit_of : Netlist → Members → Design
 circuit_of b ms = clocked_circuit ms (with_clock ms b)
 
 -- what may be answered to a settings text on a bench
-abbrev pub IsAnswer : Netlist → List ℕ → Result Design SettingsFault → Type 0
-IsAnswer b text (Ok d) = (ms : Members) × IsDocument text ms × (cause_of b ms ≡ None) × (d ≡ circuit_of b ms)
-IsAnswer b text (Err Memory) = Unit {0}
-IsAnswer b text (Err Toml) = (ms : Members) → IsDocument text ms → ⊥
-IsAnswer b text (Err e) = (ms : Members) × IsDocument text ms × (cause_of b ms ≡ Some e)
+abbrev pub IsSettled : Netlist → List ℕ → Result Design SettingsFault → Type 0
+IsSettled b text (Ok d) = (ms : Members) × IsDocument text ms × (cause_of b ms ≡ None) × (d ≡ circuit_of b ms)
+IsSettled b text (Err Memory) = Unit {0}
+IsSettled b text (Err Toml) = (ms : Members) → IsDocument text ms → ⊥
+IsSettled b text (Err e) = (ms : Members) × IsDocument text ms × (cause_of b ms ≡ Some e)

@@ -8,7 +8,7 @@ use Rattle.gate_netlist.specs.declared.fault.BenchCause.{BenchCause}
 use Rattle.gate_netlist.specs.declared.fault.BenchCause.TheVariants.{BadLine, BadName, UnknownGate, InputCount}
 use Rattle.gate_netlist.specs.declared.statement.GateWord.{GateWord}
 use Rattle.gate_netlist.specs.declared.statement.GateWord.TheVariants as word
-use Rattle.gate_netlist.specs.Symbols.{Symbol, Open, Close, Comma, Equals, Word, code_of, symbols, is_clean}
+use Rattle.gate_netlist.specs.Symbols.{Symbol, Open, Close, Comma, Equals, Word, before_comment, symbols, is_clean}
 
 abbrev pub Name : Type 0
 Name = List ℕ
@@ -86,4 +86,4 @@ statement_of _ = Err BadLine
 
 -- what a line says; a comment says nothing
 unfoldable pub meaning_of : List ℕ → Result Statement BenchCause
-meaning_of line = if is_clean (code_of line) then statement_of (symbols (code_of line)) else Err BadName
+meaning_of line = if is_clean (before_comment line) then statement_of (symbols (before_comment line)) else Err BadName

@@ -11,8 +11,8 @@ pub data Symbol : Type 0 where
   Word : List ℕ → Symbol
 
 -- a comment goes from the first `#` to the end of the line
-abbrev pub code_of : List ℕ → List ℕ
-code_of line = take_while (λ b. not (b == 35)) line
+abbrev pub before_comment : List ℕ → List ℕ
+before_comment line = take_while (λ b. not (b == 35)) line
 
 -- the marks `(`, `)`, `,` and `=`
 abbrev pub mark_of : ℕ → Option Symbol

@@ -2,7 +2,7 @@ ghost use Rattle.std.specs.Prelude.{◌≡◌, ◌<◌, ◌≤◌, length, optio
 ghost use Rattle.gate_netlist.specs.Circuit.{nets_of, driver_of, name_of, net_of, delay_of, readers_of, is_input, is_gate, is_flop, IsCircuit};
 ghost use Rattle.gate_netlist.specs.Counts.{counts_of};
 ghost use Rattle.gate_netlist.specs.Even.{driven_count};
-ghost use Rattle.gate_netlist.specs.Meaning.{IsAnswer};
+ghost use Rattle.gate_netlist.specs.Meaning.{IsSettled};
 
 mod build;
 mod readers;
@@ -50,7 +50,7 @@ impl Circuit {
     ///
     /// The bench is consumed, also where the text is refused. Memory is answered wherever a growth is refused.
     pub fn of(alloc: Global, bench: Bench, settings: &[u8]) -> Result<Circuit, SettingsFault>
-        ensures { IsAnswer bench settings.now result }
+        ensures { IsSettled bench settings.now result }
     {
         let table = match settings::document(alloc, settings) {
             Ok(table) => table,

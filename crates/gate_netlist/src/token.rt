@@ -1,6 +1,6 @@
 ghost use Rattle.std.specs.Prelude.{◌≡◌, ◌==◌, ◌<◌, ◌∷◌, ◌++◌, not, length, option_map, option_to_list, OnOk, true};
 ghost use Rattle.std.specs.List.{list_all, list_any, prefix_len};
-ghost use Rattle.gate_netlist.specs.Symbols.{Word, code_of, mark_of, is_letter, begins_with_letter, is_allowed, is_end, symbols};
+ghost use Rattle.gate_netlist.specs.Symbols.{Word, before_comment, mark_of, is_letter, begins_with_letter, is_allowed, is_end, symbols};
 ghost use Rattle.gate_netlist.specs.Inner.Splits.{word_first, after_open, has_comma, after_equals, closes};
 ghost use Rattle.gate_netlist.specs.Inner.Tokens.{symbol_of, symbols_of};
 
@@ -18,7 +18,7 @@ pub(crate) enum Token<'a> {
 
 /// What stands before the comment of a line.
 pub(crate) fn code_of(line: &[u8]) -> &[u8]
-    ensures { result.now ≡ code_of line.now }
+    ensures { result.now ≡ before_comment line.now }
 {
     &line[..code_len(line)]
 }

@@ -6,7 +6,7 @@ use Rattle.gate_values.specs.declared.logic.Logic.TheVariants.{X}
 use Rattle.gate_values.specs.declared.gate.Kind.{Kind}
 use Rattle.gate_values.specs.declared.gate.Kind.TheVariants.{And, Nand, Or, Nor, Xor, Xnor, Not, Buff}
 use Rattle.gate_values.specs.Tables.{table_of, HasInputs, is_zero, is_one}
-use Rattle.gate_values.specs.Behaviour.{Source, Outside, Gate, Flop, initial_of, beginning, output, value, delay_of, history, IsWellFormed}
+use Rattle.gate_values.specs.Behaviour.{Source, Outside, Gate, Flop, initial_of, beginning, output, value, source_delay, history, IsWellFormed}
 use Rattle.gate_values.proofs.Behaving.{value_is}
 
 all_x : List ℕ → List Logic
@@ -45,9 +45,9 @@ output-beginning source n Outside e w = refl
 output-beginning source n (Gate kind delay inputs) e w = table_of-unknown kind inputs w.1
 output-beginning source n (Flop delay d c i) e w = rw e refl
 
-pub initial_before : (source : ℕ → Source) (given : ℕ → ℕ → Logic) (n t : ℕ) → IsWellFormed (source n) → t < delay_of (source n) → value source given n t ≡ initial_of (source n)
+pub initial_before : (source : ℕ → Source) (given : ℕ → ℕ → Logic) (n t : ℕ) → IsWellFormed (source n) → t < source_delay (source n) → value source given n t ≡ initial_of (source n)
 unfolding history
 initial_before source given n t w h =
-    let positive : 0 < delay_of (source n) = omega arith in
-    let start : suc t - delay_of (source n) ≡ 0 = omega arith in
+    let positive : 0 < source_delay (source n) = omega arith in
+    let start : suc t - source_delay (source n) ≡ 0 = omega arith in
     value_is source given n t (source n) refl positive ∙ rw start (output-beginning source n (source n) refl w)

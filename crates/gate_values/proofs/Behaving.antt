@@ -5,7 +5,7 @@ use Rattle.gate_values.specs.declared.logic.Logic.{Logic}
 use Rattle.gate_values.specs.declared.logic.Logic.TheVariants.{Zero, One, X, Z}
 use Rattle.gate_values.proofs.Induction.{strong}
 use Rattle.gate_values.specs.Tables.{table_of, flip_of}
-use Rattle.gate_values.specs.Behaviour.{Source, Outside, Gate, Flop, Moment, initial_of, beginning, back, output, delay_of, history, before, value, content}
+use Rattle.gate_values.specs.Behaviour.{Source, Outside, Gate, Flop, Moment, initial_of, beginning, back, output, source_delay, history, before, value, content}
 use Rattle.gate_values.specs.Inner.Behaviour.{IsOver}
 
 module _ (source : ℕ → Source) (given : ℕ → ℕ → Logic) where
@@ -17,7 +17,7 @@ module _ (source : ℕ → Source) (given : ℕ → ℕ → Logic) where
   back-history (suc t) (suc k) = back-history t k ∙ ap (before source given) (let e : t - k ≡ suc t - suc k = omega arith in e)
 
   -- the value is the source's output one delay ago
-  pub value_is : (n t : ℕ) (s : Source) → source n ≡ s → 0 < delay_of s → value source given n t ≡ output s (before source given (suc t - delay_of s)) n
+  pub value_is : (n t : ℕ) (s : Source) → source n ≡ s → 0 < source_delay s → value source given n t ≡ output s (before source given (suc t - source_delay s)) n
   unfolding history
   value_is n t Outside e h = absurd (omega arith)
   value_is n t (Gate kind zero inputs) e h = absurd (omega arith)
@@ -57,21 +57,21 @@ module _ (s1 s2 : ℕ → Source) (g1 g2 : ℕ → ℕ → Logic) (Own Shared : 
   same_output m n (Gate kind delay inputs) a o own h = ap (table_of kind) (map_agree _ _ (λ i. Own i ⊎ Shared i) inputs (λ i p. a.values i p h) o.1)
   same_output m n (Flop delay d c i) a o own h = a.contents n own h
 
-  delayed : (s : Source) (N : ℕ → Type 0) → IsOver N s → 0 < delay_of s
+  delayed : (s : Source) (N : ℕ → Type 0) → IsOver N s → 0 < source_delay s
   delayed Outside N o = absurd o
   delayed (Gate kind delay inputs) N o = o.0
   delayed (Flop delay d c i) N o = o.0
 
-  own_values : (n t : ℕ) → Own n → Agree (suc t - delay_of (s1 n)) → suc t - delay_of (s1 n) ≤ u → value s1 g1 n t ≡ value s2 g2 n t
+  own_values : (n t : ℕ) → Own n → Agree (suc t - source_delay (s1 n)) → suc t - source_delay (s1 n) ≤ u → value s1 g1 n t ≡ value s2 g2 n t
   own_values n t own a h =
       let o = j.over n own in
-      let d : 0 < delay_of (s1 n) = delayed (s1 n) _ o in
+      let d : 0 < source_delay (s1 n) = delayed (s1 n) _ o in
       value_is s1 g1 n t (s1 n) refl d ∙ same_output _ n (s1 n) a o own h ∙ sym (value_is s2 g2 n t (s1 n) (sym (j.same_source n own)) d)
 
   step_values : (t i : ℕ) → ((k : ℕ) → k < suc t → Agree k) → Own i ⊎ Shared i → suc t ≤ u → value s1 g1 i t ≡ value s2 g2 i t
   step_values t i ih (inl own) h =
-      let d : 0 < delay_of (s1 i) = delayed (s1 i) _ (j.over i own) in
-      own_values i t own (ih (suc t - delay_of (s1 i)) (omega arith)) (omega arith)
+      let d : 0 < source_delay (s1 i) = delayed (s1 i) _ (j.over i own) in
+      own_values i t own (ih (suc t - source_delay (s1 i)) (omega arith)) (omega arith)
   step_values t i ih (inr shared) h = j.agree i t shared (omega arith)
 
   content_step : (t n : ℕ) (s : Source) → s1 n ≡ s → ((k : ℕ) → k < suc t → Agree k) → IsOver (λ i. Own i ⊎ Shared i) s → Own n → suc t ≤ u →
@@ -102,8 +102,8 @@ module _ (s1 s2 : ℕ → Source) (g1 g2 : ℕ → ℕ → Logic) (Own Shared : 
   same_before m = strong Agree agree_step m
 
   -- and those of a net of Own at the times below u and one delay more
-  pub same_values : (n t : ℕ) → Own n → t < u + delay_of (s1 n) → value s1 g1 n t ≡ value s2 g2 n t
-  same_values n t own h = own_values n t own (same_before (suc t - delay_of (s1 n))) (omega arith)
+  pub same_values : (n t : ℕ) → Own n → t < u + source_delay (s1 n) → value s1 g1 n t ≡ value s2 g2 n t
+  same_values n t own h = own_values n t own (same_before (suc t - source_delay (s1 n))) (omega arith)
 
 flip_quiet : (content v d : Logic) → flip_of content v v d ≡ content
 unfolding flip_of
@@ -121,14 +121,14 @@ module _ (source : ℕ → Source) (given : ℕ → ℕ → Logic) (N : ℕ → 
   quiet_output n (Flop delay d c i) e o =
       content_is source given n s delay d c i e ∙ rw (same c o.2) (flip_quiet ((before source given s).content n) ((before source given s).value c) ((before source given s).value d))
 
-  delayed_by : (k : Source) → IsOver N k → 0 < delay_of k
+  delayed_by : (k : Source) → IsOver N k → 0 < source_delay k
   delayed_by Outside o = absurd o
   delayed_by (Gate kind delay inputs) o = o.0
   delayed_by (Flop delay d c i) o = o.0
 
-  pub quiet_value : (n t : ℕ) → IsOver N (source n) → s + delay_of (source n) ≡ suc t → value source given n (suc t) ≡ value source given n t
+  pub quiet_value : (n t : ℕ) → IsOver N (source n) → s + source_delay (source n) ≡ suc t → value source given n (suc t) ≡ value source given n t
   quiet_value n t o e =
-      let d : 0 < delay_of (source n) = delayed_by (source n) o in
-      let now : suc (suc t) - delay_of (source n) ≡ suc s = omega arith in
-      let then : suc t - delay_of (source n) ≡ s = omega arith in
+      let d : 0 < source_delay (source n) = delayed_by (source n) o in
+      let now : suc (suc t) - source_delay (source n) ≡ suc s = omega arith in
+      let then : suc t - source_delay (source n) ≡ s = omega arith in
       value_is source given n (suc t) (source n) refl d ∙ rw now (quiet_output n (source n) refl o ∙ rw (← then) (sym (value_is source given n t (source n) refl d)))

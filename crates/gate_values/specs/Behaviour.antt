@@ -80,10 +80,10 @@ abbrev pub content : (ℕ → Source) → (ℕ → ℕ → Logic) → ℕ → �
 content source given n t = (before source given (suc t)).content n
 
 -- how long the source takes
-abbrev pub delay_of : Source → ℕ
-delay_of Outside = 0
-delay_of (Gate kind delay inputs) = delay
-delay_of (Flop delay data_net clock initial) = delay
+abbrev pub source_delay : Source → ℕ
+source_delay Outside = 0
+source_delay (Gate kind delay inputs) = delay
+source_delay (Flop delay data_net clock initial) = delay
 
 -- A delay is at least 1, and a gate has as many inputs as its kind takes.
 abbrev pub IsWellFormed : Source → Type 0

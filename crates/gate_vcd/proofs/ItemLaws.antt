@@ -12,7 +12,7 @@ use Rattle.gate_vcd.specs.Tokens.{Token, fault_at}
 use Rattle.gate_vcd.specs.Numbers.{number}
 use Rattle.gate_netlist.specs.Bench.{◌>>=◌}
 use Rattle.gate_vcd.specs.Reading.{Fails}
-use Rattle.gate_vcd.specs.Inner.Reading.{Gives}
+use Rattle.gate_vcd.specs.Inner.Reading.{Reads}
 use Rattle.gate_vcd.specs.Changes.{Item, stamp, change, wrong, Event, events_from, event_at, stamped, last_stamp}
 use Rattle.gate_vcd.specs.Inner.Items.{AreHeld, AreKept, IsTaken, Taken, TakesItem, fault_of}
 use Rattle.gate_vcd.specs.Inner.Known.{knows, source, sources_in}
@@ -47,7 +47,7 @@ bind-more es more (Ok x) = ap (λ ys. Ok ys) (sym (append_assoc es more x))
 bind-more es more (Err e) = refl
 
 -- a stamp
-pub takes-stamp : (known : KnownCodes) (now : ℕ) (t : Token) (others : List Item) (es : List Event) (taken : Taken) (r : Result ℕ StimFault) → Gives (λ n. n) r (stamped t now) → AreHeld (sources_in known) now es taken → TakesItem known now (stamp t) others es taken r
+pub takes-stamp : (known : KnownCodes) (now : ℕ) (t : Token) (others : List Item) (es : List Event) (taken : Taken) (r : Result ℕ StimFault) → Reads (λ n. n) r (stamped t now) → AreHeld (sources_in known) now es taken → TakesItem known now (stamp t) others es taken r
 unfolding events_from
 takes-stamp known now t others es taken (Ok next) g kept =
     let after = stamp_after (number (drop 1 t.text)) now next (fault_at t causes.StampTooLarge) (fault_at t causes.StampFalls) g in (

@@ -54,6 +54,6 @@ pub record Means (d : Design) (r : Reading) (g : Given) : Type 0 where
   pub changes : (n : ℕ) → changes_of g n ≡ changes (signal r n) (last_stamp + 1)
 
 -- what a reader answers to a text for a circuit; want of memory alone is no matter of the text
-abbrev pub IsAnswer : List ℕ → Design → Result Given StimFault → Type 0
-IsAnswer text d (Ok g) = (r : Reading) × (reading_of text d ≡ Ok r) × Means d r g
-IsAnswer text d (Err e) = Fails e (reading_of text d)
+abbrev pub IsReadAs : List ℕ → Design → Result Given StimFault → Type 0
+IsReadAs text d (Ok g) = (r : Reading) × (reading_of text d ≡ Ok r) × Means d r g
+IsReadAs text d (Err e) = Fails e (reading_of text d)

@@ -6,7 +6,7 @@ ghost use Rattle.gate_vcd.specs.Inner.Items.{AreHeld, AreSettled, AreTaken, IsTa
 ghost use Rattle.gate_vcd.specs.Inner.Known.{IsLinked, knows, source, sources_in};
 ghost use Rattle.gate_vcd.specs.Inner.Lists.{lists_in};
 ghost use Rattle.gate_vcd.specs.Reading.{Fails};
-ghost use Rattle.gate_vcd.specs.Inner.Reading.{Gives};
+ghost use Rattle.gate_vcd.specs.Inner.Reading.{Reads};
 ghost use Rattle.gate_vcd.specs.Inner.Words.{bytes_of, texts, token_of};
 
 use crate::digits::{past_end, value_at_place};
@@ -75,7 +75,7 @@ fn settle(list: &mut Vec<Change>, change: Change) -> Result<(), StimFault>
 
 /// The time of a stamp after this time.
 fn next_stamp(now: u64, word: Word) -> Result<u64, StimFault>
-    ensures { Gives (λ next. next) result (stamped (token_of word.entry) now) }
+    ensures { Reads (λ next. next) result (stamped (token_of word.entry) now) }
 {
     match number_up_to(LAST_STAMP, after_first(word.text)) {
         Some(next) if next < now => Err(word.fault(StimCause::StampFalls)),

@@ -5,7 +5,7 @@ ghost use Rattle.gate_vcd.specs.Inner.Commands.{IsBody, has_texts, rest_of_comma
 ghost use Rattle.gate_vcd.specs.Declarations.{Header, timescale_of, keyword_of, opens_command, declared as declared_by, declaring, no_header, ends_declarations};
 ghost use Rattle.gate_vcd.specs.Inner.Headers.{IsHeader, Declares, GoesOn, AreRead, asked_of};
 ghost use Rattle.gate_vcd.specs.Reading.{or_fault};
-ghost use Rattle.gate_vcd.specs.Inner.Reading.{Gives};
+ghost use Rattle.gate_vcd.specs.Inner.Reading.{Reads};
 ghost use Rattle.gate_vcd.specs.Inner.Words.{texts, token_of};
 
 use crate::fault::{StimCause, StimFault};
@@ -31,7 +31,7 @@ fn rest_of_command<'a>(
     words: &mut Words<'a>,
     first: Word<'a>,
 ) -> Result<Vec<&'a [u8]>, StimFault>
-    ensures body { Gives (λ body. (texts body.items, words.new)) result (rest_of_command (token_of first.entry) words.old) }
+    ensures body { Reads (λ body. (texts body.items, words.new)) result (rest_of_command (token_of first.entry) words.old) }
     ensures shorter { length words.new ≤ length words.old }
 {
     let mut body = Vec::new(alloc);
@@ -72,7 +72,7 @@ fn timescale_in<'a>(
     first: Word<'a>,
     body: &[&'a [u8]],
 ) -> Result<Timescale, StimFault>
-    ensures { Gives (λ timescale. timescale) result (or_fault (timescale_of (concat (texts body.now))) (token_of first.entry) causes.BadTimescale) }
+    ensures { Reads (λ timescale. timescale) result (or_fault (timescale_of (concat (texts body.now))) (token_of first.entry) causes.BadTimescale) }
 {
     let text = joined(alloc, body)?;
     match timescale_of(text.as_slice()) {

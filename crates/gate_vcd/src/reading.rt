@@ -1,5 +1,5 @@
 ghost use Rattle.std.specs.Prelude.{◌≡◌, option_map};
-ghost use Rattle.gate_vcd.specs.Stimulus.{IsAnswer};
+ghost use Rattle.gate_vcd.specs.Stimulus.{IsReadAs};
 
 use crate::changes::read_changes;
 use crate::declarations::read_declarations;
@@ -16,7 +16,7 @@ use std::alloc::Global;
 /// A refusal tells the first fault of the text by its offset, or else the first input that the text doesn't
 /// give by its net. Times are in units of the text's timescale.
 pub fn read_stimulus(alloc: Global, text: &[u8], circuit: &Circuit) -> Result<Stimulus, StimFault>
-    ensures { IsAnswer text.now circuit.now result }
+    ensures { IsReadAs text.now circuit.now result }
 {
     circuit.law();
     let mut words = Words::new(text);

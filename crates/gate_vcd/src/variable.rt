@@ -6,7 +6,7 @@ ghost use Rattle.gate_vcd.specs.Inner.Commands.{variable};
 ghost use Rattle.gate_vcd.specs.Declarations.{is_code, is_unvalued, unescaped, variable_of};
 ghost use Rattle.gate_vcd.specs.Faults.{out_of_memory};
 ghost use Rattle.gate_vcd.specs.Reading.{or_fault};
-ghost use Rattle.gate_vcd.specs.Inner.Reading.{Gives};
+ghost use Rattle.gate_vcd.specs.Inner.Reading.{Reads};
 ghost use Rattle.gate_vcd.specs.Inner.Words.{texts, token_of};
 
 use crate::fault::{StimCause, StimFault};
@@ -93,7 +93,7 @@ pub fn variable_of<'a>(
     first: Word<'a>,
     body: &[&'a [u8]],
 ) -> Result<Variable<'a>, StimFault>
-    ensures { Gives variable result (or_fault (variable_of counted (texts body.now)) (token_of first.entry) causes.BadVar) }
+    ensures { Reads variable result (or_fault (variable_of counted (texts body.now)) (token_of first.entry) causes.BadVar) }
 {
     match body {
         [kind, size, code, parts @ ..] => {

@@ -7,7 +7,7 @@ use Rattle.std.proofs.lemmas.Bool.{cases_Bool, cases_lt, lt-leb, true≢false}
 use Rattle.std.proofs.lemmas.List.Elements.{All-drop}
 use Rattle.std.proofs.lemmas.List.Sums.{sum_by-cons}
 use Rattle.gate_values.specs.declared.logic.Logic.{Logic}
-use Rattle.gate_values.specs.Behaviour.{Source, value, delay_of}
+use Rattle.gate_values.specs.Behaviour.{Source, value, source_delay}
 use Rattle.gate_values.specs.Changes.{changes, before_time}
 use Rattle.gate_values.proofs.ChangeLists.{before_time-changes}
 use Rattle.warp_block.specs.declared.fault.BlockFault.{BlockFault}
@@ -27,13 +27,13 @@ use Rattle.warp_block.proofs.Going.{idle_past}
 full_log : (source : ℕ → Source) (at : ℕ → ℕ → Option Logic) (m horizon n : ℕ) → suc horizon ≤ m → run_log source at m horizon n ≡ run_log source at (suc horizon) horizon n
 full_log source at m horizon n l = go (is_driven (source n))
   where
-    go : (b : Bool) → cond b (before_time (m + delay_of (source n)) (changes (value source (given at) n) (horizon + 1))) []
-        ≡ cond b (before_time (suc horizon + delay_of (source n)) (changes (value source (given at) n) (horizon + 1))) []
+    go : (b : Bool) → cond b (before_time (m + source_delay (source n)) (changes (value source (given at) n) (horizon + 1))) []
+        ≡ cond b (before_time (suc horizon + source_delay (source n)) (changes (value source (given at) n) (horizon + 1))) []
     go false = refl
     go true =
-        let same : min (m + delay_of (source n)) (horizon + 1) ≡ min (suc horizon + delay_of (source n)) (horizon + 1) = omega arith in
-        before_time-changes (value source (given at) n) (m + delay_of (source n)) (horizon + 1)
-        ∙ (ap (changes (value source (given at) n)) same ∙ sym (before_time-changes (value source (given at) n) (suc horizon + delay_of (source n)) (horizon + 1)))
+        let same : min (m + source_delay (source n)) (horizon + 1) ≡ min (suc horizon + source_delay (source n)) (horizon + 1) = omega arith in
+        before_time-changes (value source (given at) n) (m + source_delay (source n)) (horizon + 1)
+        ∙ (ap (changes (value source (given at) n)) same ∙ sym (before_time-changes (value source (given at) n) (suc horizon + source_delay (source n)) (horizon + 1)))
 
 -- states past a time
 none_until : (time : ℕ) (ss : List Saved) → All (λ (s : Saved). time < s.mark) ss → count_by (λ (s : Saved). nat_le s.mark time) ss ≡ 0

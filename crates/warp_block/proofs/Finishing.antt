@@ -5,7 +5,7 @@ use Rattle.std.proofs.lemmas.List.{append-nil, get_or-map, length-map, ext_get_o
 use Rattle.gate_values.specs.declared.logic.Logic.{Logic}
 use Rattle.gate_values.specs.declared.logic.Logic.TheVariants.{X}
 use Rattle.gate_values.specs.declared.logic.Change.{Change}
-use Rattle.gate_values.specs.Behaviour.{Source, Moment, output, delay_of}
+use Rattle.gate_values.specs.Behaviour.{Source, Moment, output, source_delay}
 use Rattle.gate_values.specs.Changes.{last_value, same, before_time}
 use Rattle.warp_block.specs.declared.message.Message.{Message}
 use Rattle.warp_block.specs.declared.message.Sign.TheVariants.{Plus}
@@ -68,16 +68,16 @@ module _ (v : View) (is : IsLawful v) (state : Saved) (saved : IsSaved v state) 
   pub kept_log : (i : ℕ) → i < length v.part.nets → log_at v.logs i ≡ run_log source (effective_at v) s v.horizon (at_net i)
   kept_log i h = log_is v is i h ∙ sym (quiet_log_to v is s (at_net i) from (omega arith) quiet)
 
-  pub emitted-driven : (i : ℕ) → i < length v.part.nets → IsDriven (source_at v.part i) → emitted v.part m i (log_at v.logs i) s v.horizon ≡ added (block_value v (at_net i)) (s + delay_of (source (at_net i))) v.horizon
+  pub emitted-driven : (i : ℕ) → i < length v.part.nets → IsDriven (source_at v.part i) → emitted v.part m i (log_at v.logs i) s v.horizon ≡ added (block_value v (at_net i)) (s + source_delay (source (at_net i))) v.horizon
   emitted-driven i h d =
       let n : ℕ = at_net i in
       let here = source_here v is i h in
       let driven : IsDriven (source (at_net i)) = ap is_driven here ∙ d in
       let over = over_used v.part is.part (at_net i) driven in
       let there = ap is_some (slot_at v.part.nets i is.part.ascending h) in
-      cond-true (is_driven (source_at v.part i)) (emitted_value (output (source_at v.part i) m (net_at v.part i)) (log_at v.logs i) (s + delay_of (source_at v.part i)) v.horizon) [] d
-      ∙ (ap (λ (k : Source). emitted_value (output k m (at_net i)) (log_at v.logs i) (s + delay_of k) v.horizon) (sym here)
-      ∙ emitted_change (block_value v (at_net i)) (output (source (at_net i)) m (at_net i)) (log_at v.logs i) (s + delay_of (source (at_net i))) v.horizon
+      cond-true (is_driven (source_at v.part i)) (emitted_value (output (source_at v.part i) m (net_at v.part i)) (log_at v.logs i) (s + source_delay (source_at v.part i)) v.horizon) [] d
+      ∙ (ap (λ (k : Source). emitted_value (output k m (at_net i)) (log_at v.logs i) (s + source_delay k) v.horizon) (sym here)
+      ∙ emitted_change (block_value v (at_net i)) (output (source (at_net i)) m (at_net i)) (log_at v.logs i) (s + source_delay (source (at_net i))) v.horizon
       (output_next source (timed v.part is.part) (effective_at v) (IsUsed v.part) s (at_net i) (source (at_net i)) refl driven over m (λ k used. values_now k used.1) (contents_now (at_net i) there))
       (λ l. kept_log i h ∙ run_log-changes source (effective_at v) s v.horizon (at_net i) driven l))
 
@@ -86,10 +86,10 @@ module _ (v : View) (is : IsLawful v) (state : Saved) (saved : IsSaved v state) 
   emitted_log i h = elim (driven_or_not (source_at v.part i)) [
     | inl d ↦ (let driven : IsDriven (source (at_net i)) = ap is_driven (source_here v is i h) ∙ d in
         ap (λ (e : List Change). log_at v.logs i ++ e) (emitted-driven i h d)
-        ∙ (ap (λ (log : List Change). log ++ added (block_value v (at_net i)) (s + delay_of (source (at_net i))) v.horizon) (kept_log i h)
+        ∙ (ap (λ (log : List Change). log ++ added (block_value v (at_net i)) (s + source_delay (source (at_net i))) v.horizon) (kept_log i h)
         ∙ sym (run_log-step source (timed v.part is.part) (effective_at v) s v.horizon (at_net i) driven)))
     | inr o ↦ (let out : is_driven (source (at_net i)) ≡ false = ap is_driven (source_here v is i h ∙ o) in
-        ap (λ (e : List Change). log_at v.logs i ++ e) (cond-false (is_driven (source_at v.part i)) (emitted_value (output (source_at v.part i) m (net_at v.part i)) (log_at v.logs i) (s + delay_of (source_at v.part i)) v.horizon) [] (ap is_driven o))
+        ap (λ (e : List Change). log_at v.logs i ++ e) (cond-false (is_driven (source_at v.part i)) (emitted_value (output (source_at v.part i) m (net_at v.part i)) (log_at v.logs i) (s + source_delay (source_at v.part i)) v.horizon) [] (ap is_driven o))
         ∙ (append-nil (log_at v.logs i)
         ∙ (kept_log i h ∙ (rw out refl))))
   ]
@@ -99,12 +99,12 @@ module _ (v : View) (is : IsLawful v) (state : Saved) (saved : IsSaved v state) 
   emitted_later i h = elim (driven_or_not (source_at v.part i)) [
     | inl d ↦ (let driven : IsDriven (source (at_net i)) = ap is_driven (source_here v is i h) ∙ d in
         let pos = delayed (source (at_net i)) (timed v.part is.part (at_net i)) driven in
-        let same_delay : delay_of (source_at v.part i) ≡ delay_of (source (at_net i)) = ap delay_of (sym (source_here v is i h)) in
+        let same_delay : source_delay (source_at v.part i) ≡ source_delay (source (at_net i)) = ap source_delay (sym (source_here v is i h)) in
         subst (λ (cs : List Change). All (λ (c : Change). (s < c.time) × (c.time ≤ v.horizon)) cs)
-        (sym (cond-true (is_driven (source_at v.part i)) (emitted_value (output (source_at v.part i) m (net_at v.part i)) (log_at v.logs i) (s + delay_of (source_at v.part i)) v.horizon) [] d))
-        (emitted_value-later (output (source_at v.part i) m (net_at v.part i)) (log_at v.logs i) s (s + delay_of (source_at v.part i)) v.horizon (omega (arith, pos, same_delay))))
+        (sym (cond-true (is_driven (source_at v.part i)) (emitted_value (output (source_at v.part i) m (net_at v.part i)) (log_at v.logs i) (s + source_delay (source_at v.part i)) v.horizon) [] d))
+        (emitted_value-later (output (source_at v.part i) m (net_at v.part i)) (log_at v.logs i) s (s + source_delay (source_at v.part i)) v.horizon (omega (arith, pos, same_delay))))
     | inr o ↦ subst (λ (cs : List Change). All (λ (c : Change). (s < c.time) × (c.time ≤ v.horizon)) cs)
-        (sym (cond-false (is_driven (source_at v.part i)) (emitted_value (output (source_at v.part i) m (net_at v.part i)) (log_at v.logs i) (s + delay_of (source_at v.part i)) v.horizon) [] (ap is_driven o)))
+        (sym (cond-false (is_driven (source_at v.part i)) (emitted_value (output (source_at v.part i) m (net_at v.part i)) (log_at v.logs i) (s + source_delay (source_at v.part i)) v.horizon) [] (ap is_driven o)))
         (λ k d l. absurd (omega arith))
   ]
 
@@ -158,11 +158,11 @@ module _ (v : View) (is : IsLawful v) (state : Saved) (saved : IsSaved v state) 
     pub cut_back : (cut : List (List Change)) → length cut ≡ length v.part.nets → IsPartlyEmitted v.part m s v.horizon v.logs logs → AreCut v.part s (length v.part.nets) logs cut → cut ≡ v.logs
     cut_back cut cut_len p c =
         ext_get_or [] cut v.logs (cut_len ∙ sym (logs_len v is)) (λ i l. (let h : i < length v.part.nets = omega (arith, cut_len) in
-        let back : (t : ℕ) → s ≤ t → before_time (s + delay_of (source_at v.part i)) (run_log source (effective_at v) t v.horizon (at_net i)) ≡ run_log source (effective_at v) s v.horizon (at_net i) =
-        λ t k. ap (λ (x : Source). before_time (s + delay_of x) (run_log source (effective_at v) t v.horizon (at_net i))) (sym (source_here v is i h))
+        let back : (t : ℕ) → s ≤ t → before_time (s + source_delay (source_at v.part i)) (run_log source (effective_at v) t v.horizon (at_net i)) ≡ run_log source (effective_at v) s v.horizon (at_net i) =
+        λ t k. ap (λ (x : Source). before_time (s + source_delay x) (run_log source (effective_at v) t v.horizon (at_net i))) (sym (source_here v is i h))
         ∙ run_log-cut source (timed v.part is.part) (effective_at v) (effective_at v) t s v.horizon (at_net i) k (λ n u below. refl) in
         c.below i h ∙ (elim (partly_log p i h) [
-          | inl one ↦ ap (before_time (s + delay_of (source_at v.part i))) one ∙ back s (omega arith)
-          | inr two ↦ ap (before_time (s + delay_of (source_at v.part i))) two ∙ back (suc s) (omega arith)
+          | inl one ↦ ap (before_time (s + source_delay (source_at v.part i))) one ∙ back s (omega arith)
+          | inr two ↦ ap (before_time (s + source_delay (source_at v.part i))) two ∙ back (suc s) (omega arith)
         ]
         ∙ sym (kept_log i h))))

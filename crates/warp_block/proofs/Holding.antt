@@ -2,7 +2,7 @@
 use Rattle.std.proofs.Common.{◌≡◌, ℕ, zero, suc, ◌+◌, ◌<◌, ◌≤◌, ◌++◌, ◌↔◌, true, List, [], ◌∷◌, take, drop, length, inl, inr, refl, ap, sym, ◌∙◌, subst, arith, IsSome}
 use Rattle.std.proofs.lemmas.Bool.{cases_lt, true≢false}
 use Rattle.gate_values.specs.declared.logic.Change.{Change}
-use Rattle.gate_values.specs.Behaviour.{delay_of}
+use Rattle.gate_values.specs.Behaviour.{source_delay}
 use Rattle.gate_values.specs.Changes.{pair_at}
 use Rattle.warp_block.specs.declared.journal.Note.{Note}
 use Rattle.warp_block.specs.Inner.Building.{has}
@@ -61,8 +61,8 @@ same_woken p q lists same h = subst (λ (r : Portion). AreWoken r (length r.nets
 pub same_noted : (v w : View) (notes : List Note) → w.part ≡ v.part → w.floor ≡ v.floor → w.mark ≡ v.mark → w.logs ≡ v.logs → IsNoted v notes → IsNoted w notes
 same_noted v w notes part floor mark logs x = record {
   noted = λ t i l h some. x.noted t i (omega (arith, l, floor)) (subst (λ (p : Portion). i < length p.nets) part h)
-      (subst (λ (p : Portion). IsSome (pair_at (log_at v.logs i) (t + delay_of (source_at p i)))) part
-      (subst (λ (cs : List (List Change)). IsSome (pair_at (log_at cs i) (t + delay_of (source_at w.part i)))) logs some));
+      (subst (λ (p : Portion). IsSome (pair_at (log_at v.logs i) (t + source_delay (source_at p i)))) part
+      (subst (λ (cs : List (List Change)). IsSome (pair_at (log_at cs i) (t + source_delay (source_at w.part i)))) logs some));
   below = λ t i h. (let below = x.below t i h in omega (arith, below, mark));
   within = λ t i h. subst (λ (p : Portion). i < length p.nets) (sym part) (x.within t i h);
 }

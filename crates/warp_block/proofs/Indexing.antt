@@ -4,7 +4,7 @@ use Rattle.std.proofs.lemmas.Bool.{cases_Bool, cases_eq, cases_lt, eqb-true, eq-
 use Rattle.gate_values.specs.declared.logic.Logic.{Logic}
 use Rattle.gate_values.specs.declared.logic.Logic.TheVariants.{X}
 use Rattle.gate_values.specs.declared.logic.Change.{Change}
-use Rattle.gate_values.specs.Behaviour.{Moment, output, delay_of}
+use Rattle.gate_values.specs.Behaviour.{Moment, output, source_delay}
 use Rattle.gate_values.specs.Changes.{pair_at, before_time, same, last_value}
 use Rattle.warp_block.specs.declared.entry.Entry.{Entry}
 use Rattle.warp_block.specs.declared.journal.Note.{Note}
@@ -71,13 +71,13 @@ early_log end (c ∷ cs) none =
     (rw (lt-ltb c.time end before) (ap (λ (ds : List Change). c ∷ ds) rest.0), rw (lt-leb end c.time before) rest.1)
 
 -- what is emitted is one delay after the time
-emitted_time : (p : Portion) (m : Moment) (i : ℕ) (log : List Change) (s horizon t : ℕ) → IsSome (pair_at (emitted p m i log s horizon) t) → t ≡ s + delay_of (source_at p i)
+emitted_time : (p : Portion) (m : Moment) (i : ℕ) (log : List Change) (s horizon t : ℕ) → IsSome (pair_at (emitted p m i log s horizon) t) → t ≡ s + source_delay (source_at p i)
 emitted_time p m i log s horizon t h =
-    go (is_driven (source_at p i)) (leb (s + delay_of (source_at p i)) horizon) (same (output (source_at p i) m (net_at p i)) (last_value X log)) h
+    go (is_driven (source_at p i)) (leb (s + source_delay (source_at p i)) horizon) (same (output (source_at p i) m (net_at p i)) (last_value X log)) h
   where
-    go : (b c d : Bool) → IsSome (pair_at (cond b (cond c (cond d [] (record { time = s + delay_of (source_at p i); value = output (source_at p i) m (net_at p i) } ∷ [])) []) []) t) → t ≡ s + delay_of (source_at p i)
+    go : (b c d : Bool) → IsSome (pair_at (cond b (cond c (cond d [] (record { time = s + source_delay (source_at p i); value = output (source_at p i) m (net_at p i) } ∷ [])) []) []) t) → t ≡ s + source_delay (source_at p i)
     go true true false k =
-        some_step (record { time = s + delay_of (source_at p i); value = output (source_at p i) m (net_at p i) }) [] t (t ≡ s + delay_of (source_at p i)) (λ e. sym e) (λ r. absurd (true≢false (sym r))) k
+        some_step (record { time = s + source_delay (source_at p i); value = output (source_at p i) m (net_at p i) }) [] t (t ≡ s + source_delay (source_at p i)) (λ e. sym e) (λ r. absurd (true≢false (sym r))) k
     go true true true k = absurd (true≢false (sym k))
     go true false d k = absurd (true≢false (sym k))
     go false c d k = absurd (true≢false (sym k))
@@ -116,7 +116,7 @@ module _ (v : View) (is : IsLawful v) (m : Moment) (s : ℕ) (logs : List (List 
   after = record { part = v.part; horizon = v.horizon; mark = s + 1; floor = v.floor; queues = v.queues; logs = logs }
 
   -- what is in a log was there, or is one delay after the time
-  in_log : (i t : ℕ) → i < length v.part.nets → IsSome (pair_at (log_at logs i) t) → IsSome (pair_at (log_at v.logs i) t) ⊎ (t ≡ s + delay_of (source_at v.part i))
+  in_log : (i t : ℕ) → i < length v.part.nets → IsSome (pair_at (log_at logs i) t) → IsSome (pair_at (log_at v.logs i) t) ⊎ (t ≡ s + source_delay (source_at v.part i))
   in_log i t h some = elim (pair_at-append (log_at v.logs i) (emitted v.part m i (log_at v.logs i) s v.horizon) t (subst (λ (cs : List Change). IsSome (pair_at cs t)) (e.below i h) some)) [
     | inl was ↦ inl was
     | inr new ↦ inr (emitted_time v.part m i (log_at v.logs i) s v.horizon t new)
@@ -147,8 +147,8 @@ module _ (v : View) (is : IsLawful v) (m : Moment) (s : ℕ) (logs : List (List 
   pub IsNoted-step : (places : ℕ → List ℕ) (old new : List Note) → AreFound v.part s v.logs logs places new → IsNotedMore (length v.part.nets) s old new → IsNoted v old → IsNoted after new
   IsNoted-step places old new found more x = record {
     noted = λ t i l h some. elim (found i) [
-      | inl same_log ↦ more.kept t i (x.noted t i l h (subst (λ (cs : List Change). IsSome (pair_at cs (t + delay_of (source_at v.part i)))) same_log some))
-      | inr f ↦ (elim (in_log i (t + delay_of (source_at v.part i)) h some) [
+      | inl same_log ↦ more.kept t i (x.noted t i l h (subst (λ (cs : List Change). IsSome (pair_at cs (t + source_delay (source_at v.part i)))) same_log some))
+      | inr f ↦ (elim (in_log i (t + source_delay (source_at v.part i)) h some) [
         | inl was ↦ more.kept t i (x.noted t i l h was)
         | inr now ↦ (let same_time : t ≡ s = omega (arith, now) in subst (λ u. has_note new u i ≡ true) (sym same_time) f.1)
       ])

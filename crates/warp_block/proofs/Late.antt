@@ -5,7 +5,7 @@ use Rattle.std.specs.List.Sorted.{IsStrictlyIncreasing}
 use Rattle.std.proofs.lemmas.Bool.{cases_Bool, true≢false}
 use Rattle.std.proofs.lemmas.List.{append-nil}
 use Rattle.gate_values.specs.declared.logic.Change.{Change}
-use Rattle.gate_values.specs.Behaviour.{delay_of}
+use Rattle.gate_values.specs.Behaviour.{source_delay}
 use Rattle.gate_values.specs.Changes.{pair_at, before_time}
 use Rattle.warp_block.specs.declared.journal.Note.{Note}
 use Rattle.warp_block.specs.declared.message.Message.{Message}
@@ -29,10 +29,10 @@ use Rattle.warp_block.proofs.Rows.{log_rises, queue_row}
 
 -- Nothing is noted of other places from a time on: so they have logged nothing because of it or of later ones.
 pub rest_early : (v : View) (time : ℕ) (notes : List Note) (places : List ℕ) → IsNoted v notes → v.floor ≤ time → ((t i : ℕ) → time ≤ t → has_note notes t i ≡ true → has places i ≡ true) → IsRestEarly v time places
-rest_early v time notes places x from all i l none = (early_log (time + delay_of (source_at v.part i)) (log_at v.logs i) (λ t late some.
-    (let e : (t - delay_of (source_at v.part i)) + delay_of (source_at v.part i) ≡ t = omega (arith, late) in
-    let had = x.noted (t - delay_of (source_at v.part i)) i (omega (arith, late, from)) l (subst (λ u. IsSome (pair_at (log_at v.logs i) u)) (sym e) some) in
-    true≢false (sym (all (t - delay_of (source_at v.part i)) i (omega (arith, late)) had) ∙ none)))).1
+rest_early v time notes places x from all i l none = (early_log (time + source_delay (source_at v.part i)) (log_at v.logs i) (λ t late some.
+    (let e : (t - source_delay (source_at v.part i)) + source_delay (source_at v.part i) ≡ t = omega (arith, late) in
+    let had = x.noted (t - source_delay (source_at v.part i)) i (omega (arith, late, from)) l (subst (λ u. IsSome (pair_at (log_at v.logs i) u)) (sym e) some) in
+    true≢false (sym (all (t - source_delay (source_at v.part i)) i (omega (arith, late)) had) ∙ none)))).1
 
 -- The places of the notes from a time on are places.
 pub late_within : (v : View) (notes : List Note) (places : List ℕ) → IsNoted v notes → ((i : ℕ) → has places i ≡ true → (t : ℕ) × (has_note notes t i ≡ true)) → All (λ i. i < length v.part.nets) places
@@ -41,13 +41,13 @@ late_within v notes places x noted = below_from_has places (length v.part.nets) 
 -- what a log loses was there
 pub was_logged : (v : View) (time : ℕ) (places : List ℕ) (cut : List (List Change)) → AreStepped (cut_from v.part time) places v.logs cut → (i t : ℕ) → IsSome (pair_at (log_at cut i) t) → IsSome (pair_at (log_at v.logs i) t)
 was_logged v time places cut stepped i t h = elim (cases_Bool (has places i)) [
-  | inl some ↦ pair_at-filter (λ (c : Change). nat_lt c.time (time + delay_of (source_at v.part i))) (log_at v.logs i) t (subst (λ (cs : List Change). IsSome (pair_at cs t)) (stepped.done i some) h)
+  | inl some ↦ pair_at-filter (λ (c : Change). nat_lt c.time (time + source_delay (source_at v.part i))) (log_at v.logs i) t (subst (λ (cs : List Change). IsSome (pair_at cs t)) (stepped.done i some) h)
   | inr none ↦ subst (λ (cs : List Change). IsSome (pair_at cs t)) (stepped.kept i none) h
 ]
 
 module _ (v : View) (is : IsLawful v) (time : ℕ) (places : List ℕ) (rest : IsRestEarly v time places) where
   abbrev late : ℕ → List Change
-  late i = since_time (time + delay_of (source_at v.part i)) (log_at v.logs i)
+  late i = since_time (time + source_delay (source_at v.part i)) (log_at v.logs i)
 
   -- what some places are told of is all
   pub late_told : (before out : List Message) → IsStrictlyIncreasing places → All (λ i. i < length v.part.nets) places →
@@ -56,12 +56,12 @@ module _ (v : View) (is : IsLawful v) (time : ℕ) (places : List ℕ) (rest : I
 
   module _ (cut : List (List Change)) (stepped : AreStepped (cut_from v.part time) places v.logs cut) where
     -- a cut of some places' logs cuts all
-    pub late_cut : (i : ℕ) → i < length v.part.nets → log_at cut i ≡ before_time (time + delay_of (source_at v.part i)) (log_at v.logs i)
+    pub late_cut : (i : ℕ) → i < length v.part.nets → log_at cut i ≡ before_time (time + source_delay (source_at v.part i)) (log_at v.logs i)
     late_cut i l = elim (cases_Bool (has places i)) [
       | inl some ↦ stepped.done i some
       | inr none ↦ stepped.kept i none
-          ∙ (split_log (time + delay_of (source_at v.part i)) (log_at v.logs i) (log_rises v is i l)
-          ∙ (ap (λ (cs : List Change). before_time (time + delay_of (source_at v.part i)) (log_at v.logs i) ++ cs) (rest i l none) ∙ append-nil (before_time (time + delay_of (source_at v.part i)) (log_at v.logs i))))
+          ∙ (split_log (time + source_delay (source_at v.part i)) (log_at v.logs i) (log_rises v is i l)
+          ∙ (ap (λ (cs : List Change). before_time (time + source_delay (source_at v.part i)) (log_at v.logs i) ++ cs) (rest i l none) ∙ append-nil (before_time (time + source_delay (source_at v.part i)) (log_at v.logs i))))
     ]
 
   -- the notes of earlier times are those of what is left
@@ -69,17 +69,17 @@ module _ (v : View) (is : IsLawful v) (time : ℕ) (places : List ℕ) (rest : I
       ((t i : ℕ) → (has_note new t i ≡ true) ↔ ((t < time) × (has_note old t i ≡ true))) → IsNoted v old → IsNoted w new
   IsNoted-cut w part floor mark stepped old new back x = record {
     noted = λ t i past l some. (let k : i < length v.part.nets = subst (λ (p : Portion). i < length p.nets) part l in
-        let left : IsSome (pair_at (log_at w.logs i) (t + delay_of (source_at v.part i))) = subst (λ (p : Portion). IsSome (pair_at (log_at w.logs i) (t + delay_of (source_at p i)))) part some in
-        let had = x.noted t i (omega (arith, past, floor)) k (was_logged v time places w.logs stepped i (t + delay_of (source_at v.part i)) left) in
+        let left : IsSome (pair_at (log_at w.logs i) (t + source_delay (source_at v.part i))) = subst (λ (p : Portion). IsSome (pair_at (log_at w.logs i) (t + source_delay (source_at p i)))) part some in
+        let had = x.noted t i (omega (arith, past, floor)) k (was_logged v time places w.logs stepped i (t + source_delay (source_at v.part i)) left) in
         (back t i).1 (early w.logs stepped t i k left, had));
     below = λ t i h. (let before = ((back t i).0 h).0 in omega (arith, before, mark));
     within = λ t i h. subst (λ (p : Portion). i < length p.nets) (sym part) (x.within t i ((back t i).0 h).1);
   }
     where
-      early : (cut : List (List Change)) → AreStepped (cut_from v.part time) places v.logs cut → (t i : ℕ) → i < length v.part.nets → IsSome (pair_at (log_at cut i) (t + delay_of (source_at v.part i))) → t < time
+      early : (cut : List (List Change)) → AreStepped (cut_from v.part time) places v.logs cut → (t i : ℕ) → i < length v.part.nets → IsSome (pair_at (log_at cut i) (t + source_delay (source_at v.part i))) → t < time
       early cut stepped t i l some =
-          let before : t + delay_of (source_at v.part i) < time + delay_of (source_at v.part i) =
-          pair_at-early (time + delay_of (source_at v.part i)) (log_at v.logs i) (t + delay_of (source_at v.part i)) (subst (λ (cs : List Change). IsSome (pair_at cs (t + delay_of (source_at v.part i)))) (late_cut cut stepped i l) some) in
+          let before : t + source_delay (source_at v.part i) < time + source_delay (source_at v.part i) =
+          pair_at-early (time + source_delay (source_at v.part i)) (log_at v.logs i) (t + source_delay (source_at v.part i)) (subst (λ (cs : List Change). IsSome (pair_at cs (t + source_delay (source_at v.part i)))) (late_cut cut stepped i l) some) in
           omega (arith, before)
 
 -- an entry that is put into the queue at a place

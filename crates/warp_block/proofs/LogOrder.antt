@@ -6,7 +6,7 @@ use Rattle.std.proofs.lemmas.List.{append-nil, get_or_append_left, get_or-append
 use Rattle.std.proofs.lemmas.List.Quantifiers.{all_pairs_push}
 use Rattle.gate_values.specs.declared.logic.Logic.{Logic}
 use Rattle.gate_values.specs.declared.logic.Change.{Change}
-use Rattle.gate_values.specs.Behaviour.{Source, value, delay_of}
+use Rattle.gate_values.specs.Behaviour.{Source, value, source_delay}
 use Rattle.gate_values.specs.Changes.{changes, before_time, just_before, same}
 use Rattle.gate_values.proofs.ChangeLists.{before_time-changes}
 use Rattle.warp_block.specs.Portion.{is_driven}
@@ -55,7 +55,7 @@ pub IsLog-run : (source : ℕ → Source) (at : ℕ → ℕ → Option Logic) (m
 unfolding changes
 IsLog-run source at mark horizon n = go (is_driven (source n))
   where
-    go : (b : Bool) → IsLog (cond b (before_time (mark + delay_of (source n)) (changes (value source (given at) n) (horizon + 1))) [])
+    go : (b : Bool) → IsLog (cond b (before_time (mark + source_delay (source n)) (changes (value source (given at) n) (horizon + 1))) [])
     go false = IsLog-none
-    go true = subst IsLog (sym (before_time-changes (value source (given at) n) (mark + delay_of (source n)) (horizon + 1)))
-        (IsLog-changes (value source (given at) n) (min (mark + delay_of (source n)) (horizon + 1)))
+    go true = subst IsLog (sym (before_time-changes (value source (given at) n) (mark + source_delay (source n)) (horizon + 1)))
+        (IsLog-changes (value source (given at) n) (min (mark + source_delay (source n)) (horizon + 1)))

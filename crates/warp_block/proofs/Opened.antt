@@ -4,7 +4,7 @@ use Rattle.std.proofs.lemmas.Bool.{cases_Bool, cases_eq, true≢false}
 use Rattle.gate_values.specs.declared.logic.Logic.{Logic}
 use Rattle.gate_values.specs.declared.logic.Logic.TheVariants.{X}
 use Rattle.gate_values.specs.declared.logic.Change.{Change}
-use Rattle.gate_values.specs.Behaviour.{Source, delay_of}
+use Rattle.gate_values.specs.Behaviour.{Source, source_delay}
 use Rattle.gate_values.specs.Changes.{pair_at, before_time}
 use Rattle.warp_block.specs.declared.entry.Entry.{Entry}
 use Rattle.warp_block.specs.Inner.Building.{has}
@@ -90,16 +90,16 @@ module _ (v : View) (is : IsLawful v) where
 -- A block that has processed nothing has logged nothing because of a time.
 pub IsNoted-new : (v : View) → IsLawful v → v.mark ≡ 0 → IsNoted v []
 IsNoted-new v is start = record {
-  noted = λ t i past l some. (let early = pair_at-early (v.mark + delay_of (source_at v.part i)) (log_at v.logs i) (t + delay_of (source_at v.part i))
-      (subst (λ (cs : List Change). IsSome (pair_at cs (t + delay_of (source_at v.part i)))) (uncut i l) some) in
+  noted = λ t i past l some. (let early = pair_at-early (v.mark + source_delay (source_at v.part i)) (log_at v.logs i) (t + source_delay (source_at v.part i))
+      (subst (λ (cs : List Change). IsSome (pair_at cs (t + source_delay (source_at v.part i)))) (uncut i l) some) in
       absurd (omega (arith, early, start)));
   below = λ t i h. absurd (true≢false (sym h));
   within = λ t i h. absurd (true≢false (sym h));
 }
   where
-    uncut : (i : ℕ) → i < length v.part.nets → log_at v.logs i ≡ before_time (v.mark + delay_of (source_at v.part i)) (log_at v.logs i)
+    uncut : (i : ℕ) → i < length v.part.nets → log_at v.logs i ≡ before_time (v.mark + source_delay (source_at v.part i)) (log_at v.logs i)
     uncut i l =
         log_is v is i l
         ∙ (sym (run_log-cut (source_of v.part) (timed v.part is.part) (effective_at v) (effective_at v) v.mark v.mark v.horizon (net_at v.part i) (omega arith) (λ n u below. refl))
-        ∙ (ap (λ (x : Source). before_time (v.mark + delay_of x) (run_log (source_of v.part) (effective_at v) v.mark v.horizon (net_at v.part i))) (source_here v is i l)
-        ∙ ap (before_time (v.mark + delay_of (source_at v.part i))) (sym (log_is v is i l))))
+        ∙ (ap (λ (x : Source). before_time (v.mark + source_delay x) (run_log (source_of v.part) (effective_at v) v.mark v.horizon (net_at v.part i))) (source_here v is i l)
+        ∙ ap (before_time (v.mark + source_delay (source_at v.part i))) (sym (log_is v is i l))))

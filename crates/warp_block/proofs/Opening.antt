@@ -5,7 +5,7 @@ use Rattle.std.proofs.lemmas.List.{get_or-map, length-map}
 use Rattle.std.proofs.lemmas.List.Elements.{All-nil, All-cons}
 use Rattle.gate_values.specs.declared.logic.Logic.{Logic}
 use Rattle.gate_values.specs.declared.logic.Logic.TheVariants.{X}
-use Rattle.gate_values.specs.Behaviour.{Source, Outside, Gate, Flop, value, delay_of, initial_of, IsWellFormed}
+use Rattle.gate_values.specs.Behaviour.{Source, Outside, Gate, Flop, value, source_delay, initial_of, IsWellFormed}
 use Rattle.gate_values.specs.Changes.{changes, before_time, same}
 use Rattle.gate_values.proofs.ChangeLists.{before_time-changes, changes-agree, changes-quiet}
 use Rattle.gate_values.proofs.Beginning.{initial_before}
@@ -34,14 +34,14 @@ changes-constant v zero = refl
 changes-constant v (suc t) = changes-quiet (λ _. v) (suc t) refl ∙ changes-constant v t
 
 -- before one delay has passed nothing changes but what begins with a known value
-first_changes : (source : ℕ → Source) (g : ℕ → ℕ → Logic) (n end : ℕ) → IsWellFormed (source n) → 0 < delay_of (source n) → 0 < end →
-    before_time (0 + delay_of (source n)) (changes (value source g n) end) ≡ initial_log (initial_of (source n))
+first_changes : (source : ℕ → Source) (g : ℕ → ℕ → Logic) (n end : ℕ) → IsWellFormed (source n) → 0 < source_delay (source n) → 0 < end →
+    before_time (0 + source_delay (source n)) (changes (value source g n) end) ≡ initial_log (initial_of (source n))
 first_changes source g n end w late some =
-    let until : ℕ = min (0 + delay_of (source n)) end in
-    let more : min (0 + delay_of (source n)) end ≡ suc (pred (min (0 + delay_of (source n)) end)) = omega arith in
-    before_time-changes (value source g n) (0 + delay_of (source n)) end
-    ∙ (changes-agree (value source g n) (λ _. initial_of (source n)) (min (0 + delay_of (source n)) end) (λ t below. initial_before source g n t w (omega arith))
-    ∙ (ap (changes (λ _. initial_of (source n))) more ∙ changes-constant (initial_of (source n)) (pred (min (0 + delay_of (source n)) end))))
+    let until : ℕ = min (0 + source_delay (source n)) end in
+    let more : min (0 + source_delay (source n)) end ≡ suc (pred (min (0 + source_delay (source n)) end)) = omega arith in
+    before_time-changes (value source g n) (0 + source_delay (source n)) end
+    ∙ (changes-agree (value source g n) (λ _. initial_of (source n)) (min (0 + source_delay (source n)) end) (λ t below. initial_before source g n t w (omega arith))
+    ∙ (ap (changes (λ _. initial_of (source n))) more ∙ changes-constant (initial_of (source n)) (pred (min (0 + source_delay (source n)) end))))
 
 -- what only a flip-flop has
 undriven_initial : (s : Source) → is_driven s ≡ false → initial_of s ≡ X
@@ -63,7 +63,7 @@ module _ (p : Portion) (is : IsPortion p) (stimulus : Given) (horizon : ℕ) whe
   first_log n = go (owns p n) refl
     where
       go : (b : Bool) → owns p n ≡ b →
-          cond b (before_time (0 + delay_of (source_of p n)) (changes (value (source_of p) (given (effective_at (opening_view p stimulus horizon))) n) (horizon + 1))) []
+          cond b (before_time (0 + source_delay (source_of p n)) (changes (value (source_of p) (given (effective_at (opening_view p stimulus horizon))) n) (horizon + 1))) []
           ≡ initial_log (initial_of (source_of p n))
       go false e = ap initial_log (sym (undriven_initial (source_of p n) e))
       go true e = first_changes (source_of p) (given (effective_at (opening_view p stimulus horizon))) n (horizon + 1) (well_formed p is n e) (delayed (source_of p n) (timed p is n) e) (omega arith)

@@ -5,15 +5,15 @@ use Rattle.std.specs.List.Sorted.{IsStrictlyIncreasing}
 use Rattle.std.proofs.lemmas.Bool.{cases_Bool, or_parts, or_cases, and_parts, eq-eqb, true≢false}
 use Rattle.std.proofs.lemmas.List.{length-map, get_or-map, ext_get_or}
 use Rattle.std.proofs.lemmas.List.Elements.{All-weaker, filter_passes}
-use Rattle.gate_values.specs.Behaviour.{Source, Outside, IsWellFormed, delay_of}
-use Rattle.gate_netlist.specs.Circuit.{Design, IsCircuit, IsDriven, CutFits, nets_of, driver_of, source_of, source_by, is_input}
+use Rattle.gate_values.specs.Behaviour.{Source, Outside, IsWellFormed, source_delay}
+use Rattle.gate_netlist.specs.Circuit.{Design, IsCircuit, IsDriven, CutFits, nets_of, driver_of, source_of, source_by, is_input, IsDelay}
 use Rattle.gate_netlist.specs.Cut.{Ownership, owner_of}
 use Rattle.gate_netlist.specs.declared.driver.Driver.{Driver}
 use Rattle.gate_netlist.specs.declared.driver.Driver.TheVariants.{Input, Gate, Flop}
 use Rattle.warp_block.specs.declared.cell.Cell.TheVariants as Cell
 use Rattle.warp_block.specs.declared.cell.Span.{Span}
 use Rattle.warp_block.specs.declared.part.Part.TheInside.{Inside}
-use Rattle.warp_block.specs.Portion.{Portion, IsPortion, IsDelay, is_driven, is_used, slot_of, uses, does_use}
+use Rattle.warp_block.specs.Portion.{Portion, IsPortion, is_driven, is_used, slot_of, uses, does_use}
 use Rattle.warp_block.specs.PartOf.{is_own, is_owner, is_used_by, part_nets, part_source, part_readers, part_of}
 use Rattle.warp_block.specs.Inner.HeldPart.{IsHeld, portion_of, cell_source, is_input_cell, stretch}
 use Rattle.warp_block.specs.Inner.Building.{AreCells}
@@ -22,7 +22,7 @@ use Rattle.warp_block.proofs.PartBuilding.{uses-driver, is_net, nets_rise, nets_
 
 -- ---- sources
 
-driven_source : (nets : ℕ) (driver : Driver) (delay : ℕ) → IsDriven nets driver delay → is_driven (source_by driver delay) ≡ true → IsWellFormed (source_by driver delay) × IsDelay (delay_of (source_by driver delay))
+driven_source : (nets : ℕ) (driver : Driver) (delay : ℕ) → IsDriven nets driver delay → is_driven (source_by driver delay) ≡ true → IsWellFormed (source_by driver delay) × IsDelay (source_delay (source_by driver delay))
 driven_source nets Input delay h e = absurd cc
 driven_source nets (Gate kind inputs) delay h e = ((omega (arith, h.2.0), h.0), h.2)
 driven_source nets (Flop d clock init) delay h e = (omega (arith, h.2.0), h.2)
@@ -85,7 +85,7 @@ module _ (d : Design) (cut : Ownership) (b : ℕ) where
     source_at i l = get_or-map (part_source d cut b) (part_nets d cut b) i 0 Outside l
 
     driven : (n : ℕ) → n < nets_of d → IsTrue (is_driven (part_source d cut b n))
-        → IsWellFormed (part_source d cut b n) × IsDelay (delay_of (part_source d cut b n)) × All (λ u. IsTrue (is_some (slot_of (part_nets d cut b) u))) (uses (part_source d cut b n))
+        → IsWellFormed (part_source d cut b n) × IsDelay (source_delay (part_source d cut b n)) × All (λ u. IsTrue (is_some (slot_of (part_nets d cut b) u))) (uses (part_source d cut b n))
     driven n l h =
         elim (cases_Bool (is_own cut b n)) [
           | inl own ↦

@@ -9,7 +9,7 @@ use Rattle.std.proofs.lemmas.List.{append-nil, append_assoc, take_more}
 use Rattle.std.proofs.lemmas.List.Concat.{flat_map-append}
 use Rattle.std.proofs.lemmas.List.Kept.{AllPairs-from_increasing}
 use Rattle.gate_values.specs.declared.logic.Change.{Change}
-use Rattle.gate_values.specs.Behaviour.{Moment, delay_of}
+use Rattle.gate_values.specs.Behaviour.{Moment, source_delay}
 use Rattle.warp_block.specs.declared.journal.Note.{Note}
 use Rattle.warp_block.specs.Inner.Index.{IsGrown, IsNotedMore, IsFound, AreFound}
 use Rattle.warp_block.specs.declared.message.Message.{Message}
@@ -166,6 +166,6 @@ AreFound-more p s i before logs row row' places places' notes notes' h at same f
   ])
   | inr there ↦ (elim (found k) [
     | inl still_ ↦ inl (set_other logs i row' h k there ∙ still_)
-    | inr f ↦ inr (grown.kept (s + delay_of (source_at p k)) k f.0, noted.kept s k f.1)
+    | inr f ↦ inr (grown.kept (s + source_delay (source_at p k)) k f.0, noted.kept s k f.1)
   ])
 ]

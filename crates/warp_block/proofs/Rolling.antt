@@ -5,7 +5,7 @@ use Rattle.std.proofs.lemmas.List.{get_or-map, length-map, length-set, ext_get_o
 use Rattle.std.proofs.lemmas.List.Elements.{All-filter, filter_passes}
 use Rattle.gate_values.specs.declared.logic.Logic.{Logic}
 use Rattle.gate_values.specs.declared.logic.Change.{Change}
-use Rattle.gate_values.specs.Behaviour.{Source, value, delay_of}
+use Rattle.gate_values.specs.Behaviour.{Source, value, source_delay}
 use Rattle.gate_values.specs.Changes.{before_time, changes}
 use Rattle.gate_values.proofs.ChangeLists.{before_time-changes}
 use Rattle.warp_block.specs.declared.entry.Entry.{Entry}
@@ -50,10 +50,10 @@ run_log-within : (source : ℕ → Source) (at : ℕ → ℕ → Option Logic) (
 unfolding changes
 run_log-within source at mark horizon n = go (is_driven (source n))
   where
-    go : (b : Bool) → All (λ (c : Change). c.time ≤ horizon) (cond b (before_time (mark + delay_of (source n)) (changes (value source (given at) n) (horizon + 1))) [])
+    go : (b : Bool) → All (λ (c : Change). c.time ≤ horizon) (cond b (before_time (mark + source_delay (source n)) (changes (value source (given at) n) (horizon + 1))) [])
     go false = λ k d l. absurd (omega arith)
-    go true = subst (λ (cs : List Change). All (λ (c : Change). c.time ≤ horizon) cs) (sym (before_time-changes (value source (given at) n) (mark + delay_of (source n)) (horizon + 1)))
-        (λ k d l. (let short = changes-before (value source (given at) n) (min (mark + delay_of (source n)) (horizon + 1)) k d l in omega (arith, short)))
+    go true = subst (λ (cs : List Change). All (λ (c : Change). c.time ≤ horizon) cs) (sym (before_time-changes (value source (given at) n) (mark + source_delay (source n)) (horizon + 1)))
+        (λ k d l. (let short = changes-before (value source (given at) n) (min (mark + source_delay (source n)) (horizon + 1)) k d l in omega (arith, short)))
 
 module _ (v : View) (is : IsLawful v) (slot : ℕ) (in_nets : slot < length v.part.nets) (time : ℕ) (entry : Entry)
     (queue : List Received) (queue_is : IsQueue queue)
@@ -138,7 +138,7 @@ module _ (v : View) (is : IsLawful v) (slot : ℕ) (in_nets : slot < length v.pa
 
   -- logs that are cut at a mark, below which no effective value has changed
   pub cut_lawful : (mark : ℕ) (logs : List (List Change)) → hears v.part net ≡ true → v.floor ≤ time → time ≤ v.horizon → v.floor ≤ mark → mark ≤ v.mark → ((n t : ℕ) → t < mark → effective_at v n t ≡ at_after n t) →
-      length logs ≡ length v.part.nets → ((i : ℕ) → i < length v.part.nets → log_at logs i ≡ before_time (mark + delay_of (source_at v.part i)) (log_at v.logs i)) → IsLawful (after mark logs)
+      length logs ≡ length v.part.nets → ((i : ℕ) → i < length v.part.nets → log_at logs i ≡ before_time (mark + source_delay (source_at v.part i)) (log_at v.logs i)) → IsLawful (after mark logs)
   cut_lawful mark logs heard past until above back keeps len cut = record {
     part = is.part;
     horizon = is.horizon;
@@ -148,8 +148,8 @@ module _ (v : View) (is : IsLawful v) (slot : ℕ) (in_nets : slot < length v.pa
     logs = ext_get_or [] logs (map (lawful_log (after mark logs)) v.part.nets) (len ∙ sym (length-map v.part.nets (lawful_log (after mark logs))))
         (λ i l. (let h : i < length v.part.nets = omega (arith, len) in
         cut i h
-        ∙ (ap (before_time (mark + delay_of (source_at v.part i))) (log_is v is i h)
-        ∙ (ap (λ (s : Source). before_time (mark + delay_of s) (run_log (source_of v.part) (effective_at v) v.mark v.horizon (get_or v.part.nets i 0))) (sym (source_here v is i h))
+        ∙ (ap (before_time (mark + source_delay (source_at v.part i))) (log_is v is i h)
+        ∙ (ap (λ (s : Source). before_time (mark + source_delay s) (run_log (source_of v.part) (effective_at v) v.mark v.horizon (get_or v.part.nets i 0))) (sym (source_here v is i h))
         ∙ (run_log-cut (source_of v.part) (timed v.part is.part) (effective_at v) at_after v.mark mark v.horizon (get_or v.part.nets i 0) back keeps
         ∙ sym (get_or-map (lawful_log (after mark logs)) v.part.nets i 0 [] h))))));
     floor = above;
@@ -164,35 +164,35 @@ module _ (v : View) (is : IsLawful v) (slot : ℕ) (in_nets : slot < length v.pa
       (logs_len v is)
       (λ i h. log_is v is i h
       ∙ (sym (run_log-cut (source_of v.part) (timed v.part is.part) (effective_at v) (effective_at v) v.mark v.mark v.horizon (get_or v.part.nets i 0) (omega arith) (λ n t below. refl))
-      ∙ (ap (λ (s : Source). before_time (v.mark + delay_of s) (run_log (source_of v.part) (effective_at v) v.mark v.horizon (get_or v.part.nets i 0))) (source_here v is i h)
-      ∙ ap (before_time (v.mark + delay_of (source_at v.part i))) (sym (log_is v is i h)))))
+      ∙ (ap (λ (s : Source). before_time (v.mark + source_delay s) (run_log (source_of v.part) (effective_at v) v.mark v.horizon (get_or v.part.nets i 0))) (source_here v is i h)
+      ∙ ap (before_time (v.mark + source_delay (source_at v.part i))) (sym (log_is v is i h)))))
 
   -- a rollback to the time of the entry
   pub roll_lawful : (logs : List (List Change)) → hears v.part net ≡ true → v.floor ≤ time → time ≤ v.horizon → time ≤ v.mark → length logs ≡ length v.part.nets →
-      ((i : ℕ) → i < length v.part.nets → log_at logs i ≡ before_time (time + delay_of (source_at v.part i)) (log_at v.logs i)) → IsLawful (after time logs)
+      ((i : ℕ) → i < length v.part.nets → log_at logs i ≡ before_time (time + source_delay (source_at v.part i)) (log_at v.logs i)) → IsLawful (after time logs)
   roll_lawful logs heard past until back len cut = cut_lawful time logs heard past until past back (λ n t below. same_elsewhere n t (let ne : t ≢ time = omega arith in ne)) len cut
 
   -- what a rollback sends
   pub roll_sends : (mark : ℕ) (logs : List (List Change)) (before out : List Message) → length logs ≡ length v.part.nets →
-      ((i : ℕ) → i < length v.part.nets → log_at logs i ≡ before_time (mark + delay_of (source_at v.part i)) (log_at v.logs i)) →
-      out ≡ before ++ told Minus v.part (λ i. since_time (mark + delay_of (source_at v.part i)) (log_at v.logs i)) (length v.part.nets) →
+      ((i : ℕ) → i < length v.part.nets → log_at logs i ≡ before_time (mark + source_delay (source_at v.part i)) (log_at v.logs i)) →
+      out ≡ before ++ told Minus v.part (λ i. since_time (mark + source_delay (source_at v.part i)) (log_at v.logs i)) (length v.part.nets) →
       SendsOnce v (after mark logs) Minus (λ t. mark < t) before out
   roll_sends mark logs before out len cut told_is =
-      sends_cut v (after mark logs) (λ t. mark < t) before out (λ i. since_time (mark + delay_of (source_at v.part i)) (log_at v.logs i)) is.part refl later
-      (λ i h. split_log (mark + delay_of (source_at v.part i)) (log_at v.logs i) (log_rises v is i h) ∙ ap (λ (xs : List Change). xs ++ since_time (mark + delay_of (source_at v.part i)) (log_at v.logs i)) (sym (cut i h)))
+      sends_cut v (after mark logs) (λ t. mark < t) before out (λ i. since_time (mark + source_delay (source_at v.part i)) (log_at v.logs i)) is.part refl later
+      (λ i h. split_log (mark + source_delay (source_at v.part i)) (log_at v.logs i) (log_rises v is i h) ∙ ap (λ (xs : List Change). xs ++ since_time (mark + source_delay (source_at v.part i)) (log_at v.logs i)) (sym (cut i h)))
       (λ i h. log_rises v is i h) told_is
     where
-      later : (i : ℕ) → i < length v.part.nets → All (λ (c : Change). (mark < c.time) × (c.time ≤ v.horizon)) (since_time (mark + delay_of (source_at v.part i)) (log_at v.logs i))
+      later : (i : ℕ) → i < length v.part.nets → All (λ (c : Change). (mark < c.time) × (c.time ≤ v.horizon)) (since_time (mark + source_delay (source_at v.part i)) (log_at v.logs i))
       later i h = elim (driven_or_not (source_at v.part i)) [
         | inl d ↦ (let here = source_here v is i h in
             let driven : IsDriven (source_of v.part (get_or v.part.nets i 0)) = ap is_driven here ∙ d in
             let pos = delayed (source_of v.part (get_or v.part.nets i 0)) (timed v.part is.part (get_or v.part.nets i 0)) driven in
-            let same_delay : delay_of (source_at v.part i) ≡ delay_of (source_of v.part (get_or v.part.nets i 0)) = ap delay_of (sym here) in
+            let same_delay : source_delay (source_at v.part i) ≡ source_delay (source_of v.part (get_or v.part.nets i 0)) = ap source_delay (sym here) in
             let log_within : All (λ (c : Change). c.time ≤ v.horizon) (log_at v.logs i) = subst (λ (cs : List Change). All (λ (c : Change). c.time ≤ v.horizon) cs) (sym (log_is v is i h)) (run_log-within (source_of v.part) (effective_at v) v.mark v.horizon (get_or v.part.nets i 0)) in
-            let late = filter_passes (λ (c : Change). nat_le (mark + delay_of (source_at v.part i)) c.time) (log_at v.logs i) in
-            let within = All-filter (λ (c : Change). nat_le (mark + delay_of (source_at v.part i)) c.time) (λ (c : Change). c.time ≤ v.horizon) (log_at v.logs i) log_within in
-            λ k d l. (let from = leb-true (mark + delay_of (source_at v.part i)) _ (late k d l) in (omega (arith, from, pos, same_delay), within k d l)))
+            let late = filter_passes (λ (c : Change). nat_le (mark + source_delay (source_at v.part i)) c.time) (log_at v.logs i) in
+            let within = All-filter (λ (c : Change). nat_le (mark + source_delay (source_at v.part i)) c.time) (λ (c : Change). c.time ≤ v.horizon) (log_at v.logs i) log_within in
+            λ k d l. (let from = leb-true (mark + source_delay (source_at v.part i)) _ (late k d l) in (omega (arith, from, pos, same_delay), within k d l)))
         | inr o ↦ (let out : is_driven (source_of v.part (get_or v.part.nets i 0)) ≡ false = ap is_driven (source_here v is i h ∙ o) in
             let empty : log_at v.logs i ≡ [] = log_is v is i h ∙ cond-false (is_driven (source_of v.part (get_or v.part.nets i 0))) _ [] out in
-            subst (λ (cs : List Change). All (λ (c : Change). (mark < c.time) × (c.time ≤ v.horizon)) (since_time (mark + delay_of (source_at v.part i)) cs)) (sym empty) (λ k d l. absurd (omega arith)))
+            subst (λ (cs : List Change). All (λ (c : Change). (mark < c.time) × (c.time ≤ v.horizon)) (since_time (mark + source_delay (source_at v.part i)) cs)) (sym empty) (λ k d l. absurd (omega arith)))
       ]

@@ -7,7 +7,7 @@ use Rattle.std.proofs.Math.Seq.{map-set_same}
 use Rattle.gate_values.specs.declared.logic.Logic.{Logic}
 use Rattle.gate_values.specs.declared.logic.Logic.TheVariants.{X}
 use Rattle.gate_values.specs.declared.logic.Change.{Change}
-use Rattle.gate_values.specs.Behaviour.{Source, Outside, value, delay_of}
+use Rattle.gate_values.specs.Behaviour.{Source, Outside, value, source_delay}
 use Rattle.gate_values.specs.Changes.{pair_at, changes, latest, held, before_time}
 use Rattle.gate_values.proofs.Behaving.{outside_is}
 use Rattle.gate_values.proofs.ChangeLists.{before_time-changes}
@@ -83,12 +83,12 @@ module _ (v : View) (is : IsLawful v) (i : ℕ) (in_nets : i < length v.part.net
       latest X (get_or v.logs i []) t ≡ block_value v net t
   value_logged own m t reaches below until =
       let driven : IsDriven (source_of v.part net) = ap is_driven source_here ∙ own in
-      let pos : 0 < delay_of (source_of v.part net) = delayed (source_of v.part net) (timed v.part is.part net) driven in
-      let end : t < min (m + delay_of (source_of v.part net)) (v.horizon + 1) = omega arith in
+      let pos : 0 < source_delay (source_of v.part net) = delayed (source_of v.part net) (timed v.part is.part net) driven in
+      let end : t < min (m + source_delay (source_of v.part net)) (v.horizon + 1) = omega arith in
       ap (λ (log : List Change). latest X log t) (reaches
-      ∙ cond-true (is_driven (source_of v.part net)) (before_time (m + delay_of (source_of v.part net)) (changes (value (source_of v.part) (given (effective_at v)) net) (v.horizon + 1))) [] driven
-      ∙ before_time-changes (value (source_of v.part) (given (effective_at v)) net) (m + delay_of (source_of v.part net)) (v.horizon + 1))
-      ∙ latest-changes (value (source_of v.part) (given (effective_at v)) net) (min (m + delay_of (source_of v.part net)) (v.horizon + 1)) t end
+      ∙ cond-true (is_driven (source_of v.part net)) (before_time (m + source_delay (source_of v.part net)) (changes (value (source_of v.part) (given (effective_at v)) net) (v.horizon + 1))) [] driven
+      ∙ before_time-changes (value (source_of v.part) (given (effective_at v)) net) (m + source_delay (source_of v.part net)) (v.horizon + 1))
+      ∙ latest-changes (value (source_of v.part) (given (effective_at v)) net) (min (m + source_delay (source_of v.part net)) (v.horizon + 1)) t end
 
   -- the value of an own net, from its log, at a time that is processed, or before which nothing has happened since the mark
   pub value_own : is_driven (get_or v.part.sources i Outside) ≡ true → (t : ℕ) → t ≤ v.horizon → IsQuiet v t → latest X (get_or v.logs i []) t ≡ block_value v net t

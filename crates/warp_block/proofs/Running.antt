@@ -7,7 +7,7 @@ use Rattle.std.proofs.lemmas.List.{append-nil}
 use Rattle.gate_values.specs.declared.logic.Logic.{Logic}
 use Rattle.gate_values.specs.declared.logic.Logic.TheVariants.{X}
 use Rattle.gate_values.specs.declared.logic.Change.{Change}
-use Rattle.gate_values.specs.Behaviour.{Source, Outside, Gate, Flop, before, value, delay_of, history}
+use Rattle.gate_values.specs.Behaviour.{Source, Outside, Gate, Flop, before, value, source_delay, history}
 use Rattle.gate_values.specs.Inner.Behaviour.{IsOver}
 use Rattle.gate_values.specs.Changes.{changes, change_at, held, pair_at, before_time, just_before, same}
 use Rattle.gate_values.proofs.Behaving.{Joined, same_values, same_before, quiet_value, outside_is}
@@ -27,7 +27,7 @@ given at t n = held (at n) t
 -- the log of a net at a mark
 abbrev pub run_log : (ℕ → Source) → (ℕ → ℕ → Option Logic) → ℕ → ℕ → ℕ → List Change
 run_log source at mark horizon n =
-    cond (is_driven (source n)) (before_time (mark + delay_of (source n)) (changes (value source (given at) n) (horizon + 1))) []
+    cond (is_driven (source n)) (before_time (mark + source_delay (source n)) (changes (value source (given at) n) (horizon + 1))) []
 
 -- something sets the net
 abbrev pub IsDriven : Source → Type 0
@@ -47,7 +47,7 @@ over_all N h Outside d t = cc
 over_all N h (Gate kind delay inputs) d t = (t, each-net N h inputs)
 over_all N h (Flop delay dn c i) d t = (t, h dn, h c)
 
-pub delayed : (s : Source) → IsTimed s → IsDriven s → 0 < delay_of s
+pub delayed : (s : Source) → IsTimed s → IsDriven s → 0 < source_delay s
 delayed Outside t d = cc
 delayed (Gate kind delay inputs) t d = t
 delayed (Flop delay dn c i) t d = t
@@ -101,7 +101,7 @@ module _ (source : ℕ → Source) (timed : (n : ℕ) → IsTimed (source n)) wh
 
   -- values depend on the effective values below a time alone, up to one delay past it
   pub values_agree : (at at' : ℕ → ℕ → Option Logic) (u : ℕ) → ((n t : ℕ) → t < u → at n t ≡ at' n t) →
-      (n t : ℕ) → IsDriven (source n) → t < u + delay_of (source n) → value source (given at) n t ≡ value source (given at') n t
+      (n t : ℕ) → IsDriven (source n) → t < u + source_delay (source n) → value source (given at) n t ≡ value source (given at') n t
   values_agree at at' u h n t d l =
       same_values source source (given at) (given at') (λ i. IsDriven (source i)) (λ i. source i ≡ Outside) u (joined at at' u h) n t d l
 
@@ -124,7 +124,7 @@ module _ (source : ℕ → Source) (timed : (n : ℕ) → IsTimed (source n)) wh
 
   -- (rollback) Where the effective values keep below a time that isn't past the mark, the logs are cut there.
   pub run_log-cut : (at at' : ℕ → ℕ → Option Logic) (mark u horizon n : ℕ) → u ≤ mark → ((n t : ℕ) → t < u → at n t ≡ at' n t) →
-      before_time (u + delay_of (source n)) (run_log source at mark horizon n) ≡ run_log source at' u horizon n
+      before_time (u + source_delay (source n)) (run_log source at mark horizon n) ≡ run_log source at' u horizon n
   unfolding changes
   run_log-cut at at' mark u horizon n l h = go (is_driven (source n)) refl
     where
@@ -135,17 +135,17 @@ module _ (source : ℕ → Source) (timed : (n : ℕ) → IsTimed (source n)) wh
       g = value source (given at') n
 
       go : (b : Bool) → is_driven (source n) ≡ b →
-          before_time (u + delay_of (source n)) (cond b (before_time (mark + delay_of (source n)) (changes (value source (given at) n) (horizon + 1))) [])
-          ≡ cond b (before_time (u + delay_of (source n)) (changes (value source (given at') n) (horizon + 1))) []
+          before_time (u + source_delay (source n)) (cond b (before_time (mark + source_delay (source n)) (changes (value source (given at) n) (horizon + 1))) [])
+          ≡ cond b (before_time (u + source_delay (source n)) (changes (value source (given at') n) (horizon + 1))) []
       go false e = refl
       go true e =
-          let d : ℕ = delay_of (source n) in
-          let ends : min (u + delay_of (source n)) (min (mark + delay_of (source n)) (horizon + 1)) ≡ min (u + delay_of (source n)) (horizon + 1) = omega arith in
-          ap (before_time (u + delay_of (source n))) (before_time-changes (value source (given at) n) (mark + delay_of (source n)) (horizon + 1))
-          ∙ (before_time-changes (value source (given at) n) (u + delay_of (source n)) (min (mark + delay_of (source n)) (horizon + 1))
+          let d : ℕ = source_delay (source n) in
+          let ends : min (u + source_delay (source n)) (min (mark + source_delay (source n)) (horizon + 1)) ≡ min (u + source_delay (source n)) (horizon + 1) = omega arith in
+          ap (before_time (u + source_delay (source n))) (before_time-changes (value source (given at) n) (mark + source_delay (source n)) (horizon + 1))
+          ∙ (before_time-changes (value source (given at) n) (u + source_delay (source n)) (min (mark + source_delay (source n)) (horizon + 1))
           ∙ (ap (changes (value source (given at) n)) ends
-          ∙ (changes-agree (value source (given at) n) (value source (given at') n) (min (u + delay_of (source n)) (horizon + 1)) (λ t k. values_agree at at' u h n t e (omega arith))
-          ∙ sym (before_time-changes (value source (given at') n) (u + delay_of (source n)) (horizon + 1)))))
+          ∙ (changes-agree (value source (given at) n) (value source (given at') n) (min (u + source_delay (source n)) (horizon + 1)) (λ t k. values_agree at at' u h n t e (omega arith))
+          ∙ sym (before_time-changes (value source (given at') n) (u + source_delay (source n)) (horizon + 1)))))
 
   pub just_before_is : (at : ℕ → ℕ → Option Logic) (n s : ℕ) → just_before (value source (given at) n) s ≡ (before source (given at) s).value n
   unfolding history
@@ -158,25 +158,25 @@ module _ (source : ℕ → Source) (timed : (n : ℕ) → IsTimed (source n)) wh
   outside_steady at n (suc t) e none = outside_is source (given at) n (suc t) e ∙ (held-none (at n) (suc t) none ∙ sym (outside_is source (given at) n t e))
 
   -- what a log holds at a time below one delay past its mark
-  pub run_log-pair : (at : ℕ → ℕ → Option Logic) (mark horizon n t : ℕ) → IsDriven (source n) → t < mark + delay_of (source n) → t ≤ horizon →
+  pub run_log-pair : (at : ℕ → ℕ → Option Logic) (mark horizon n t : ℕ) → IsDriven (source n) → t < mark + source_delay (source n) → t ≤ horizon →
       pair_at (run_log source at mark horizon n) t ≡ change_option (value source (given at) n) t
   run_log-pair at mark horizon n t d l k =
-      rw d (ap (λ (xs : List Change). pair_at xs t) (before_time-changes (value source (given at) n) (mark + delay_of (source n)) (horizon + 1))
-      ∙ pair_at-changes (value source (given at) n) (min (mark + delay_of (source n)) (horizon + 1)) t (omega arith))
+      rw d (ap (λ (xs : List Change). pair_at xs t) (before_time-changes (value source (given at) n) (mark + source_delay (source n)) (horizon + 1))
+      ∙ pair_at-changes (value source (given at) n) (min (mark + source_delay (source n)) (horizon + 1)) t (omega arith))
 
   -- nothing past the horizon
   pub run_log-past : (at : ℕ → ℕ → Option Logic) (mark horizon n t : ℕ) → horizon < t → pair_at (run_log source at mark horizon n) t ≡ None
   run_log-past at mark horizon n t l = go (is_driven (source n))
     where
-      go : (b : Bool) → pair_at (cond b (before_time (mark + delay_of (source n)) (changes (value source (given at) n) (horizon + 1))) []) t ≡ None
+      go : (b : Bool) → pair_at (cond b (before_time (mark + source_delay (source n)) (changes (value source (given at) n) (horizon + 1))) []) t ≡ None
       go false = refl
-      go true = ap (λ (xs : List Change). pair_at xs t) (before_time-changes (value source (given at) n) (mark + delay_of (source n)) (horizon + 1))
-          ∙ pair_at-late (value source (given at) n) (min (mark + delay_of (source n)) (horizon + 1)) t (omega arith)
+      go true = ap (λ (xs : List Change). pair_at xs t) (before_time-changes (value source (given at) n) (mark + source_delay (source n)) (horizon + 1))
+          ∙ pair_at-late (value source (given at) n) (min (mark + source_delay (source n)) (horizon + 1)) t (omega arith)
 
   driven_steady : (at : ℕ → ℕ → Option Logic) (mark horizon n t : ℕ) → IsDriven (source n) → t ≤ mark → t ≤ horizon →
       pair_at (run_log source at mark horizon n) t ≡ None → value source (given at) n t ≡ (before source (given at) t).value n
   driven_steady at mark horizon n t d l k none =
-      let pos : 0 < delay_of (source n) = delayed (source n) (timed n) d in
+      let pos : 0 < source_delay (source n) = delayed (source n) (timed n) d in
       change_none (value source (given at) n) t (sym (run_log-pair at mark horizon n t d (omega arith) k) ∙ none) ∙ just_before_is at n t
 
   -- what happens to a net at a time, by a log or by its effective values
@@ -193,8 +193,8 @@ module _ (source : ℕ → Source) (timed : (n : ℕ) → IsTimed (source n)) wh
 
   -- (one step) a log at one mark more
   pub run_log-step : (at : ℕ → ℕ → Option Logic) (s horizon n : ℕ) → IsDriven (source n) →
-      run_log source at (suc s) horizon n ≡ run_log source at s horizon n ++ added (value source (given at) n) (s + delay_of (source n)) horizon
-  run_log-step at s horizon n d = rw d (before_grown (value source (given at) n) s (delay_of (source n)) horizon)
+      run_log source at (suc s) horizon n ≡ run_log source at s horizon n ++ added (value source (given at) n) (s + source_delay (source n)) horizon
+  run_log-step at s horizon n d = rw d (before_grown (value source (given at) n) s (source_delay (source n)) horizon)
 
   -- (quiet) Where the nets that the sources use keep their values at a time, going past it changes no log.
   pub run_log-quiet : (at : ℕ → ℕ → Option Logic) (s horizon : ℕ) (N : ℕ → Type 0) → ((n : ℕ) → IsDriven (source n) → IsOver N (source n)) →
@@ -203,7 +203,7 @@ module _ (source : ℕ → Source) (timed : (n : ℕ) → IsTimed (source n)) wh
   run_log-quiet at s horizon N over keeps n = elim (driven_or_not (source n)) [
     | inl d ↦ run_log-step at s horizon n d
         ∙ (ap (λ (xs : List Change). run_log source at s horizon n ++ xs)
-        (quiet_change (value source (given at) n) s (delay_of (source n)) horizon (delayed (source n) (timed n) d)
+        (quiet_change (value source (given at) n) s (source_delay (source n)) horizon (delayed (source n) (timed n) d)
         (λ t e. quiet_value source (given at) N s keeps n t (over n d) e))
         ∙ append-nil (run_log source at s horizon n))
     | inr e ↦ rw e refl

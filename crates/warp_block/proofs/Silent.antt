@@ -6,7 +6,7 @@ use Rattle.std.proofs.lemmas.List.Elements.{recursion_from_All}
 use Rattle.gate_values.specs.declared.logic.Logic.{Logic}
 use Rattle.gate_values.specs.declared.logic.Change.{Change}
 use Rattle.gate_values.specs.Tables.{table_of, flip_of}
-use Rattle.gate_values.specs.Behaviour.{Source, Outside, Gate, Flop, before, value, output, delay_of, history}
+use Rattle.gate_values.specs.Behaviour.{Source, Outside, Gate, Flop, before, value, output, source_delay, history}
 use Rattle.gate_values.specs.Changes.{pair_at}
 use Rattle.gate_values.proofs.Behaving.{value_is, content_is, map_agree}
 use Rattle.warp_block.specs.Inner.Building.{has}
@@ -36,10 +36,10 @@ module _ (source : ℕ → Source) (given : ℕ → ℕ → Logic) (N : ℕ → 
       ∙ (ap (λ (x : Logic). flip_of ((before source given s).content n) ((before source given s).value c) x ((before source given s).value d)) (same c o.0)
       ∙ flip_quiet ((before source given s).content n) ((before source given s).value c) ((before source given s).value d))
 
-  pub same_value : (n t : ℕ) → 0 < delay_of (source n) → AllByRecursion N (wakes (source n)) → s + delay_of (source n) ≡ suc t → value source given n (suc t) ≡ value source given n t
+  pub same_value : (n t : ℕ) → 0 < source_delay (source n) → AllByRecursion N (wakes (source n)) → s + source_delay (source n) ≡ suc t → value source given n (suc t) ≡ value source given n t
   same_value n t d o e =
-      let now : suc (suc t) - delay_of (source n) ≡ suc s = omega arith in
-      let then : suc t - delay_of (source n) ≡ s = omega arith in
+      let now : suc (suc t) - source_delay (source n) ≡ suc s = omega arith in
+      let then : suc t - source_delay (source n) ≡ s = omega arith in
       value_is source given n (suc t) (source n) refl d ∙ rw now (same_output n (source n) refl o ∙ rw (← then) (sym (value_is source given n t (source n) refl d)))
 
 -- what holds of the nets that a source uses holds of those that wake it
@@ -76,12 +76,12 @@ module _ (v : View) (is : IsLawful v) (state : Saved) (saved : IsSaved v state) 
     | inl d ↦ (let n : ℕ = get_or v.part.nets i 0 in
         let here = source_here v is i h in
         let driven : IsDriven (source (get_or v.part.nets i 0)) = ap is_driven here ∙ d in
-        let pos : 0 < delay_of (source (get_or v.part.nets i 0)) = delayed (source (get_or v.part.nets i 0)) (timed v.part is.part (get_or v.part.nets i 0)) driven in
+        let pos : 0 < source_delay (source (get_or v.part.nets i 0)) = delayed (source (get_or v.part.nets i 0)) (timed v.part is.part (get_or v.part.nets i 0)) driven in
         let woken : AllByRecursion (λ n. news_of v n s ≡ None) (wakes (source (get_or v.part.nets i 0))) = subst (λ (k : Source). AllByRecursion (λ n. news_of v n s ≡ None) (wakes k)) (sym here) none in
         emitted-driven v is state saved s now from until quiet i h d
-        ∙ quiet_change (block_value v (get_or v.part.nets i 0)) s (delay_of (source (get_or v.part.nets i 0))) v.horizon pos
+        ∙ quiet_change (block_value v (get_or v.part.nets i 0)) s (source_delay (source (get_or v.part.nets i 0))) v.horizon pos
         (λ t e. same_value source (given at) (λ n. news_of v n s ≡ None) s kept_value (get_or v.part.nets i 0) t pos woken e))
-    | inr o ↦ cond-false (is_driven (source_at v.part i)) (emitted_value (output (source_at v.part i) (moment_of v.part.nets state.values state.contents) (net_at v.part i)) (log_at v.logs i) (s + delay_of (source_at v.part i)) v.horizon) [] (ap is_driven o)
+    | inr o ↦ cond-false (is_driven (source_at v.part i)) (emitted_value (output (source_at v.part i) (moment_of v.part.nets state.values state.contents) (net_at v.part i)) (log_at v.logs i) (s + source_delay (source_at v.part i)) v.horizon) [] (ap is_driven o)
   ]
 
   -- the nets that wake a place which isn't among those that are woken
@@ -107,7 +107,7 @@ module _ (v : View) (is : IsLawful v) (state : Saved) (saved : IsSaved v state) 
     | inl d ↦ silent i h (none_of gates woken i h other (wakes (source_at v.part i)) (λ u e. e)
         (wakes_used (λ u. is_some (slot_of v.part.nets u) ≡ true) (source_at v.part i)
         (recursion_from_All (λ u. is_some (slot_of v.part.nets u) ≡ true) (uses (source_at v.part i)) (is.part.driven i h d).2)))
-    | inr o ↦ cond-false (is_driven (source_at v.part i)) (emitted_value (output (source_at v.part i) (moment_of v.part.nets state.values state.contents) (net_at v.part i)) (log_at v.logs i) (s + delay_of (source_at v.part i)) v.horizon) [] (ap is_driven o)
+    | inr o ↦ cond-false (is_driven (source_at v.part i)) (emitted_value (output (source_at v.part i) (moment_of v.part.nets state.values state.contents) (net_at v.part i)) (log_at v.logs i) (s + source_delay (source_at v.part i)) v.horizon) [] (ap is_driven o)
   ]
 
 -- What looks at the places that are listed at a time is all that news at the time can change.

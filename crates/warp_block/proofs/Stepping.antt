@@ -4,7 +4,7 @@ use Rattle.std.proofs.lemmas.Bool.{le-leb, lt-leb}
 use Rattle.gate_values.specs.declared.logic.Logic.{Logic}
 use Rattle.gate_values.specs.declared.logic.Change.{Change}
 use Rattle.gate_values.specs.Tables.{table_of}
-use Rattle.gate_values.specs.Behaviour.{Source, Outside, Gate, Flop, Moment, before, value, delay_of, history, next_content, output}
+use Rattle.gate_values.specs.Behaviour.{Source, Outside, Gate, Flop, Moment, before, value, source_delay, history, next_content, output}
 use Rattle.gate_values.specs.Inner.Behaviour.{IsOver}
 use Rattle.gate_values.specs.Changes.{changes}
 use Rattle.gate_values.proofs.Behaving.{content_is, value_is, map_agree}
@@ -28,7 +28,7 @@ module _ (source : ℕ → Source) (timed : (n : ℕ) → IsTimed (source n)) (a
   -- what a source makes of a moment that is as right after a time
   pub output_next : (n : ℕ) (src : Source) → source n ≡ src → IsDriven src → IsOver N src → (m : Moment) →
       ((i : ℕ) → N i → m.value i ≡ (before source (given at) (suc s)).value i) → m.content n ≡ (before source (given at) (suc s)).content n →
-      output src m n ≡ value source (given at) n (s + delay_of src)
+      output src m n ≡ value source (given at) n (s + source_delay src)
   output_next n Outside e d o m values contents = cc
   output_next n (Gate kind delay inputs) e d o m values contents =
       let back_there : suc (s + delay) - delay ≡ suc s = omega arith in
@@ -47,8 +47,8 @@ emitted_change f v log t horizon v_is log_is = elim (le_cases t horizon) [
 ]
 
 -- a log at a time, up to one delay past it
-pub run_log-changes : (source : ℕ → Source) (at : ℕ → ℕ → Option Logic) (s horizon n : ℕ) → IsDriven (source n) → s + delay_of (source n) ≤ horizon →
-    run_log source at s horizon n ≡ changes (value source (given at) n) (s + delay_of (source n))
+pub run_log-changes : (source : ℕ → Source) (at : ℕ → ℕ → Option Logic) (s horizon n : ℕ) → IsDriven (source n) → s + source_delay (source n) ≤ horizon →
+    run_log source at s horizon n ≡ changes (value source (given at) n) (s + source_delay (source n))
 run_log-changes source at s horizon n d l =
-    let e : min (s + delay_of (source n)) (horizon + 1) ≡ s + delay_of (source n) = omega arith in
-    rw d (before_time-changes (value source (given at) n) (s + delay_of (source n)) (horizon + 1) ∙ ap (changes (value source (given at) n)) e)
+    let e : min (s + source_delay (source n)) (horizon + 1) ≡ s + source_delay (source n) = omega arith in
+    rw d (before_time-changes (value source (given at) n) (s + source_delay (source n)) (horizon + 1) ∙ ap (changes (value source (given at) n)) e)

@@ -4,7 +4,7 @@ use Rattle.std.specs.List.Sorted.{IsStrictlyIncreasing}
 use Rattle.std.proofs.lemmas.Bool.{cases_Bool, true≢false}
 use Rattle.std.proofs.lemmas.List.{get_or-take, length-take}
 use Rattle.gate_values.specs.declared.logic.Change.{Change}
-use Rattle.gate_values.specs.Behaviour.{Source, Moment, delay_of}
+use Rattle.gate_values.specs.Behaviour.{Source, Moment, source_delay}
 use Rattle.gate_values.specs.Changes.{before_time}
 use Rattle.warp_block.specs.declared.message.Message.{Message}
 use Rattle.warp_block.specs.declared.message.Sign.TheVariants.{Plus}
@@ -59,10 +59,10 @@ module _ (v : View) (is : IsLawful v) (state : Saved) (saved : IsSaved v state) 
     ]
 
     -- a log that has no change of the time, or of later ones, stays when it is cut there
-    uncut : (i : ℕ) → i < length v.part.nets → before_time (s + delay_of (source_at v.part i)) (log_at v.logs i) ≡ log_at v.logs i
+    uncut : (i : ℕ) → i < length v.part.nets → before_time (s + source_delay (source_at v.part i)) (log_at v.logs i) ≡ log_at v.logs i
     uncut i h =
-        ap (before_time (s + delay_of (source_at v.part i))) (kept_log v is state saved s now from until quiet i h)
-        ∙ (ap (λ (x : Source). before_time (s + delay_of x) (run_log (source_of v.part) (effective_at v) s v.horizon (get_or v.part.nets i 0))) (sym (source_here v is i h))
+        ap (before_time (s + source_delay (source_at v.part i))) (kept_log v is state saved s now from until quiet i h)
+        ∙ (ap (λ (x : Source). before_time (s + source_delay x) (run_log (source_of v.part) (effective_at v) s v.horizon (get_or v.part.nets i 0))) (sym (source_here v is i h))
         ∙ (run_log-cut (source_of v.part) (timed v.part is.part) (effective_at v) (effective_at v) s s v.horizon (get_or v.part.nets i 0) (omega arith) (λ n u below. refl)
         ∙ sym (kept_log v is state saved s now from until quiet i h)))
 
@@ -72,7 +72,7 @@ module _ (v : View) (is : IsLawful v) (state : Saved) (saved : IsSaved v state) 
         cut_back v is state saved s now from until quiet logs len cut cut_len (IsPartlyEmitted-from v.part m s v.horizon (take j gates) v.logs logs stepped) (record {
           below = λ i l. elim (cases_Bool (has gates i)) [
             | inl yes_ ↦ back.done i yes_
-            | inr no_ ↦ (let same = stepped.kept i (not_yet i no_) in back.kept i no_ ∙ (same ∙ (sym (uncut i l) ∙ ap (before_time (s + delay_of (source_at v.part i))) (sym same))))
+            | inr no_ ↦ (let same = stepped.kept i (not_yet i no_) in back.kept i no_ ∙ (same ∙ (sym (uncut i l) ∙ ap (before_time (s + source_delay (source_at v.part i))) (sym same))))
           ];
           above = λ i l. back.kept i (elim (cases_Bool (has gates i)) [ inl yes_ ↦ (let k = has_below gates (length v.part.nets) i within yes_ in absurd (omega (arith, k, l))) | inr no_ ↦ no_ ]);
         })

@@ -3,7 +3,7 @@
 use Rattle.std.specs.Prelude.{◌≡◌, ℕ, ◌+◌, ◌-◌, ◌<◌, ◌≤◌, IsTrue, if◌then◌else◌, List, [], ◌∷◌, map, length, get_or}
 use Rattle.std.specs.List.{All}
 use Rattle.gate_values.specs.declared.logic.Change.{Change}
-use Rattle.gate_values.specs.Behaviour.{delay_of}
+use Rattle.gate_values.specs.Behaviour.{source_delay}
 use Rattle.gate_values.specs.Changes.{changes, before_time}
 use Rattle.warp_block.specs.declared.state.TheConstants.{SAVE_EVERY}
 use Rattle.warp_block.specs.Entries.{no_messages, is_settled, IsQueue}
@@ -14,7 +14,7 @@ use Rattle.warp_block.specs.View.{View, Saved, Process, entry_of, block_value, m
 -- The log of an own net: of the changes of its value up to the horizon, those less than one delay past the mark.
 abbrev pub lawful_log : View → ℕ → List Change
 lawful_log v n =
-    if owns v.part n then before_time (v.mark + delay_of (source_of v.part n)) (changes (block_value v n) (v.horizon + 1)) else []
+    if owns v.part n then before_time (v.mark + source_delay (source_of v.part n)) (changes (block_value v n) (v.horizon + 1)) else []
 
 -- Entries and mark determine the logs. Everything below the floor is processed, and settled; there is nothing past the
 -- horizon.

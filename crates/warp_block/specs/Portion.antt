@@ -2,7 +2,8 @@
 use Rattle.std.specs.Prelude.{◌≡◌, ◌≢◌, ℕ, ◌<◌, ◌≤◌, ◌^◌, Bool, true, false, not, ◌&&◌, ◌==◌, Option, Some, None, is_some, IsTrue, List, [], ◌∷◌, length, get_or, slice_index}
 use Rattle.std.specs.List.{list_any, position, All}
 use Rattle.std.specs.List.Sorted.{IsStrictlyIncreasing}
-use Rattle.gate_values.specs.Behaviour.{Source, Outside, Gate, Flop, IsWellFormed, delay_of}
+use Rattle.gate_values.specs.Behaviour.{Source, Outside, Gate, Flop, IsWellFormed, source_delay}
+use Rattle.gate_netlist.specs.Circuit.{IsDelay}
 
 -- The nets stand in ascending order, each with what sets it (a net that the block reads and doesn't own is set
 -- outside), whether it is an input of the circuit, and the other blocks that read it, which only an own net has.
@@ -69,10 +70,6 @@ readers_of p n = of_net p.nets p.readers [] n
 abbrev pub is_used : Portion → ℕ → Bool
 is_used p n = list_any (does_use n) p.sources
 
--- the delay of a gate or flip-flop
-abbrev pub IsDelay : ℕ → Type 0
-IsDelay d = (1 ≤ d) × (d ≤ 1000000)
-
 -- What is true of each part that a block can have. The readers of a net ascend, the block isn't among them, and a net
 -- that it doesn't own has none.
 pub record IsPortion (p : Portion) : Type 0 where
@@ -81,7 +78,7 @@ pub record IsPortion (p : Portion) : Type 0 where
   pub sources : length p.sources ≡ length p.nets
   pub inputs : length p.inputs ≡ length p.nets
   pub readers : length p.readers ≡ length p.nets
-  pub driven : (i : ℕ) → i < length p.nets → IsTrue (is_driven (get_or p.sources i Outside)) → IsWellFormed (get_or p.sources i Outside) × IsDelay (delay_of (get_or p.sources i Outside)) × All (λ u. IsTrue (is_some (slot_of p.nets u))) (uses (get_or p.sources i Outside))
+  pub driven : (i : ℕ) → i < length p.nets → IsTrue (is_driven (get_or p.sources i Outside)) → IsWellFormed (get_or p.sources i Outside) × IsDelay (source_delay (get_or p.sources i Outside)) × All (λ u. IsTrue (is_some (slot_of p.nets u))) (uses (get_or p.sources i Outside))
   pub input : (i : ℕ) → i < length p.nets → IsTrue (get_or p.inputs i false) → get_or p.sources i Outside ≡ Outside
   pub read : (i : ℕ) → i < length p.nets → get_or p.sources i Outside ≡ Outside → IsTrue (is_used p (slice_index p.nets i))
   pub told : (i : ℕ) → i < length p.nets → IsStrictlyIncreasing (get_or p.readers i [])

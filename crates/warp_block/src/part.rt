@@ -3,7 +3,7 @@ ghost use Rattle.std.specs.List.{All};
 ghost use Rattle.std.specs.Cmp.Rules.{comparing};
 ghost use Rattle.std.proofs.Common.{rules};
 ghost use Rattle.gate_values.specs.declared.logic.Logic.TheVariants.{X};
-ghost use Rattle.gate_values.specs.Behaviour.{Outside, output as source_output, next_content as source_content, delay_of, initial_of};
+ghost use Rattle.gate_values.specs.Behaviour.{Outside, output as source_output, next_content as source_content, source_delay, initial_of};
 ghost use Rattle.gate_netlist.specs.Circuit.{CutFits};
 ghost use Rattle.warp_block.specs.Portion.{IsPortion, slot_of, owns, reads, hears, is_used, is_driven};
 ghost use Rattle.warp_block.specs.PartOf.{part_of};
@@ -169,7 +169,7 @@ impl Part {
     /// The delay of the net at a place; 0 for a net that the block doesn't own.
     pub(crate) fn delay(&self, slot: usize) -> u64
         requires { slot < length self.now.nets }
-        ensures delay { result ≡ delay_of (get_or self.now.sources slot Outside) }
+        ensures delay { result ≡ source_delay (get_or self.now.sources slot Outside) }
         ensures within { result ≤ 1000000 }
     {
         match self.cells[slot] {

@@ -2,7 +2,7 @@
 use Rattle.std.specs.Prelude.{◌≡◌, ℕ, List, Option, Ok, Err, false, true, ◌⊎◌}
 use Rattle.warp_command.specs.Deliveries.{Delivers}
 use Rattle.warp_command.specs.Failures.{failure_status, failure_text}
-use Rattle.warp_command.specs.Replies.{Reply, Gives, Replies}
+use Rattle.warp_command.specs.Replies.{Reply, Fetching, Replies}
 use Rattle.warp_command.specs.declared.failure.Failure.{Failure}
 use Rattle.warp_command.specs.declared.failure.Failure.TheVariants as failures
 use Rattle.warp_command.specs.declared.ending.Ending.{Ending}
@@ -34,7 +34,7 @@ IsShown (Ok text) ending before after = IsWritten text.items ending before after
 IsShown (Err failure) ending before after = IsTold failure ending before after × (after.out ≡ before.out)
 
 -- a request is answered over the texts, and the answer is shown
-pub record Executes {T : Type 0} (gives : Gives T) (request : Request) (old new : T) (ending : Ending) (before after : Channels) : Type 0 where
+pub record Executes {T : Type 0} (gives : Fetching T) (request : Request) (old new : T) (ending : Ending) (before after : Channels) : Type 0 where
   pub reply : Reply
   pub replied : Replies gives request old reply new
   pub shown : IsShown reply ending before after
@@ -46,6 +46,6 @@ pub record Refuses {T : Type 0} (old new : T) (ending : Ending) (before after : 
   pub shown : IsShown (Err failure) ending before after
 
 -- a line is answered, as the request that it is read as or as one that is refused
-abbrev pub Answers : {T : Type 0} → Gives T → (old new : T) → Ending → (before after : Channels) → Type 0
+abbrev pub Answers : {T : Type 0} → Fetching T → (old new : T) → Ending → (before after : Channels) → Type 0
 Answers gives old new ending before after =
     ((request : Request) × Executes gives request old new ending before after) ⊎ Refuses old new ending before after

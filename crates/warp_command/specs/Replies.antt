@@ -26,8 +26,8 @@ abbrev pub Reply : Type 0
 Reply = Result (Vec ℕ Global) Failure
 
 -- what a fetch of a name may answer, and what it leaves
-abbrev pub Gives : Type 0 → Type 1
-Gives T = T → List ℕ → Result (Vec ℕ Global) FetchFault → T → Type 0
+abbrev pub Fetching : Type 0 → Type 1
+Fetching T = T → List ℕ → Result (Vec ℕ Global) FetchFault → T → Type 0
 
 -- something is done with the texts' source, which answers and is left in a state
 abbrev pub Step : Type 0 → Type 1
@@ -49,14 +49,14 @@ abbrev pub Ends : {T : Type 0} → (Reply → Type 0) → Step T
 Ends IsResult old result new = IsResult result × (new ≡ old)
 
 -- the text of a name, which the program can't read or has no memory for where the fetch fails
-abbrev pub Fetches : {T : Type 0} → Gives T → List ℕ → Step T
+abbrev pub Fetches : {T : Type 0} → Fetching T → List ℕ → Step T
 Fetches gives name old (Ok text) new = gives old name (Ok text) new
 Fetches gives name old (Err (failures.Unreadable unread)) new = gives old name (Err fetches.Unreadable) new × (unread.now ≡ name)
 Fetches gives name old (Err (failures.Fault fault)) new = gives old name (Err fetches.Memory) new × (fault ≡ faults.Memory)
 Fetches gives name old (Err _) new = ⊥
 
 -- the settings' text, empty where the line names none
-abbrev pub FetchesSettings : {T : Type 0} → Gives T → Option (Bor (List ℕ)) → Step T
+abbrev pub FetchesSettings : {T : Type 0} → Fetching T → Option (Bor (List ℕ)) → Step T
 FetchesSettings gives None = Ends (λ result. IsOkAnd result (λ text. text.items ≡ []))
 FetchesSettings gives (Some name) = Fetches gives name.now
 
@@ -66,23 +66,23 @@ IsSimulated bench settings stimulus until (Err (failures.Fault fault)) = IsAnswe
 IsSimulated bench settings stimulus until (Err _) = ⊥
 
 -- standard input holds both texts
-abbrev pub RunsJoined : {T : Type 0} → Gives T → List ℕ → ℕ → Step T
+abbrev pub RunsJoined : {T : Type 0} → Fetching T → List ℕ → ℕ → Step T
 RunsJoined gives settings until =
     Then (Fetches gives (codes "-")) (λ joined.
     Ends (IsSimulated (before_parting (lines joined.items)) settings (after_parting (lines joined.items)) until))
 
 -- each text has its name
-abbrev pub RunsApart : {T : Type 0} → Gives T → (bench_name stimulus_name : List ℕ) → List ℕ → ℕ → Step T
+abbrev pub RunsApart : {T : Type 0} → Fetching T → (bench_name stimulus_name : List ℕ) → List ℕ → ℕ → Step T
 RunsApart gives bench_name stimulus_name settings until =
     Then (Fetches gives bench_name) (λ bench.
     Then (Fetches gives stimulus_name) (λ stimulus.
     Ends (IsSimulated bench.items settings stimulus.items until)))
 
-abbrev pub RunsSources : {T : Type 0} → Gives T → Sources → List ℕ → ℕ → Step T
+abbrev pub RunsSources : {T : Type 0} → Fetching T → Sources → List ℕ → ℕ → Step T
 RunsSources gives sources.Joined = RunsJoined gives
 RunsSources gives (sources.Apart bench stimulus) = RunsApart gives bench.now stimulus.now
 
-abbrev pub Runs : {T : Type 0} → Gives T → Run → Step T
+abbrev pub Runs : {T : Type 0} → Fetching T → Run → Step T
 Runs gives run = Then (FetchesSettings gives run.settings) (λ settings. RunsSources gives run.sources settings.items run.options.until)
 
 abbrev pub IsReplayed : (bench settings stimulus schedule : List ℕ) → Option ℕ → ℕ → Reply → Type 0
@@ -91,7 +91,7 @@ IsReplayed bench settings stimulus schedule blocks until (Err (failures.Fault fa
 IsReplayed bench settings stimulus schedule blocks until (Err _) = ⊥
 
 -- a schedule is played
-abbrev pub Replays : {T : Type 0} → Gives T → Replay → Step T
+abbrev pub Replays : {T : Type 0} → Fetching T → Replay → Step T
 Replays gives replay =
     Then (FetchesSettings gives replay.settings) (λ settings.
     Then (Fetches gives replay.bench.now) (λ bench.
@@ -106,7 +106,7 @@ IsCountReply bench settings (Err (failures.Fault faults.Memory)) = Unit {0}
 IsCountReply bench settings (Err (failures.Fault fault)) = IsCounted bench settings (Err fault)
 IsCountReply bench settings (Err _) = ⊥
 
-abbrev pub Checks : {T : Type 0} → Gives T → Check → Step T
+abbrev pub Checks : {T : Type 0} → Fetching T → Check → Step T
 Checks gives check =
     Then (FetchesSettings gives check.settings) (λ settings.
     Then (Fetches gives check.bench.now) (λ bench.
@@ -118,14 +118,14 @@ IsNetsReply bench settings (Ok text) = IsListed bench settings (Ok text)
 IsNetsReply bench settings (Err (failures.Fault fault)) = IsListed bench settings (Err fault)
 IsNetsReply bench settings (Err _) = ⊥
 
-abbrev pub Lists : {T : Type 0} → Gives T → Listing → Step T
+abbrev pub Lists : {T : Type 0} → Fetching T → Listing → Step T
 Lists gives listing =
     Then (FetchesSettings gives listing.settings) (λ settings.
     Then (Fetches gives listing.bench.now) (λ bench.
     Ends (IsNetsReply bench.items settings.items)))
 
 -- what a request is answered
-abbrev pub Replies : {T : Type 0} → Gives T → Request → Step T
+abbrev pub Replies : {T : Type 0} → Fetching T → Request → Step T
 Replies gives (requests.Help text) = Ends (λ result. IsOkAnd result (λ shown. shown.items ≡ string_bytes text))
 Replies gives (requests.Run run) = Runs gives run
 Replies gives (requests.Replay replay) = Replays gives replay

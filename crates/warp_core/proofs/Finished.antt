@@ -2,7 +2,7 @@
 use Rattle.std.proofs.Common.{◌≡◌, ℕ, suc, ◌+◌, ◌≤◌, min, true, List, [], inl, inr, ap, sym, subst, ◌∙◌, arith}
 use Rattle.std.proofs.lemmas.Bool.{cases_Bool, cases_lt, cond-true, cond-false}
 use Rattle.gate_values.specs.declared.logic.Change.{Change}
-use Rattle.gate_values.specs.Behaviour.{delay_of}
+use Rattle.gate_values.specs.Behaviour.{source_delay}
 use Rattle.gate_values.specs.Changes.{changes, before_time, latest}
 use Rattle.gate_values.specs.declared.logic.Logic.TheVariants.{X}
 use Rattle.gate_values.proofs.ChangeLists.{before_time-changes}
@@ -26,13 +26,13 @@ module _ (v : View) (is : IsLawful v) where
   abbrev logged : ℕ → ℕ → List Change
   logged m n = run_log (source_of v.part) (effective_at v) m v.horizon n
 
-  logged-own : (m n : ℕ) → owns v.part n ≡ true → logged m n ≡ changes (block_value v n) (min (m + delay_of (source_of v.part n)) (v.horizon + 1))
-  logged-own m n own = cond-true (owns v.part n) _ [] own ∙ before_time-changes (block_value v n) (m + delay_of (source_of v.part n)) (v.horizon + 1)
+  logged-own : (m n : ℕ) → owns v.part n ≡ true → logged m n ≡ changes (block_value v n) (min (m + source_delay (source_of v.part n)) (v.horizon + 1))
+  logged-own m n own = cond-true (owns v.part n) _ [] own ∙ before_time-changes (block_value v n) (m + source_delay (source_of v.part n)) (v.horizon + 1)
 
   -- past the horizon nothing is missing
   logged-late : (m n : ℕ) → owns v.part n ≡ true → suc v.horizon ≤ m → logged m n ≡ changes (block_value v n) (v.horizon + 1)
   logged-late m n own late =
-      logged-own m n own ∙ ap (changes (block_value v n)) (let e : min (m + delay_of (source_of v.part n)) (v.horizon + 1) ≡ v.horizon + 1 = omega arith in e)
+      logged-own m n own ∙ ap (changes (block_value v n)) (let e : min (m + source_delay (source_of v.part n)) (v.horizon + 1) ≡ v.horizon + 1 = omega arith in e)
 
   -- the log of a net, once no event time is left
   pub finished_log : IsDone v → (n : ℕ) → owns v.part n ≡ true → log_of v n ≡ changes (block_value v n) (v.horizon + 1)
@@ -47,7 +47,7 @@ module _ (v : View) (is : IsLawful v) where
   pub log_wave : (n : ℕ) → IsWaveUntil v.horizon (log_of v n)
   log_wave n = subst (IsWaveUntil v.horizon) (sym (log_of-lawful v is n)) (elim (cases_Bool (owns v.part n)) [
     | inl own ↦
-        (let w = changes-IsWave (block_value v n) (min (v.mark + delay_of (source_of v.part n)) (v.horizon + 1)) in
+        (let w = changes-IsWave (block_value v n) (min (v.mark + source_delay (source_of v.part n)) (v.horizon + 1)) in
         subst (IsWaveUntil v.horizon) (sym (logged-own v.mark n own)) (w.0, omega (arith, w.1)))
     | inr other ↦ subst (IsWaveUntil v.horizon) (sym (cond-false (owns v.part n) _ [] other)) (tt, omega arith)
   ])

@@ -4,7 +4,7 @@ use Rattle.std.specs.List.{AllByRecursion}
 use Rattle.std.proofs.lemmas.Bool.{cases_Bool, and_from}
 use Rattle.gate_values.specs.declared.logic.Logic.{Logic}
 use Rattle.gate_values.specs.declared.logic.Change.{Change}
-use Rattle.gate_values.specs.Behaviour.{Source, Outside, Gate, Flop, delay_of}
+use Rattle.gate_values.specs.Behaviour.{Source, Outside, Gate, Flop, source_delay}
 use Rattle.gate_values.specs.Inner.Behaviour.{IsOver}
 use Rattle.gate_values.specs.Changes.{changes, pair_at}
 use Rattle.gate_values.proofs.Behaving.{Joined, same_values, outside_is}
@@ -31,7 +31,7 @@ over_more M N h Outside o = absurd o
 over_more M N h (Gate kind delay inputs) o = (o.0, each_more M N h inputs o.1)
 over_more M N h (Flop delay d c i) o = (o.0, h d o.1, h c o.2)
 
-delayed : (N : ℕ → Type 0) (s : Source) → IsOver N s → 0 < delay_of s
+delayed : (N : ℕ → Type 0) (s : Source) → IsOver N s → 0 < source_delay s
 delayed N Outside o = absurd o
 delayed N (Gate kind delay inputs) o = o.0
 delayed N (Flop delay d c i) o = o.0
@@ -70,7 +70,7 @@ module _ (d : Design) (cut : Ownership) (g : Given) (horizon : ℕ) (blocks : Li
   ReadBelow u = (b i : ℕ) → Reads b i → (t : ℕ) → t < u → block_value (view b) i t ≡ value_under d g i t
 
   -- then so has each own net, one delay longer
-  own_below : (u : ℕ) → ReadBelow u → (b n t : ℕ) → Owns b n → t < u + delay_of (source_of (view b).part n) → block_value (view b) n t ≡ value_under d g n t
+  own_below : (u : ℕ) → ReadBelow u → (b n t : ℕ) → Owns b n → t < u + source_delay (source_of (view b).part n) → block_value (view b) n t ≡ value_under d g n t
   unfolding ReadBelow
   own_below u below b n t o l =
       let joined : Joined (source_of (view b).part) (circuit_source d) (received (view b)) (given_by g) (Owns b) (Reads b) u =
@@ -114,7 +114,7 @@ module _ (d : Design) (cut : Ownership) (g : Given) (horizon : ℕ) (blocks : Li
           ∙ sym (outside_is (circuit_source d) (given_by g) i t (unowned_outside d cut fits i (read_within b i r) e))
       by_owner (Some o) e =
           let owns_it = owner_is o i e in
-          let d_ : 0 < delay_of (source_of (view o).part i) = delayed _ _ (over o i owns_it) in
+          let d_ : 0 < source_delay (source_of (view o).part i) = delayed _ _ (over o i owns_it) in
           told_value b i (block_value (view o) i) r (log_changes o i e) t (omega arith)
           ∙ own_below u below o i t owns_it (omega arith)
 

@@ -7,7 +7,7 @@ use Rattle.gate_netlist.specs.declared.counts.Counts.{Counts}
 use Rattle.gate_netlist.specs.declared.fault.SettingsFault.TheVariants as settings
 use Rattle.gate_netlist.specs.Netlist.{Netlist}
 use Rattle.gate_netlist.specs.Bench.{bench_of}
-use Rattle.gate_netlist.specs.Meaning.{IsAnswer as IsSettled}
+use Rattle.gate_netlist.specs.Meaning.{IsSettled}
 use Rattle.gate_netlist.specs.Circuit.{Design, nets_of, source_of}
 use Rattle.gate_netlist.specs.Counts.{counts_of}
 use Rattle.gate_vcd.specs.Stimulus.{Reading, reading_of, signal}

@@ -8,7 +8,7 @@ ghost use Rattle.toml.specs.View.{view, table_view};
 ghost use Rattle.gate_netlist.specs.Settings.{as_delay, table_at, clock_name};
 ghost use Rattle.gate_netlist.specs.Netlist.{any_net};
 ghost use Rattle.gate_netlist.specs.Symbols.{is_letter};
-ghost use Rattle.gate_netlist.specs.Causes.{is_input_line, is_flop_line, is_driven, is_flop_name, any_member, is_unknown_top, is_gate_key, has_unknown_key, has_unknown_net, is_bad_delay, has_bad_delay, is_name, is_missing_clock, lacks_clock, has_bad_clock, has_bad_init, has_bad_block, cause_of};
+ghost use Rattle.gate_netlist.specs.Causes.{is_input_line, is_flop_line, is_driven_name, is_flop_name, any_member, is_unknown_top, is_gate_key, has_unknown_key, has_unknown_net, is_bad_delay, has_bad_delay, is_name, is_missing_clock, lacks_clock, has_bad_clock, has_bad_init, has_bad_block, cause_of};
 
 use super::flops::clock_of_flop;
 use super::members::{any_member, any_member_at, any_net};
@@ -89,7 +89,7 @@ fn has_unknown_net(bench: &Bench, table: &Table) -> bool
 }
 
 fn has_unknown_net_at(bench: &Bench, table: &Table, key: &str) -> bool
-    ensures { result ≡ any_member (λ k d. not (is_driven bench.now k)) (table_at key.now (table_view table.now)) }
+    ensures { result ≡ any_member (λ k d. not (is_driven_name bench.now k)) (table_at key.now (table_view table.now)) }
 {
     any_member_at(table, key, |name, _| !is_driven(bench, name))
 }
@@ -118,7 +118,7 @@ fn is_flop_line(definition: &Definition) -> bool
 
 /// Whether the name is that of a net that isn't an input.
 fn is_driven(bench: &Bench, name: &str) -> bool
-    ensures { result ≡ is_driven bench.now name.now }
+    ensures { result ≡ is_driven_name bench.now name.now }
 {
     match bench.names.get_index_of(name) {
         Some(net) => !is_input_line(&bench.definitions[net]),

@@ -2,7 +2,7 @@
 use Rattle.std.specs.Prelude.{◌≡◌, ◌≢◌, ℕ, ◌+◌, ◌≤◌, ◌<◌, ◌⊎◌, Bool, false, ◌&&◌, ◌==◌, IsTrue, is_some, List, [], length}
 use Rattle.std.specs.List.{list_any}
 use Rattle.gate_values.specs.declared.logic.Change.{Change}
-use Rattle.gate_values.specs.Behaviour.{delay_of}
+use Rattle.gate_values.specs.Behaviour.{source_delay}
 use Rattle.gate_values.specs.Changes.{pair_at}
 use Rattle.warp_block.specs.declared.journal.Note.{Note}
 use Rattle.warp_block.specs.Inner.Building.{has}
@@ -30,7 +30,7 @@ has_note notes t i = list_any (λ (n : Note). (n.time == t) && (n.place == i)) n
 -- Each change that stands in a log because of a time from the floor on is noted. There may be more notes, but none of the
 -- mark or of later times.
 pub record IsNoted (v : View) (notes : List Note) : Type 0 where
-  pub noted : (t i : ℕ) → v.floor ≤ t → i < length v.part.nets → IsTrue (is_some (pair_at (log_at v.logs i) (t + delay_of (source_at v.part i)))) → IsTrue (has_note notes t i)
+  pub noted : (t i : ℕ) → v.floor ≤ t → i < length v.part.nets → IsTrue (is_some (pair_at (log_at v.logs i) (t + source_delay (source_at v.part i)))) → IsTrue (has_note notes t i)
   pub below : (t i : ℕ) → IsTrue (has_note notes t i) → t < v.mark
   pub within : (t i : ℕ) → IsTrue (has_note notes t i) → i < length v.part.nets
 
@@ -41,11 +41,11 @@ pub record IsNotedMore (count time : ℕ) (old new : List Note) : Type 0 where
 
 -- A place whose log has changed stands in the index, one delay after a time, and is noted at the time.
 abbrev pub IsFound : Portion → ℕ → ℕ → (ℕ → List ℕ) → List Note → Type 0
-IsFound p s i places notes = IsTrue (has (places (s + delay_of (source_at p i))) i) × IsTrue (has_note notes s i)
+IsFound p s i places notes = IsTrue (has (places (s + source_delay (source_at p i))) i) × IsTrue (has_note notes s i)
 
 abbrev pub AreFound : Portion → ℕ → List (List Change) → List (List Change) → (ℕ → List ℕ) → List Note → Type 0
 AreFound p s before logs places notes = (i : ℕ) → (log_at logs i ≡ log_at before i) ⊎ IsFound p s i places notes
 
 -- places other than some have logged nothing because of a time or of later ones
 abbrev pub IsRestEarly : View → ℕ → List ℕ → Type 0
-IsRestEarly v time places = (i : ℕ) → i < length v.part.nets → has places i ≡ false → since_time (time + delay_of (source_at v.part i)) (log_at v.logs i) ≡ []
+IsRestEarly v time places = (i : ℕ) → i < length v.part.nets → has places i ≡ false → since_time (time + source_delay (source_at v.part i)) (log_at v.logs i) ≡ []

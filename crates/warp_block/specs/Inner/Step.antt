@@ -4,7 +4,7 @@ use Rattle.std.specs.List.{flat_map, filter}
 use Rattle.gate_values.specs.declared.logic.Logic.{Logic}
 use Rattle.gate_values.specs.declared.logic.Logic.TheVariants.{X}
 use Rattle.gate_values.specs.declared.logic.Change.{Change}
-use Rattle.gate_values.specs.Behaviour.{Source, Outside, Moment, output, delay_of}
+use Rattle.gate_values.specs.Behaviour.{Source, Outside, Moment, output, source_delay}
 use Rattle.gate_values.specs.Changes.{same, last_value, before_time}
 use Rattle.warp_block.specs.declared.message.Message.{Message}
 use Rattle.warp_block.specs.declared.message.Sign.{Sign}
@@ -29,7 +29,7 @@ emitted_value v log t horizon =
 -- the change that the gate or flip-flop at a place makes one delay after a time, if it makes one by the horizon
 abbrev pub emitted : Portion → Moment → ℕ → List Change → ℕ → ℕ → List Change
 emitted p m i log s horizon =
-    if is_driven (source_at p i) then emitted_value (output (source_at p i) m (net_at p i)) log (s + delay_of (source_at p i)) horizon else []
+    if is_driven (source_at p i) then emitted_value (output (source_at p i) m (net_at p i)) log (s + source_delay (source_at p i)) horizon else []
 
 -- the changes from a time on
 abbrev pub since_time : ℕ → List Change → List Change
@@ -60,7 +60,7 @@ IsPartlyEmitted p m s horizon before logs =
 
 -- the logs of the first places have lost what was added from the mark on
 pub record AreCut (p : Portion) (mark i : ℕ) (before logs : List (List Change)) : Type 0 where
-  pub below : (k : ℕ) → k < i → log_at logs k ≡ before_time (mark + delay_of (source_at p k)) (log_at before k)
+  pub below : (k : ℕ) → k < i → log_at logs k ≡ before_time (mark + source_delay (source_at p k)) (log_at before k)
   pub above : (k : ℕ) → i ≤ k → log_at logs k ≡ log_at before k
 
 -- what a log becomes when its place has added what it emits
@@ -69,7 +69,7 @@ with_emitted p m s horizon i log = log ++ emitted p m i log s horizon
 
 -- what a log becomes when it has lost what was added because of the mark or of later times
 abbrev pub cut_from : Portion → ℕ → ℕ → List Change → List Change
-cut_from p mark i log = before_time (mark + delay_of (source_at p i)) log
+cut_from p mark i log = before_time (mark + source_delay (source_at p i)) log
 
 -- the logs of some places have made a step each, and the others haven't
 pub record AreStepped (step : ℕ → List Change → List Change) (places : List ℕ) (before logs : List (List Change)) : Type 0 where

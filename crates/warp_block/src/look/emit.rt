@@ -2,7 +2,7 @@ ghost use Rattle.std.specs.Prelude.{◌≡◌, IsTrue, [], ◌≤◌, ◌<◌, �
 ghost use Rattle.std.specs.List.{All, flat_map};
 ghost use Rattle.std.specs.List.Sorted.{IsStrictlyIncreasing};
 ghost use Rattle.std.specs.Option.{option_to_list};
-ghost use Rattle.gate_values.specs.Behaviour.{delay_of};
+ghost use Rattle.gate_values.specs.Behaviour.{source_delay};
 ghost use Rattle.warp_block.specs.Inner.Agenda.{places_at};
 ghost use Rattle.warp_block.specs.Inner.Building.{has};
 ghost use Rattle.warp_block.specs.Inner.Index.{has_note, IsIndexed, IsNoted, IsGrown, IsNotedMore, IsFound, AreFound};
@@ -152,7 +152,7 @@ fn next_change(
     requires contents { length contents.now ≡ length part.now.nets }
     requires time { time ≤ horizon }
     requires horizon { horizon ≤ most_horizon }
-    ensures later { IfOk result (λ change. IfSome change (λ c. c.time ≡ time + delay_of (source_at part.now slot))) }
+    ensures later { IfOk result (λ change. IfSome change (λ c. c.time ≡ time + source_delay (source_at part.now slot))) }
     ensures emitted { IfOk result (λ change. option_to_list change ≡ emitted part.now (moment_of part.now.nets values.now contents.now) slot log.now time horizon) }
 {
     if !part.is_own(slot) {
@@ -181,7 +181,7 @@ fn put_change(
     out: &mut Vec<Message>,
 ) -> Result<(), AllocError>
     requires place { place < length part.now.nets }
-    requires later { IfSome change (λ c. c.time ≡ time + delay_of (source_at part.now place)) }
+    requires later { IfSome change (λ c. c.time ≡ time + source_delay (source_at part.now place)) }
     requires earlier { (t i : ℕ) → IsTrue (has_note journal.old.notes.items t i) → t ≤ time }
     ensures log { OnOk result (log.new.items ≡ log.old.items ++ option_to_list change) }
     ensures sends { OnOk result (out.new.items ≡ out.old.items ++ flat_map (sent Plus (net_at part.now place) (get_or part.now.readers place [])) (option_to_list change)) }

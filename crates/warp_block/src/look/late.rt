@@ -1,7 +1,7 @@
 ghost use Rattle.std.specs.Prelude.{◌≡◌, ◌≤◌, ◌<◌, ◌+◌, ◌++◌, ◌⊎◌, ℕ, IsTrue, OnOk, OnErr, length, vec_len, slice_index};
 ghost use Rattle.std.specs.List.{All};
 ghost use Rattle.std.specs.List.Sorted.{IsStrictlyIncreasing};
-ghost use Rattle.gate_values.specs.Behaviour.{delay_of};
+ghost use Rattle.gate_values.specs.Behaviour.{source_delay};
 ghost use Rattle.warp_block.specs.Limits.{most_horizon};
 ghost use Rattle.warp_block.specs.declared.message.Sign.TheVariants.{Minus};
 ghost use Rattle.warp_block.specs.Portion.{hears};
@@ -181,7 +181,7 @@ fn take_back(
     requires logged { All IsLog (lists_in logs.now) }
     requires mark { mark ≤ most_horizon }
     ensures ok { OnOk result (out.new.items ≡ out.old.items ++ told_of Minus part.now
-        (λ i. since_time (mark + delay_of (source_at part.now i)) (log_at (lists_in logs.now) i)) places.now) }
+        (λ i. since_time (mark + source_delay (source_at part.now i)) (log_at (lists_in logs.now) i)) places.now) }
     ensures extends { Extends out.old.items out.new.items }
 {
     for place in places {
