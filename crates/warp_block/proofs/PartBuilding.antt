@@ -1,29 +1,28 @@
 -- The nets of a part and what they are to it, as they are built.
-use Rattle.std.proofs.Common.{◌≡◌, ℕ, suc, ◌+◌, ◌<◌, ◌≤◌, ◌==◌, Bool, true, false, ◌&&◌, ◌||◌, cond, Option, Some, None, is_some, IsTrue, unwrap_or, List, [], ◌∷◌, ◌++◌, map, take, drop, replicate, length, get_or, inl, inr, refl, ap, sym, subst, ◌∙◌, zero-add, arith}
-use Rattle.std.specs.List.{range_with_len, All}
+use Rattle.std.proofs.Common.{◌≡◌, ℕ, suc, ◌+◌, ◌<◌, ◌≤◌, ◌==◌, Bool, true, false, ◌&&◌, ◌||◌, Option, Some, None, is_some, IsTrue, unwrap_or, List, [], ◌∷◌, ◌++◌, map, take, drop, length, get_or, inl, inr, refl, ap, sym, subst, ◌∙◌, arith}
+use Rattle.std.specs.List.{filter, range_with_len, All}
 use Rattle.std.specs.List.Sorted.{IsStrictlyIncreasing}
-use Rattle.std.proofs.lemmas.Bool.{cases_lt, eqb-true, or_right, or_left, and_from}
-use Rattle.std.proofs.lemmas.List.{append-nil, append_assoc, map_more, length-drop, get_or_default, length-map, length-append, length-replicate, get_or-replicate, ext_get_or, take-append-le, drop-append-le, take_all, drop_at, get_or_append_left, get_or_push}
-use Rattle.std.proofs.lemmas.List.Elements.{All-append, All-map, All-nil, All-cons}
-use Rattle.std.proofs.lemmas.List.Folds.{Any-from_list_any}
-use Rattle.std.proofs.lemmas.List.FromFn.{get_or-map-range_with_len, length-map-range_with_len}
+use Rattle.std.proofs.lemmas.Bool.{cases_Bool, cases_lt, eqb-true, or_right, or_left, and_right, and_from}
+use Rattle.std.proofs.lemmas.List.{append_assoc, map_more, length-drop, get_or_default, length-map, length-append, take-append-le, drop-append-le, take_all, drop_at, get_or_append_left, get_or_push}
+use Rattle.std.proofs.lemmas.List.Elements.{All-append, All-map, All-nil, All-cons, filter_agree}
+use Rattle.std.proofs.lemmas.List.Folds.{Any-from_list_any, list_any_none}
 use Rattle.gate_values.specs.declared.gate.Kind.{Kind}
 use Rattle.gate_values.specs.declared.logic.Logic.{Logic}
 use Rattle.gate_values.specs.Tables.{HasInputs}
 use Rattle.gate_values.specs.Behaviour.{Source}
-use Rattle.gate_netlist.specs.Circuit.{Design, IsCircuit, IsDriven, IsDelay, nets_of, driver_of, source_of, source_by, is_input, delay_of, delay_by}
-use Rattle.gate_netlist.specs.Cut.{Ownership}
+use Rattle.gate_netlist.specs.Circuit.{Design, IsCircuit, IsDriven, CutFits, IsDelay, nets_of, driver_of, source_of, source_by, is_input, delay_of, delay_by}
+use Rattle.gate_netlist.specs.Cut.{Ownership, is_owner as is_cut_owner, owner_of, own_among, own_nets}
 use Rattle.gate_netlist.specs.declared.driver.Driver.{Driver}
 use Rattle.gate_netlist.specs.declared.driver.Driver.TheVariants.{Input, Gate, Flop}
 use Rattle.warp_block.specs.declared.cell.Cell.{Cell}
 use Rattle.warp_block.specs.declared.cell.Cell.TheVariants as cell
 use Rattle.warp_block.specs.declared.cell.Span.{Span}
 use Rattle.warp_block.specs.Portion.{slot_of, uses, does_use}
-use Rattle.warp_block.specs.PartOf.{is_own, is_used_by, part_nets, part_source}
+use Rattle.warp_block.specs.PartOf.{is_own, is_owner, is_used_by, part_nets, part_source}
 use Rattle.warp_block.specs.Inner.HeldPart.{stretch}
-use Rattle.warp_block.specs.Inner.Building.{driver_uses, place_of, has, AreMarked, is_used_below, AreUsed, nets_below, IsCell, HasMore, AreCells}
+use Rattle.warp_block.specs.Inner.Building.{driver_uses, place_of, has, is_used_among, IsCell, HasMore, AreCells}
 use Rattle.warp_block.proofs.Slots.{slot_at, slot_is}
-use Rattle.warp_block.proofs.PartLists.{or_none, any_more, any_below, has_at, kept_more, kept_below, kept_rises, kept_few, has_kept}
+use Rattle.warp_block.proofs.PartLists.{any_below, any_kept, any_same, has_at, has_past, has_kept, past_kept, range_below, kept_below, kept_is, kept_rises, kept_few}
 
 -- ---- which nets a driver uses
 
@@ -46,6 +45,17 @@ slot_some nets n up h =
     let there : slot_of nets n ≡ Some k = subst (λ m. slot_of nets m ≡ Some k) same (slot_at nets k up l) in
     rw there refl
 
+-- a net has a place just where it is among them
+pub is_some-slot : (nets : List ℕ) (n : ℕ) → IsStrictlyIncreasing nets → is_some (slot_of nets n) ≡ has nets n
+is_some-slot nets n up = go (slot_of nets n) refl
+  where
+    go : (o : Option ℕ) → slot_of nets n ≡ o → is_some (slot_of nets n) ≡ has nets n
+    go (Some i) e = (let is = slot_is nets n i e in ap is_some e ∙ sym (has_at nets i n is.0 is.1))
+    go None e = elim (cases_Bool (has nets n)) [
+      | inl there ↦ slot_some nets n up there ∙ sym there
+      | inr apart ↦ ap is_some e ∙ sym apart
+    ]
+
 -- the place of a net that is among others
 pub place_is : (nets : List ℕ) (n : ℕ) → IsTrue (is_some (slot_of nets n)) → (place_of nets n < length nets) × (get_or nets (place_of nets n) 0 ≡ n)
 place_is nets n h = go (slot_of nets n) refl h
@@ -57,40 +67,40 @@ place_is nets n h = go (slot_of nets n) refl h
 -- ---- what is used
 
 module _ (d : Design) (cut : Ownership) (b : ℕ) where
-  pub AreUsed-none : AreUsed d cut b 0 (replicate (nets_of d) false)
-  AreUsed-none = record {
-    same = length-replicate (nets_of d) false;
-    marks = λ n l. get_or-replicate (nets_of d) n false false l;
-  }
+  owner_same : (o : Option ℕ) → is_cut_owner b o ≡ is_owner b o
+  owner_same None = refl
+  owner_same (Some owner) = refl
 
-  pub AreUsed-own : (end : ℕ) (old new : List Bool) → is_own cut b end ≡ true → AreUsed d cut b end old → AreMarked old new (driver_uses (driver_of d end)) → AreUsed d cut b (end + 1) new
-  AreUsed-own end old new own h m = record {
-    same = m.same ∙ h.same;
-    marks = λ n l.
-        (let e : does_use n (source_of d end) ≡ has (driver_uses (driver_of d end)) n = ap (λ us. has us n) (uses-driver (driver_of d end) (get_or d.delays end 0)) in
-        m.marks n (omega (arith, h.same)) ∙ ap (λ u. u || has (driver_uses (driver_of d end)) n) (h.marks n l)
-        ∙ sym (any_more (λ g. is_own cut b g && does_use n (source_of d g)) end ∙ ap (λ u. is_used_below d cut b end n || u) (ap (λ o. o && does_use n (source_of d end)) own ∙ e)));
-  }
+  -- a block's own nets are those of the circuit that it owns
+  pub own_is : CutFits d cut → own_nets cut b ≡ filter (is_own cut b) (range_with_len 0 (nets_of d))
+  own_is fits =
+      ap (λ count. own_among cut.owners count b) fits.nets
+      ∙ filter_agree (λ n. is_cut_owner b (owner_of cut n)) (is_own cut b) (λ n. owner_same (owner_of cut n)) (range_with_len 0 (nets_of d))
 
-  pub AreUsed-other : (end : ℕ) (used : List Bool) → is_own cut b end ≡ false → AreUsed d cut b end used → AreUsed d cut b (end + 1) used
-  AreUsed-other end used other h = record {
-    same = h.same;
-    marks = λ n l.
-        h.marks n l
-        ∙ sym (any_more (λ g. is_own cut b g && does_use n (source_of d g)) end ∙ ap (λ u. is_used_below d cut b end n || u) (ap (λ o. o && does_use n (source_of d end)) other) ∙ or_none (is_used_below d cut b end n));
-  }
+  pub own_within : CutFits d cut → All (λ n. n < nets_of d) (own_nets cut b)
+  own_within fits = rw (own_is fits) (kept_below (is_own cut b) (nets_of d))
 
-  pub AreUsed-all : (used : List Bool) → AreUsed d cut b (nets_of d) used → used ≡ map (is_used_by d cut b) (range_with_len 0 (nets_of d))
-  AreUsed-all used h =
-      ext_get_or false used (map (is_used_by d cut b) (range_with_len 0 (nets_of d)))
-      (h.same ∙ sym (length-map-range_with_len (is_used_by d cut b) 0 (nets_of d)))
-      (λ n l. h.marks n (omega (arith, h.same, l)) ∙ sym (get_or-map-range_with_len (is_used_by d cut b) 0 (nets_of d) n n false (omega (arith, h.same, l)) (omega arith)))
+  -- what the own nets use is what gates of the block use
+  pub used_is : CutFits d cut → (n : ℕ) → is_used_among d (own_nets cut b) n ≡ is_used_by d cut b n
+  used_is fits n =
+      ap (λ gates. is_used_among d gates n) (own_is fits)
+      ∙ any_kept (λ g. has (driver_uses (driver_of d g)) n) (is_own cut b) (range_with_len 0 (nets_of d))
+      ∙ any_same (λ g. is_own cut b g && has (driver_uses (driver_of d g)) n) (λ g. is_own cut b g && does_use n (source_of d g))
+      (λ g. ap (λ us. is_own cut b g && has us n) (sym (uses-driver (driver_of d g) (get_or d.delays g 0)))) (range_with_len 0 (nets_of d))
 
   pub uses-below : (g : ℕ) → IsCircuit d → g < nets_of d → All (λ u. u < nets_of d) (driver_uses (driver_of d g))
   uses-below g law l = driver_uses-below (driver_of d g) (nets_of d) (get_or d.delays g 0) (law.driven g l)
 
-  pub marked-below : (g : ℕ) (used : List Bool) → IsCircuit d → g < nets_of d → length used ≡ nets_of d → All (λ u. u < length used) (driver_uses (driver_of d g))
-  marked-below g used law l same k e m = omega (arith, uses-below g law l k e m, same)
+  -- gates use no net past the circuit's
+  used_past : (n : ℕ) → IsCircuit d → nets_of d ≤ n → is_used_by d cut b n ≡ false
+  used_past n law past =
+      list_any_none (λ g. is_own cut b g && does_use n (source_of d g)) (range_with_len 0 (nets_of d))
+      (λ k e l. none (get_or (range_with_len 0 (nets_of d)) k e) (range_below (nets_of d) k e l))
+    where
+      none : (g : ℕ) → g < nets_of d → (is_own cut b g && does_use n (source_of d g)) ≡ false
+      none g l =
+          and_right (is_own cut b g) (does_use n (source_of d g))
+          (ap (λ us. has us n) (uses-driver (driver_of d g) (get_or d.delays g 0)) ∙ has_past (driver_uses (driver_of d g)) (nets_of d) n (uses-below g law l) past)
 
   -- ---- the nets of a part
 
@@ -103,18 +113,16 @@ module _ (d : Design) (cut : Ownership) (b : ℕ) where
   pub nets_within : All (λ n. n < nets_of d) (part_nets d cut b)
   nets_within = kept_below is_net (nets_of d)
 
-  pub nets_more : (end : ℕ) (old new : List ℕ) → is_net end ≡ true → old ≡ nets_below d cut b end → new ≡ old ++ end ∷ [] → new ≡ nets_below d cut b (end + 1)
-  nets_more end old new in_ h e = e ∙ ap (λ ns. ns ++ end ∷ []) h ∙ sym (kept_more is_net end ∙ ap (λ t. nets_below d cut b end ++ cond t (end ∷ []) []) in_)
-
-  pub nets_same : (end : ℕ) (old : List ℕ) → is_net end ≡ false → old ≡ nets_below d cut b end → old ≡ nets_below d cut b (end + 1)
-  nets_same end old out h = h ∙ sym (kept_more is_net end ∙ ap (λ t. nets_below d cut b end ++ cond t (end ∷ []) []) out ∙ append-nil (nets_below d cut b end))
-
-  -- the mark of a net
-  pub mark_at : (used : List Bool) (n : ℕ) → n < nets_of d → used ≡ map (is_used_by d cut b) (range_with_len 0 (nets_of d)) → get_or used n false ≡ is_used_by d cut b n
-  mark_at used n l e = ap (λ us. get_or us n false) e ∙ get_or-map-range_with_len (is_used_by d cut b) 0 (nets_of d) n n false l (zero-add n)
-
-  pub marks_many : (used : List Bool) → used ≡ map (is_used_by d cut b) (range_with_len 0 (nets_of d)) → length used ≡ nets_of d
-  marks_many used e = ap length e ∙ length-map-range_with_len (is_used_by d cut b) 0 (nets_of d)
+  -- the own nets and those that the block's gates use, in order
+  pub nets_are : (nets uses : List ℕ) → IsCircuit d → CutFits d cut → IsStrictlyIncreasing nets → ((n : ℕ) → has nets n ≡ (has (own_nets cut b) n || has uses n))
+      → ((n : ℕ) → has uses n ≡ is_used_by d cut b n) → nets ≡ part_nets d cut b
+  nets_are nets uses law fits up both used =
+      kept_is is_net (nets_of d) nets up
+      (λ n l. both n ∙ ap (λ o. o || has uses n) (own n ∙ has_kept (is_own cut b) (nets_of d) n l) ∙ ap (λ u. is_own cut b n || u) (used n))
+      (λ n l. both n ∙ ap (λ o. o || has uses n) (own n ∙ past_kept (is_own cut b) (nets_of d) n l) ∙ (used n ∙ used_past n law l))
+    where
+      own : (n : ℕ) → has (own_nets cut b) n ≡ has (filter (is_own cut b) (range_with_len 0 (nets_of d))) n
+      own n = ap (λ ns. has ns n) (own_is fits)
 
   pub nets_few : length (part_nets d cut b) ≤ nets_of d
   nets_few = kept_few is_net (nets_of d)

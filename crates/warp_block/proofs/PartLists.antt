@@ -1,18 +1,15 @@
--- Ascending lists of numbers, and marks.
-use Rattle.std.proofs.Common.{◌≡◌, ℕ, zero, suc, ◌+◌, ◌<◌, ◌≤◌, ◌==◌, Bool, true, false, ◌&&◌, ◌||◌, cond, Ok, Err, List, [], ◌∷◌, ◌++◌, take, drop, set, length, get_or, inl, inr, refl, ap, sym, subst, ◌∙◌, arith, zero-add}
-use Rattle.std.specs.List.{filter, list_any, range_with_len, All, insert}
-use Rattle.std.specs.Ordering.{nat_cmp}
-use Rattle.std.specs.List.Sorted.{IsStrictlyIncreasing, IsBinarySearchResult}
+-- Ascending lists of numbers.
+use Rattle.std.proofs.Common.{◌≡◌, ℕ, suc, ◌+◌, ◌<◌, ◌≤◌, ◌==◌, eqb, Bool, true, false, ◌&&◌, ◌||◌, List, [], ◌∷◌, length, get_or, inl, inr, refl, ap, sym, subst, ◌∙◌, arith, zero-add}
+use Rattle.std.specs.List.{filter, list_any, range_with_len, All, Contains, dedup}
+use Rattle.std.specs.List.Sorted.{IsStrictlyIncreasing, IsPermutation}
 use Rattle.std.proofs.lemmas.Bool.{cases_Bool, cases_lt, cases_order, cases_eq, eqb-true, eq-eqb, ne_eqb}
-use Rattle.std.proofs.lemmas.List.{get_or_default, map-id, take-append-drop, get_or-set_same, get_or-set_other, take_more, length-set}
-use Rattle.std.proofs.lemmas.List.Edits.{length-insert, get_or-insert_below, get_or-insert_at, get_or-insert_above}
-use Rattle.std.proofs.lemmas.List.Elements.{All-filter, All-from_get_or, filter-append}
-use Rattle.std.proofs.lemmas.List.Folds.{list_any-append, list_any_none, list_any_at}
-use Rattle.std.proofs.lemmas.List.FromFn.{length-range_with_len, get_or-range_with_len, map-range_with_len_more}
-use Rattle.std.proofs.lemmas.List.Kept.{AllPairs-from_increasing, IsStrictlyIncreasing-filter}
-use Rattle.std.proofs.lemmas.List.Sorted.{searched}
-use Rattle.warp_block.specs.Inner.Building.{has, AreMarked}
-use Rattle.warp_block.proofs.PartPlaces.{ascends}
+use Rattle.std.proofs.lemmas.List.{get_or_default}
+use Rattle.std.proofs.lemmas.List.Elements.{All-filter, All-from_get_or}
+use Rattle.std.proofs.lemmas.List.Folds.{list_any_none, list_any_at, Any-from_list_any}
+use Rattle.std.proofs.lemmas.List.FromFn.{length-range_with_len, get_or-range_with_len}
+use Rattle.std.proofs.lemmas.List.Kept.{AllPairs-from_increasing, IsStrictlyIncreasing-filter, Contains-dedup_nat, Contains-from_dedup}
+use Rattle.std.proofs.lemmas.List.Sorted.{list_any-IsPermutation}
+use Rattle.warp_block.specs.Inner.Building.{has}
 
 -- ---- tests
 
@@ -20,27 +17,11 @@ pub or_none : (a : Bool) → (a || false) ≡ a
 or_none true = refl
 or_none false = refl
 
-or_middle : (a b c : Bool) → (a || (b || c)) ≡ ((a || c) || b)
-or_middle true b c = refl
-or_middle false true true = refl
-or_middle false true false = refl
-or_middle false false true = refl
-or_middle false false false = refl
+pub and_none : (a : Bool) → (a && false) ≡ false
+and_none true = refl
+and_none false = refl
 
 -- ---- numbers from 0 on
-
-pub range_more : (n : ℕ) → range_with_len 0 (n + 1) ≡ range_with_len 0 n ++ n ∷ []
-range_more n =
-    sym (map-id (range_with_len 0 (n + 1)))
-    ∙ map-range_with_len_more (λ (x : ℕ). x) 0 n n (zero-add n)
-    ∙ ap (λ xs. xs ++ n ∷ []) (map-id (range_with_len 0 n))
-
-pub any_more : (p : ℕ → Bool) (n : ℕ) → list_any p (range_with_len 0 (n + 1)) ≡ (list_any p (range_with_len 0 n) || p n)
-any_more p n =
-    ap (list_any p) (range_more n) ∙ list_any-append p (range_with_len 0 n) (n ∷ []) ∙ ap (λ b. list_any p (range_with_len 0 n) || b) (or_none (p n))
-
-pub kept_more : (p : ℕ → Bool) (n : ℕ) → filter p (range_with_len 0 (n + 1)) ≡ filter p (range_with_len 0 n) ++ cond (p n) (n ∷ []) []
-kept_more p n = ap (filter p) (range_more n) ∙ filter-append p (range_with_len 0 n) (n ∷ [])
 
 pub range_below : (n : ℕ) → All (λ x. x < n) (range_with_len 0 n)
 range_below n =
@@ -105,10 +86,12 @@ has_range n m l = has_at (range_with_len 0 m) n n (omega (arith, length-range_wi
 pub has_kept : (p : ℕ → Bool) (m n : ℕ) → n < m → has (filter p (range_with_len 0 m)) n ≡ p n
 has_kept p m n l = has_filter p (range_with_len 0 m) n ∙ ap (λ b. b && p n) (has_range n m l)
 
-past_kept : (p : ℕ → Bool) (m n : ℕ) → m ≤ n → has (filter p (range_with_len 0 m)) n ≡ false
-past_kept p m n l =
-    list_any_none (λ x. x == n) (filter p (range_with_len 0 m))
-    (λ k d h. ne_eqb (get_or (filter p (range_with_len 0 m)) k d) n (λ e. absurd (omega (arith, kept_below p m k d h, e))))
+pub has_past : (xs : List ℕ) (m n : ℕ) → All (λ x. x < m) xs → m ≤ n → has xs n ≡ false
+has_past xs m n below l =
+    list_any_none (λ x. x == n) xs (λ k d h. ne_eqb (get_or xs k d) n (λ e. absurd (omega (arith, below k d h, e))))
+
+pub past_kept : (p : ℕ → Bool) (m n : ℕ) → m ≤ n → has (filter p (range_with_len 0 m)) n ≡ false
+past_kept p m n l = has_past (filter p (range_with_len 0 m)) m n (kept_below p m) l
 
 -- ---- two ascending lists that have the same numbers
 
@@ -170,70 +153,43 @@ kept_is p m xs up below past =
       | inr l ↦ past n l ∙ sym (past_kept p m n l)
     ])
 
--- ---- one number more
+-- ---- the numbers of a list, in order
 
-pub has_insert : (xs : List ℕ) (i x n : ℕ) → has (insert xs i x) n ≡ (has xs n || (x == n))
-has_insert xs i x n =
-    let test : ℕ → Bool = λ y. y == n in
-    let parts : has xs n ≡ (has (take i xs) n || has (drop i xs) n) = ap (list_any test) (sym (take-append-drop i xs)) ∙ list_any-append test (take i xs) (drop i xs) in
-    list_any-append test (take i xs) (x ∷ drop i xs) ∙ or_middle (has (take i xs) n) (x == n) (has (drop i xs) n) ∙ ap (λ b. b || (x == n)) (sym parts)
+same_tests : (a b : Bool) → (a ≡ true → b ≡ true) → (b ≡ true → a ≡ true) → a ≡ b
+same_tests true b to back = sym (to refl)
+same_tests false true to back = back refl
+same_tests false false to back = refl
 
-pub insert_rises : (xs : List ℕ) (i x : ℕ) → IsStrictlyIncreasing xs → IsBinarySearchResult (λ y. nat_cmp y x) xs (Err i) → IsStrictlyIncreasing (insert xs i x)
-insert_rises xs i x up h k l =
-    let at = searched xs x (Err i) h (ascends xs up) in
-    let within : k + 1 < length xs + 1 = omega (arith, l, length-insert xs i x at.0) in
-    elim (cases_order k i) [
-      | inl same ↦ omega (arith, get_or-insert_at xs i x 0 at.0, get_or-insert_above xs i x 0 k (omega (arith, same)) at.0, at.2 k (omega (arith, same)) (omega arith), ap (λ j. get_or (insert xs i x) j 0) same)
-      | inr (inl less) ↦ elim (cases_eq (k + 1) i) [
-        | inl next ↦ omega (arith, get_or-insert_below xs i x 0 k less at.0, get_or-insert_at xs i x 0 at.0, at.1 k less, ap (λ j. get_or (insert xs i x) j 0) next)
-        | inr before ↦ (let lower : k + 1 < i = omega (arith, less, before) in
-            omega (arith, get_or-insert_below xs i x 0 k less at.0, get_or-insert_below xs i x 0 (k + 1) lower at.0, up k (omega (arith, at.0))))
-      ]
-      | inr (inr more) ↦ above k more within at.0
+Contains-has : (xs : List ℕ) (n : ℕ) → has xs n ≡ true → Contains xs n
+Contains-has xs n h =
+    let (k, x, l, at, e) = Any-from_list_any (λ x. x == n) xs h in
+    (k, l, get_or_default xs k n x l ∙ (at ∙ eqb-true x n e))
+
+has-Contains : (xs : List ℕ) (n : ℕ) → Contains xs n → has xs n ≡ true
+has-Contains xs n (k, l, at) = has_at xs k n l (get_or_default xs k 0 n l ∙ at)
+
+-- a sort and a dedup keep what a list has
+pub has-settled : (xs ys : List ℕ) (n : ℕ) → IsPermutation xs ys → has (dedup eqb ys) n ≡ has xs n
+has-settled xs ys n moved =
+    same_tests (has (dedup eqb ys) n) (has ys n)
+    (λ h. has-Contains ys n (Contains-from_dedup eqb ys n (Contains-has (dedup eqb ys) n h)))
+    (λ h. has-Contains (dedup eqb ys) n (Contains-dedup_nat ys n (Contains-has ys n h)))
+    ∙ sym (list_any-IsPermutation (λ x. x == n) xs ys moved)
+
+-- ---- tests of what a filter keeps
+
+pub any_same : (p q : ℕ → Bool) → ((x : ℕ) → p x ≡ q x) → (xs : List ℕ) → list_any p xs ≡ list_any q xs
+any_same p q same [] = refl
+any_same p q same (x ∷ xs) =
+    let first = same x in
+    let rest = any_same p q same xs in
+    cc
+
+pub any_kept : (p keep : ℕ → Bool) (xs : List ℕ) → list_any p (filter keep xs) ≡ list_any (λ x. keep x && p x) xs
+any_kept p keep [] = refl
+any_kept p keep (x ∷ xs) =
+    let rest = any_kept p keep xs in
+    elim (cases_Bool (keep x)) [
+      | inl kept ↦ rw (kept, rest) refl
+      | inr left ↦ rw left rest
     ]
-  where
-    above : (k : ℕ) → i < k → k + 1 < length xs + 1 → i ≤ length xs → get_or (insert xs i x) k 0 < get_or (insert xs i x) (k + 1) 0
-    above zero more within le = absurd (omega arith)
-    above (suc k) more within le =
-        let first : get_or (insert xs i x) (suc k) 0 ≡ get_or xs k 0 = ap (λ j. get_or (insert xs i x) j 0) (omega arith) ∙ get_or-insert_above xs i x 0 k (omega arith) le in
-        let second : get_or (insert xs i x) (suc k + 1) 0 ≡ get_or xs (k + 1) 0 = ap (λ j. get_or (insert xs i x) j 0) (omega arith) ∙ get_or-insert_above xs i x 0 (k + 1) (omega arith) le in
-        omega (arith, first, second, up k (omega arith))
-
--- a number that was found is no more
-pub has_found : (xs : List ℕ) (i x : ℕ) → IsStrictlyIncreasing xs → IsBinarySearchResult (λ y. nat_cmp y x) xs (Ok i) → (n : ℕ) → has xs n ≡ (has xs n || (x == n))
-has_found xs i x up h n =
-    let at = searched xs x (Ok i) h (ascends xs up) in
-    elim (cases_Bool (x == n)) [
-      | inl same ↦ (let e : has xs n ≡ true = has_at xs i n at.0 (at.1 ∙ eqb-true x n same) in rw (same, e) refl)
-      | inr other ↦ rw other (sym (or_none (has xs n)))
-    ]
-
--- ---- marks
-
-pub AreMarked-none : (old : List Bool) → AreMarked old old []
-AreMarked-none old = record { same = refl; marks = λ n l. sym (or_none (get_or old n false)) }
-
-pub AreMarked-push : (old new : List Bool) (nets : List ℕ) (net : ℕ) → net < length old → AreMarked old new nets → AreMarked old (set new net true) (nets ++ net ∷ [])
-AreMarked-push old new nets net less h = record {
-  same = length-set new net true ∙ h.same;
-  marks = λ n l.
-      (let parts : has (nets ++ net ∷ []) n ≡ (has nets n || (net == n)) = list_any-append (λ x. x == n) nets (net ∷ []) ∙ ap (λ b. has nets n || b) (or_none (net == n)) in
-      elim (cases_eq net n) [
-        | inl at ↦ (let e : (net == n) ≡ true = eq-eqb net n at in
-            let there : get_or (set new net true) n false ≡ true = subst (λ m. get_or (set new net true) m false ≡ true) at (get_or-set_same new net true false (omega (arith, less, h.same))) in
-            rw (parts, e, there) (all (get_or old n false) (has nets n)))
-        | inr other ↦ (let e : (net == n) ≡ false = ne_eqb net n other in
-            let there : get_or (set new net true) n false ≡ get_or new n false = get_or-set_other new net n true false (λ f. other (sym f)) in
-            rw (parts, e, there, or_none (has nets n)) (h.marks n l))
-      ]);
-}
-  where
-    all : (a b : Bool) → true ≡ (a || (b || true))
-    all true b = refl
-    all false true = refl
-    all false false = refl
-
-pub AreMarked-more : (old new : List Bool) (nets : List ℕ) (i : ℕ) → i < length nets → All (λ net. net < length old) nets → AreMarked old new (take i nets)
-    → AreMarked old (set new (get_or nets i 0) true) (take (i + 1) nets)
-AreMarked-more old new nets i l within h =
-    rw (take_more nets i 0 l) (AreMarked-push old new (take i nets) (get_or nets i 0) (within i 0 l) h)

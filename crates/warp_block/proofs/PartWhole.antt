@@ -1,8 +1,8 @@
 -- A part that was built is the circuit's, and has the law of parts.
-use Rattle.std.proofs.Common.{◌≡◌, ◌≢◌, ℕ, suc, ◌+◌, ◌<◌, ◌≤◌, ◌==◌, Bool, true, false, not, ◌&&◌, ◌||◌, cond, Option, Some, None, is_some, IsTrue, List, [], ◌∷◌, map, length, get_or, inl, inr, refl, ap, sym, ◌∙◌, arith}
+use Rattle.std.proofs.Common.{◌≡◌, ◌≢◌, ℕ, ◌+◌, ◌<◌, ◌≤◌, ◌==◌, Bool, true, false, not, ◌&&◌, ◌||◌, cond, Option, Some, None, is_some, IsTrue, List, [], ◌∷◌, map, length, get_or, inl, inr, refl, ap, sym, ◌∙◌, arith}
 use Rattle.std.specs.List.{filter, list_any, range_with_len, All}
 use Rattle.std.specs.List.Sorted.{IsStrictlyIncreasing}
-use Rattle.std.proofs.lemmas.Bool.{cases_Bool, or_parts, or_cases, and_parts, eq-eqb, true≢false}
+use Rattle.std.proofs.lemmas.Bool.{cases_Bool, or_cases, and_parts, eq-eqb, true≢false}
 use Rattle.std.proofs.lemmas.List.{length-map, get_or-map, ext_get_or}
 use Rattle.std.proofs.lemmas.List.Elements.{All-weaker, filter_passes}
 use Rattle.gate_values.specs.Behaviour.{Source, Outside, IsWellFormed, source_delay}
@@ -17,8 +17,8 @@ use Rattle.warp_block.specs.Portion.{Portion, IsPortion, is_driven, is_used, slo
 use Rattle.warp_block.specs.PartOf.{is_own, is_owner, is_used_by, part_nets, part_source, part_readers, part_of}
 use Rattle.warp_block.specs.Inner.HeldPart.{IsHeld, portion_of, cell_source, is_input_cell, stretch}
 use Rattle.warp_block.specs.Inner.Building.{AreCells}
-use Rattle.warp_block.proofs.PartLists.{kept_rises}
-use Rattle.warp_block.proofs.PartBuilding.{uses-driver, is_net, nets_rise, nets_within, nets_few, own_uses, mark_at}
+use Rattle.warp_block.proofs.PartLists.{and_none, any_kept, any_same, kept_rises}
+use Rattle.warp_block.proofs.PartBuilding.{uses-driver, is_net, nets_rise, nets_within, nets_few, own_uses}
 
 -- ---- sources
 
@@ -43,18 +43,16 @@ owner_some b (Some o) e = refl
 
 -- ---- what is used
 
+pub map_same : {f g : ℕ → Bool} → ((n : ℕ) → f n ≡ g n) → (ns : List ℕ) → map f ns ≡ map g ns
+map_same same [] = refl
+map_same same (n ∷ ns) =
+    let first = same n in
+    let rest = map_same same ns in
+    cc
+
 any_map : (p : Source → Bool) (f : ℕ → Source) (xs : List ℕ) → list_any p (map f xs) ≡ list_any (λ x. p (f x)) xs
 any_map p f [] = refl
 any_map p f (x ∷ xs) = ap (λ t. p (f x) || t) (any_map p f xs)
-
-any_kept : (keep p q : ℕ → Bool) → ((x : ℕ) → p x ≡ q x) → ((x : ℕ) → keep x ≡ false → q x ≡ false) → (xs : List ℕ) → list_any p (filter keep xs) ≡ list_any q xs
-any_kept keep p q same none [] = refl
-any_kept keep p q same none (x ∷ xs) =
-    let rest = any_kept keep p q same none xs in
-    elim (cases_Bool (keep x)) [
-      | inl kept ↦ (let first = same x in rw (kept, first, rest) refl)
-      | inr left ↦ (let first = none x left in rw (left, first) rest)
-    ]
 
 module _ (d : Design) (cut : Ownership) (b : ℕ) where
   part_source_own : (n : ℕ) → is_own cut b n ≡ true → part_source d cut b n ≡ source_of d n
@@ -74,8 +72,13 @@ module _ (d : Design) (cut : Ownership) (b : ℕ) where
   pub used_same : (n : ℕ) → is_used (part_of d cut b) n ≡ is_used_by d cut b n
   used_same n =
       any_map (does_use n) (part_source d cut b) (part_nets d cut b)
-      ∙ any_kept (is_net d cut b) (λ g. does_use n (part_source d cut b g)) (λ g. is_own cut b g && does_use n (source_of d g)) (does n)
-      (λ g left. ap (λ o. o && does_use n (source_of d g)) (or_parts (is_own cut b g) (is_used_by d cut b g) left).0) (range_with_len 0 (nets_of d))
+      ∙ any_kept (λ g. does_use n (part_source d cut b g)) (is_net d cut b) (range_with_len 0 (nets_of d))
+      ∙ any_same (λ g. is_net d cut b g && does_use n (part_source d cut b g)) (λ g. is_own cut b g && does_use n (source_of d g))
+      (λ g. ap (λ u. is_net d cut b g && u) (does n g) ∙ own_net (is_own cut b g) (is_used_by d cut b g) (does_use n (source_of d g))) (range_with_len 0 (nets_of d))
+    where
+      own_net : (own used uses : Bool) → ((own || used) && (own && uses)) ≡ (own && uses)
+      own_net true used uses = refl
+      own_net false used uses = and_none used
 
   module _ (law : IsCircuit d) (fits : CutFits d cut) where
     abbrev net : ℕ → ℕ
@@ -167,18 +170,17 @@ pub same_portion : (p q : Portion) → p.block ≡ q.block → p.nets ≡ q.nets
 same_portion p q block nets sources inputs readers = λ i. record { block = block i; nets = nets i; sources = sources i; inputs = inputs i; readers = readers i }
 
 -- the fields are those of the circuit's part
-pub record AreFields (d : Design) (cut : Ownership) (b : ℕ) (users : List Bool) (p : Inside) : Type 0 where
+pub record AreFields (d : Design) (cut : Ownership) (b : ℕ) (p : Inside) : Type 0 where
   pub number : p.block ≡ b
   pub nets : p.nets.items ≡ part_nets d cut b
   pub many : length p.cells.items ≡ length p.nets.items
   pub cells : AreCells d cut b p.nets.items p.pins.items p.cells.items
   pub readers : map (stretch p.readers.items) p.told.items ≡ map (part_readers d cut b) p.nets.items
   pub spans : All (λ (span : Span). span.start + span.count ≤ length p.readers.items) p.told.items
-  pub users_are : users ≡ map (is_used_by d cut b) (range_with_len 0 (nets_of d))
-  pub used : p.used.items ≡ map (λ n. get_or users n false) p.nets.items
+  pub used : p.used.items ≡ map (is_used_by d cut b) p.nets.items
 
-pub built : (d : Design) (cut : Ownership) (b : ℕ) (users : List Bool) (p : Inside) → AreFields d cut b users p → portion_of p ≡ part_of d cut b
-built d cut b users p h =
+pub built : (d : Design) (cut : Ownership) (b : ℕ) (p : Inside) → AreFields d cut b p → portion_of p ≡ part_of d cut b
+built d cut b p h =
     let nets = p.nets.items in
     let cells = p.cells.items in
     let pins = p.pins.items in
@@ -197,9 +199,9 @@ built d cut b users p h =
     (inputs ∙ ap (map (λ n. is_input (driver_of d n))) h.nets)
     (h.readers ∙ ap (map (part_readers d cut b)) h.nets)
 
-pub IsHeld-built : (d : Design) (cut : Ownership) (b : ℕ) (users : List Bool) (p : Inside) → IsCircuit d → CutFits d cut → AreFields d cut b users p → IsHeld p
-IsHeld-built d cut b users p law fits h =
-    let is = built d cut b users p h in
+pub IsHeld-built : (d : Design) (cut : Ownership) (b : ℕ) (p : Inside) → IsCircuit d → CutFits d cut → AreFields d cut b p → IsHeld p
+IsHeld-built d cut b p law fits h =
+    let is = built d cut b p h in
     let nets = p.nets.items in
     record {
       portion = rw is (IsPortion-part_of d cut b law fits);
@@ -208,12 +210,5 @@ IsHeld-built d cut b users p law fits h =
       pins = h.cells.places;
       told = sym (length-map p.told.items (stretch p.readers.items)) ∙ ap length h.readers ∙ length-map nets (part_readers d cut b);
       spans = h.spans;
-      used = h.used ∙ marks nets (rw h.nets (nets_within d cut b)) ∙ ap (λ (q : Portion). map (is_used q) nets) (sym is);
+      used = h.used ∙ map_same (λ n. sym (used_same d cut b n)) nets ∙ ap (λ (q : Portion). map (is_used q) nets) (sym is);
     }
-  where
-    marks : (ns : List ℕ) → All (λ n. n < nets_of d) ns → map (λ n. get_or users n false) ns ≡ map (is_used (part_of d cut b)) ns
-    marks [] within = refl
-    marks (n ∷ ns) within =
-        let first = mark_at d cut b users n (within 0 0 (omega arith)) h.users_are ∙ sym (used_same d cut b n) in
-        let rest = marks ns (λ k e l. within (suc k) e (omega (arith, l))) in
-        cc

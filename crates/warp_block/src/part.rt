@@ -59,9 +59,9 @@ impl Part {
     {
         circuit.law();
         cut.law();
-        let users = build::used_by(alloc, circuit, cut, block)?;
-        let nets = build::nets_of(alloc, circuit, cut, block, &users)?;
-        let used = build::marks_of(alloc, &users, &nets)?;
+        let uses = build::uses_of(alloc, circuit, cut, block)?;
+        let nets = build::nets_of(alloc, circuit, cut, block, &uses)?;
+        let used = build::marks_of(alloc, &uses, &nets)?;
         let mut pins = Vec::new(alloc);
         let cells = build::cells_of(alloc, circuit, cut, block, &nets, &mut pins)?;
         let lists = readers::readers_of(alloc, circuit, cut, block, &nets)?;

@@ -1,12 +1,12 @@
-ghost use Rattle.std.specs.Prelude.{◌≡◌, ◌<◌, ◌||◌, ◌++◌, [], false, IsTrue, IfOk, OnOk, is_some, length, map, get_or};
-ghost use Rattle.std.specs.List.{All, range_with_len};
+ghost use Rattle.std.specs.Prelude.{◌≡◌, ◌<◌, ◌||◌, ◌++◌, ℕ, [], IsTrue, IfOk, OnOk, is_some, length, map};
+ghost use Rattle.std.specs.List.{All};
 ghost use Rattle.std.specs.List.Sorted.{IsStrictlyIncreasing};
-ghost use Rattle.gate_netlist.specs.Circuit.{nets_of, driver_of, source_of, is_input as is_outer};
+ghost use Rattle.gate_netlist.specs.Circuit.{CutFits, nets_of, driver_of, source_of, is_input as is_outer};
 ghost use Rattle.warp_block.specs.Portion.{slot_of};
 ghost use Rattle.warp_block.specs.PartOf.{is_own, is_used_by, part_nets, part_source};
-ghost use Rattle.warp_block.specs.Inner.Building.{driver_uses, place_of, AreMarked, IsCell, HasMore, AreCells};
+ghost use Rattle.warp_block.specs.Inner.Building.{driver_uses, place_of, has, IsCell, HasMore, AreCells};
 
-use super::slots::place_in;
+use super::slots::{is_among, place_in, settle};
 use crate::cell::{Cell, Span};
 use gate_netlist::{Circuit, Cut, Driver};
 use std::alloc::{AllocError, Global};
@@ -21,47 +21,35 @@ pub(super) fn is_own(cut: &Cut, block: u32, net: u32) -> bool
     }
 }
 
-/// For each net of the circuit, whether a gate of the block uses it.
-pub(super) fn used_by(
+/// The nets that gates of the block use.
+pub(super) fn uses_of(
     alloc: Global,
     circuit: &Circuit,
     cut: &Cut,
     block: u32,
-) -> Result<Vec<bool>, AllocError>
-    ensures { IfOk result (λ used. used.items ≡ map (is_used_by circuit.now cut.now block) (range_with_len 0 (nets_of circuit.now))) }
+) -> Result<Vec<u32>, AllocError>
+    requires fits { CutFits circuit.now cut.now }
+    requires block { block < cut.now.blocks }
+    ensures rising { IfOk result (λ uses. IsStrictlyIncreasing uses.items) }
+    ensures uses { IfOk result (λ uses. (n : ℕ) → has uses.items n ≡ is_used_by circuit.now cut.now block n) }
 {
-    let mut used = Vec::from_elem(alloc, false, circuit.nets() as usize)?;
-    circuit.law();
-    for net in 0..circuit.nets() {
-        if is_own(cut, block, net) {
-            mark(circuit.driver(net), &mut used);
-        }
+    let mut uses = Vec::new(alloc);
+    let own = cut.own_nets(block);
+    for net in own {
+        add_uses(circuit.driver(*net), &mut uses)?;
     }
-    Ok(used)
+    settle(&mut uses);
+    Ok(uses)
 }
 
-/// Marks the nets that a driver uses.
-fn mark(driver: &Driver, used: &mut [bool])
-    requires { All (λ net. net < length used.old) (driver_uses driver.now) }
-    ensures { AreMarked used.old used.new (driver_uses driver.now) }
+/// Puts the nets that a driver uses behind others.
+fn add_uses(driver: &Driver, uses: &mut Vec<u32>) -> Result<(), AllocError>
+    ensures { OnOk result (uses.new.items ≡ uses.old.items ++ driver_uses driver.now) }
 {
     match driver {
-        Driver::Input => {}
-        Driver::Gate { inputs, .. } => mark_all(inputs.as_slice(), used),
-        Driver::Flop { d, clock, .. } => {
-            used[*d as usize] = true;
-            used[*clock as usize] = true;
-        }
-    }
-}
-
-/// Marks some nets.
-fn mark_all(nets: &[u32], used: &mut [bool])
-    requires { All (λ net. net < length used.old) nets.now }
-    ensures { AreMarked used.old used.new nets.now }
-{
-    for net in nets {
-        used[*net as usize] = true;
+        Driver::Input => Ok(()),
+        Driver::Gate { inputs, .. } => uses.extend_from_slice(inputs.as_slice()),
+        Driver::Flop { d, clock, .. } => uses.extend_from_slice(&[*d, *clock]),
     }
 }
 
@@ -71,36 +59,28 @@ pub(super) fn nets_of(
     circuit: &Circuit,
     cut: &Cut,
     block: u32,
-    used: &[bool],
+    uses: &[u32],
 ) -> Result<Vec<u32>, AllocError>
-    requires { used.now ≡ map (is_used_by circuit.now cut.now block) (range_with_len 0 (nets_of circuit.now)) }
+    requires fits { CutFits circuit.now cut.now }
+    requires block { block < cut.now.blocks }
+    requires uses { (n : ℕ) → has uses.now n ≡ is_used_by circuit.now cut.now block n }
     ensures { IfOk result (λ nets. nets.items ≡ part_nets circuit.now cut.now block) }
 {
-    let mut nets = Vec::new(alloc);
-    for net in 0..circuit.nets() {
-        if is_net(cut, block, used, net) {
-            nets.push(net)?;
-        }
-    }
+    circuit.law();
+    let mut nets = Vec::from_slice(alloc, cut.own_nets(block))?;
+    nets.extend_from_slice(uses)?;
+    settle(&mut nets);
     Ok(nets)
 }
 
-/// Whether a net is the block's own, or is marked as used.
-fn is_net(cut: &Cut, block: u32, used: &[bool], net: u32) -> bool
-    requires { net < length used.now }
-    ensures { result ≡ (is_own cut.now block net || get_or used.now net false) }
-{
-    is_own(cut, block, net) || used[net as usize]
-}
-
-/// For each of some nets, whether it is marked.
-pub(super) fn marks_of(alloc: Global, used: &[bool], nets: &[u32]) -> Result<Vec<bool>, AllocError>
-    requires { All (λ net. net < length used.now) nets.now }
-    ensures { IfOk result (λ marks. marks.items ≡ map (λ net. get_or used.now net false) nets.now) }
+/// For each of some nets, whether it is among those that are used.
+pub(super) fn marks_of(alloc: Global, uses: &[u32], nets: &[u32]) -> Result<Vec<bool>, AllocError>
+    requires { IsStrictlyIncreasing uses.now }
+    ensures { IfOk result (λ marks. marks.items ≡ map (has uses.now) nets.now) }
 {
     let mut marks = Vec::with_capacity(alloc, nets.len())?;
     for net in nets {
-        marks.push(used[*net as usize])?;
+        marks.push(is_among(uses, *net))?;
     }
     Ok(marks)
 }

@@ -1,16 +1,14 @@
-ghost use Rattle.std.specs.Prelude.{◌≡◌, ◌<◌, ◌≤◌, ◌+◌, ◌||◌, ◌==◌, [], ℕ, IsTrue, IfOk, OnOk, is_some, length, map, replicate, ◌∷◌};
+ghost use Rattle.std.specs.Prelude.{◌≡◌, ◌≤◌, ◌+◌, ℕ, [], IfOk, OnOk, length, map, replicate};
 ghost use Rattle.std.specs.List.{All};
 ghost use Rattle.std.specs.List.Sorted.{IsStrictlyIncreasing};
-ghost use Rattle.gate_netlist.specs.Circuit.{nets_of};
-ghost use Rattle.warp_block.specs.Portion.{slot_of};
-ghost use Rattle.warp_block.specs.PartOf.{is_own, part_nets, part_readers};
+ghost use Rattle.warp_block.specs.PartOf.{part_nets, part_readers};
 ghost use Rattle.warp_block.specs.Inner.HeldPart.{stretch};
-ghost use Rattle.warp_block.specs.Inner.Building.{driver_uses, has, lists_of, AreRising, AreTold, AreReaders};
+ghost use Rattle.warp_block.specs.Inner.Building.{has, lists_of, is_other_owner};
 
 use super::build::is_own;
-use super::slots::place_in;
+use super::slots::settle;
 use crate::cell::Span;
-use gate_netlist::{Circuit, Cut, Driver};
+use gate_netlist::{Circuit, Cut};
 use std::alloc::{AllocError, Global};
 
 /// For each net the other blocks that read it, which only an own net has.
@@ -26,8 +24,10 @@ pub(super) fn readers_of(
 {
     let mut lists = empty_lists(alloc, nets.len())?;
     cut.law();
-    for gate in 0..circuit.nets() {
-        tell_gate(circuit, cut, block, gate, nets, &mut lists)?;
+    for (slot, net) in nets.iter().enumerate() {
+        if is_own(cut, block, *net) {
+            add_owners(circuit.readers(*net), cut, block, &mut lists[slot])?;
+        }
     }
     Ok(lists)
 }
@@ -43,116 +43,23 @@ pub(super) fn empty_lists(alloc: Global, count: usize) -> Result<Vec<Vec<u32>>, 
     Ok(lists)
 }
 
-/// Adds the block of a gate, if it is another one, to the lists of the own nets that the gate uses.
-fn tell_gate(
-    circuit: &Circuit,
-    cut: &Cut,
-    block: u32,
-    gate: u32,
-    nets: &[u32],
-    lists: &mut Vec<Vec<u32>>,
-) -> Result<(), AllocError>
-    requires gate { gate < nets_of circuit.now }
-    requires nets { nets.now ≡ part_nets circuit.now cut.now block }
-    requires readers { AreReaders circuit.now cut.now block gate nets.now (lists_of lists.old.items) }
-    ensures { OnOk result (AreReaders circuit.now cut.now block (gate + 1) nets.now (lists_of lists.new.items)) }
-{
-    circuit.law();
-    let Some(reader) = cut.owner(gate) else {
-        return Ok(());
-    };
-    if reader == block {
-        return Ok(());
-    }
-    tell(circuit.driver(gate), reader, cut, block, nets, lists)
-}
-
-/// Adds a reading block to the lists of the own nets that a driver of it uses.
-fn tell(
-    driver: &Driver,
-    reader: u32,
-    cut: &Cut,
-    block: u32,
-    nets: &[u32],
-    lists: &mut Vec<Vec<u32>>,
-) -> Result<(), AllocError>
-    requires up { IsStrictlyIncreasing nets.now }
-    requires few { length nets.now < 4294967296 }
-    requires there { All (λ net. IsTrue (is_own cut.now block net) → IsTrue (is_some (slot_of nets.now net))) (driver_uses driver.now) }
-    requires many { length lists.old.items ≡ length nets.now }
-    requires rising { AreRising (lists_of lists.old.items) }
-    ensures { OnOk result (AreTold cut.now block nets.now (driver_uses driver.now) reader (lists_of lists.old.items) (lists_of lists.new.items)) }
-{
-    match driver {
-        Driver::Input => Ok(()),
-        Driver::Gate { inputs, .. } => {
-            tell_all(inputs.as_slice(), reader, cut, block, nets, lists)
-        }
-        Driver::Flop { d, clock, .. } => {
-            tell_net(*d, reader, cut, block, nets, lists)?;
-            tell_net(*clock, reader, cut, block, nets, lists)
-        }
-    }
-}
-
-/// Adds a reading block to the lists of the own nets among some.
-fn tell_all(
-    used: &[u32],
-    reader: u32,
-    cut: &Cut,
-    block: u32,
-    nets: &[u32],
-    lists: &mut Vec<Vec<u32>>,
-) -> Result<(), AllocError>
-    requires up { IsStrictlyIncreasing nets.now }
-    requires few { length nets.now < 4294967296 }
-    requires there { All (λ net. IsTrue (is_own cut.now block net) → IsTrue (is_some (slot_of nets.now net))) used.now }
-    requires many { length lists.old.items ≡ length nets.now }
-    requires rising { AreRising (lists_of lists.old.items) }
-    ensures { OnOk result (AreTold cut.now block nets.now used.now reader (lists_of lists.old.items) (lists_of lists.new.items)) }
-{
-    for net in used {
-        tell_net(*net, reader, cut, block, nets, lists)?;
-    }
-    Ok(())
-}
-
-/// Adds a reading block to the list of a net, if it is an own one.
-fn tell_net(
-    net: u32,
-    reader: u32,
-    cut: &Cut,
-    block: u32,
-    nets: &[u32],
-    lists: &mut Vec<Vec<u32>>,
-) -> Result<(), AllocError>
-    requires up { IsStrictlyIncreasing nets.now }
-    requires few { length nets.now < 4294967296 }
-    requires there { IsTrue (is_own cut.now block net) → IsTrue (is_some (slot_of nets.now net)) }
-    requires many { length lists.old.items ≡ length nets.now }
-    requires rising { AreRising (lists_of lists.old.items) }
-    ensures { OnOk result (AreTold cut.now block nets.now (net ∷ []) reader (lists_of lists.old.items) (lists_of lists.new.items)) }
-{
-    if !is_own(cut, block, net) {
-        return Ok(());
-    }
-    let place = place_in(nets, net) as usize;
-    add(&mut lists[place], reader)
-}
-
-/// Adds a number to an ascending list, once.
-fn add(list: &mut Vec<u32>, number: u32) -> Result<(), AllocError>
-    requires { IsStrictlyIncreasing list.old.items }
+/// Puts the blocks that own some gates into an empty list, in ascending order and each once, but not the one block.
+fn add_owners(gates: &[u32], cut: &Cut, block: u32, list: &mut Vec<u32>) -> Result<(), AllocError>
+    requires { list.old.items ≡ [] }
     ensures rising { OnOk result (IsStrictlyIncreasing list.new.items) }
-    ensures told { OnOk result ((c : ℕ) → has list.new.items c ≡ (has list.old.items c || (number == c))) }
+    ensures owners { OnOk result ((c : ℕ) → has list.new.items c ≡ is_other_owner cut.now block gates.now c) }
 {
-    match list.binary_search(&number) {
-        Ok(_) => Ok(()),
-        Err(place) => {
-            list.insert(place, number)?;
-            Ok(())
+    for gate in gates {
+        let Some(reader) = cut.owner(*gate) else {
+            continue;
+        };
+        if reader == block {
+            continue;
         }
+        list.push(reader)?;
     }
+    settle(list);
+    Ok(())
 }
 
 /// Some lists as stretches of one.

@@ -1,7 +1,7 @@
-ghost use Rattle.std.specs.Prelude.{◌≡◌, ◌<◌, IsTrue, is_some, length};
+ghost use Rattle.std.specs.Prelude.{◌≡◌, ◌<◌, ℕ, IsTrue, is_some, length};
 ghost use Rattle.std.specs.List.Sorted.{IsStrictlyIncreasing};
 ghost use Rattle.warp_block.specs.Portion.{slot_of};
-ghost use Rattle.warp_block.specs.Inner.Building.{place_of};
+ghost use Rattle.warp_block.specs.Inner.Building.{place_of, has};
 
 /// The place of a net among others, which ascend.
 pub(super) fn slot_in(nets: &[u32], net: u32) -> Option<usize>
@@ -25,4 +25,21 @@ pub(super) fn place_in(nets: &[u32], net: u32) -> u32
         Some(slot) => slot as u32,
         None => unreachable!(),
     }
+}
+
+/// Whether a net is among others, which ascend.
+pub(super) fn is_among(nets: &[u32], net: u32) -> bool
+    requires { IsStrictlyIncreasing nets.now }
+    ensures { result ≡ has nets.now net }
+{
+    slot_in(nets, net).is_some()
+}
+
+/// Puts some numbers into ascending order, each once.
+pub(super) fn settle(numbers: &mut Vec<u32>)
+    ensures rising { IsStrictlyIncreasing numbers.new.items }
+    ensures same { (n : ℕ) → has numbers.new.items n ≡ has numbers.old.items n }
+{
+    numbers.sort_unstable();
+    numbers.dedup();
 }

@@ -1,30 +1,24 @@
 use Rattle.std.proofs.Common.{length, refl, ap, ◌∙◌}
 use Rattle.warp_block.specs.declared.part.Part.TheInside.{Inside}
-use Rattle.warp_block.proofs.PartBuilding.{nets_within, marks_many}
-use Rattle.warp_block.proofs.PartWhole.{built, IsHeld-built}
+use Rattle.warp_block.proofs.PartWhole.{built, map_same, IsHeld-built}
 use Rattle.warp_block.proofs.part.Part.of.Goals as goal
-
-pub marks_of-requires : goal.marks_of-requires
-marks_of-requires c =
-    let nets = c.deref-3.ensures.value ∙ c.in_ok-nets.ensures in
-    let many = marks_many c.args.circuit.now c.args.cut.now c.args.block c.deref-2.result.now (c.deref-2.ensures.value ∙ c.in_ok-users.ensures) in
-    rw (nets, many) (nets_within c.args.circuit.now c.args.cut.now c.args.block)
 
 pub invariant_of-result : goal.invariant_of-result
 invariant_of-result c =
-    IsHeld-built c.args.circuit.now c.args.cut.now c.args.block c.in_ok-users.users.items _ c.law.ensures c.requires.fits (record {
+    let marks = rw (c.deref-2.ensures.value, c.deref-3.ensures.value) at c.in_ok-used.ensures in
+    IsHeld-built c.args.circuit.now c.args.cut.now c.args.block _ c.law.ensures c.requires.fits (record {
       number = refl;
       nets = c.in_ok-nets.ensures;
       many = c.in_ok-cells.ensures.cells ∙ ap length c.deref-4.ensures.value;
       cells = rw c.deref-4.ensures.value at c.in_ok-cells.ensures.each;
       readers = rw (c.deref-6.ensures.value, c.in_ok-lists.ensures, c.deref-5.ensures.value) at c.in_ok-told.ensures.lists;
       spans = c.in_ok-told.ensures.within;
-      users_are = c.in_ok-users.ensures;
-      used = rw (c.deref-2.ensures.value, c.deref-3.ensures.value) at c.in_ok-used.ensures;
+      used = marks ∙ map_same c.in_ok-uses.ensures.uses c.in_ok-nets.nets.items;
     })
 
 pub returns : goal.returns
 returns c =
+    let marks = rw (c.deref-2.ensures.value, c.deref-3.ensures.value) at c.in_ok-used.ensures in
     let part : Inside = record {
       block = c.args.block;
       nets = c.in_ok-nets.nets;
@@ -34,13 +28,12 @@ returns c =
       readers = c.flattened.new.all;
       used = c.in_ok-used.used;
     } in
-    built c.args.circuit.now c.args.cut.now c.args.block c.in_ok-users.users.items part (record {
+    built c.args.circuit.now c.args.cut.now c.args.block part (record {
       number = refl;
       nets = c.in_ok-nets.ensures;
       many = c.in_ok-cells.ensures.cells ∙ ap length c.deref-4.ensures.value;
       cells = rw c.deref-4.ensures.value at c.in_ok-cells.ensures.each;
       readers = rw (c.deref-6.ensures.value, c.in_ok-lists.ensures, c.deref-5.ensures.value) at c.in_ok-told.ensures.lists;
       spans = c.in_ok-told.ensures.within;
-      users_are = c.in_ok-users.ensures;
-      used = rw (c.deref-2.ensures.value, c.deref-3.ensures.value) at c.in_ok-used.ensures;
+      used = marks ∙ map_same c.in_ok-uses.ensures.uses c.in_ok-nets.nets.items;
     })
