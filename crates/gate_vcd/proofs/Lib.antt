@@ -26,6 +26,8 @@ pub mod Holding
 pub mod SettleLaws
 pub mod ItemLaws
 pub mod InputLaws
+pub mod RunLaws
+pub mod Numbered
 pub mod VectorLaws
 pub mod TableLaws
 pub mod KnownLaws

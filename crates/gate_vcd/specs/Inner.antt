@@ -9,6 +9,7 @@ pub mod Known
 pub mod Lists
 pub mod Lots
 pub mod Reading
+pub mod Runs
 pub mod Scalars
 pub mod Scopes
 pub mod Sink

@@ -23,6 +23,7 @@ mod lot;
 mod numbers;
 mod put;
 mod reading;
+mod runs;
 mod scopes;
 mod sink;
 mod source;

@@ -1,4 +1,4 @@
-ghost use Rattle.std.specs.Prelude.{◌≡◌, ◌<◌, ◌∷◌, List, length, position, option_map, nat_eq, Some, IfErr, IfOk, IfSome, OnOk};
+ghost use Rattle.std.specs.Prelude.{◌≡◌, ◌<◌, ◌≤◌, ◌∷◌, ◌&&◌, ℕ, List, length, position, option_map, nat_eq, nat_le, Some, IfErr, IfOk, IfSome, OnOk};
 ghost use Rattle.std.specs.Path.{rfind_below};
 ghost use Rattle.gate_vcd.specs.Inner.Commands.{variable as variable_of, variables};
 ghost use Rattle.gate_vcd.specs.Declarations.{Variable as TextVariable};
@@ -6,15 +6,15 @@ ghost use Rattle.gate_vcd.specs.Faults.{out_of_memory};
 ghost use Rattle.gate_vcd.specs.Inputs.{first_given, source_in};
 ghost use Rattle.gate_vcd.specs.Inner.Known.{source_by};
 ghost use Rattle.gate_vcd.specs.Inner.Scalars.{AreVectors, bit as bit_by, two_texts, vector as vector_in, vector_by};
-ghost use Rattle.gate_vcd.specs.Vectors.{bit_of, bracketed, index_in, is_between, is_plain, number_in, parted, place_in, range_in, ranged, vector_of};
+ghost use Rattle.gate_vcd.specs.Vectors.{bit_of, bracketed, index_in, is_between, is_plain, last_bit, number_in, parted, range_in, ranged, vector_of};
 
 use crate::fault::StimFault;
-use crate::keyword::is_word;
 use crate::numbers::{is_numeral, number_up_to};
+use crate::runs::{Kept, Runs};
 use crate::source::Source;
 use crate::variable::Variable;
 use gate_netlist::TextSeed;
-use indexmap::IndexMap;
+use indexmap::IndexSet;
 use std::alloc::Global;
 
 /// The greatest number of a bit.
@@ -37,7 +37,8 @@ pub struct Bit<'n> {
 
 /// The number that a text of decimal digits writes, where it can be that of a bit.
 fn number_in(text: &[u8]) -> Option<u64>
-    ensures { result ≡ number_in text.now }
+    ensures value { result ≡ number_in text.now }
+    ensures small { IfSome result (λ number. number ≤ last_bit) }
 {
     if is_numeral(text) {
         number_up_to(LAST_BIT, text)
@@ -90,7 +91,8 @@ fn colon_in(text: &[u8]) -> Option<usize>
 
 /// The numbers of a range, parted by a colon.
 fn range_in(text: &[u8]) -> Option<(u64, u64)>
-    ensures { result ≡ range_in text.now }
+    ensures value { result ≡ range_in text.now }
+    ensures small { IfSome result (λ range. (range.0 ≤ last_bit) × (range.1 ≤ last_bit)) }
 {
     match colon_in(text) {
         Some(at) => match (number_in(&text[..at]), number_in(&text[at + 1..])) {
@@ -103,7 +105,8 @@ fn range_in(text: &[u8]) -> Option<(u64, u64)>
 
 /// The vector that a reference text with a range names.
 fn ranged(text: &[u8]) -> Option<Vector<'_>>
-    ensures { vector_by result ≡ ranged text.now }
+    ensures value { vector_by result ≡ ranged text.now }
+    ensures small { IfSome result (λ vector. (vector.left ≤ last_bit) × (vector.right ≤ last_bit)) }
 {
     let (base, inside) = bracketed(text)?;
     let (left, right) = range_in(inside)?;
@@ -112,7 +115,8 @@ fn ranged(text: &[u8]) -> Option<Vector<'_>>
 
 /// The vector that a variable is.
 fn vector_of<'v, 'a>(variable: &'v Variable<'a>) -> Option<Vector<'v>>
-    ensures { vector_by result ≡ vector_of (variable_of variable.now) }
+    ensures value { vector_by result ≡ vector_of (variable_of variable.now) }
+    ensures small { IfSome result (λ vector. (vector.left ≤ last_bit) × (vector.right ≤ last_bit)) }
 {
     if !variable.counted || !variable.valued {
         return None;
@@ -156,48 +160,42 @@ pub fn bit_of(name: &[u8]) -> Option<Bit<'_>>
     Some(Bit { base, index })
 }
 
-fn is_between(left: u64, right: u64, index: u64) -> bool
-    ensures { result ≡ is_between left right index }
-{
-    left <= index && index <= right || right <= index && index <= left
-}
-
-/// Where the digit of a bit stands in those of a vector that has it, counted from the right and from 0.
-fn place_in(bit: Bit, vector: Vector) -> Option<u64>
-    ensures { result ≡ place_in (bit_by bit.entry) (vector_in vector.entry) }
-{
-    if is_word(bit.base, vector.base) && is_between(vector.left, vector.right, bit.index) {
-        Some(bit.index.abs_diff(vector.right))
-    } else {
-        None
+impl Vector<'_> {
+    /// The numbers of its bits, from the least to the greatest one.
+    fn bits(self) -> (u64, u64)
+        ensures order { result.0 ≤ result.1 }
+        ensures within { (most : ℕ) → self.entry.left ≤ most → self.entry.right ≤ most → result.1 ≤ most }
+        ensures bits { (index : ℕ) → is_between self.entry.left self.entry.right index ≡ (nat_le result.0 index && nat_le index result.1) }
+    {
+        if self.left <= self.right {
+            (self.left, self.right)
+        } else {
+            (self.right, self.left)
+        }
     }
 }
 
-/// A vector that is kept, with its code, and where the next one of its base stands.
-#[derive(Clone, Copy, Debug)]
-pub struct Kept<'v, 'a> {
-    pub vector: Vector<'v>,
-    pub code: &'a [u8],
-    pub next: Option<usize>,
-}
-
-/// The vectors of a text by their bases: of each base the first one.
+/// The vectors of a text, by their bases and bits.
 #[derive(Drop)]
 pub struct Vectors<'v, 'a> {
-    pub first: IndexMap<&'v [u8], usize, TextSeed>,
-    pub kept: Vec<Kept<'v, 'a>>,
+    /// The bases, each with a number.
+    pub bases: IndexSet<&'v [u8], TextSeed>,
+    /// Of each bit the first vector that has it.
+    pub runs: Runs<'a>,
 }
 
 impl<'v, 'a> Vectors<'v, 'a> {
     /// Keeps a vector before the others of its base.
     fn put(&mut self, vector: Vector<'v>, code: &'a [u8]) -> Result<(), StimFault>
+        requires left { vector.left ≤ last_bit }
+        requires right { vector.right ≤ last_bit }
         ensures ok { (vs : List TextVariable) (v : TextVariable) → vector_of v ≡ Some (vector_in vector.entry) → v.code ≡ code.now → AreVectors self.old vs → OnOk result (AreVectors self.new (v ∷ vs)) }
         ensures err { IfErr result (λ e. e ≡ out_of_memory) }
     {
-        let next = self.first.get(vector.base).copied();
-        self.first.insert(vector.base, self.kept.len())?;
-        self.kept.push(Kept { vector, code, next })?;
-        Ok(())
+        let (base, _) = self.bases.insert_full(vector.base)?;
+        let (low, high) = vector.bits();
+        let right = vector.right;
+        self.runs.put(base, low, high, Kept { code, right })
     }
 
     /// Keeps a variable before the others, if it is a vector.
@@ -221,8 +219,8 @@ impl<'v, 'a> Vectors<'v, 'a> {
         ensures err { IfErr result (λ e. e ≡ out_of_memory) }
     {
         let mut vectors = Vectors {
-            first: IndexMap::with_hasher(alloc, seed),
-            kept: Vec::new(alloc),
+            bases: IndexSet::with_hasher(alloc, seed),
+            runs: Runs::new(alloc),
         };
         let mut at = all.len();
         while at > 0 {
@@ -234,20 +232,13 @@ impl<'v, 'a> Vectors<'v, 'a> {
 
     /// The source that the first vector gives that has a bit.
     pub fn source_of(&self, bit: Bit) -> Option<Source<'a>>
-        requires { (vs : List TextVariable) × AreVectors self.now vs }
         ensures { (vs : List TextVariable) → AreVectors self.now vs → source_by result ≡ first_given (source_in (bit_by bit.entry)) vs }
     {
-        let mut next = self.first.get(bit.base).copied();
-        while let Some(at) = next {
-            let kept = self.kept[at];
-            if let Some(place) = place_in(bit, kept.vector) {
-                return Some(Source {
-                    code: kept.code,
-                    place,
-                });
-            }
-            next = kept.next;
-        }
-        None
+        let base = self.bases.get_index_of(bit.base)?;
+        let kept = self.runs.at(base, bit.index)?;
+        Some(Source {
+            code: kept.code,
+            place: bit.index.abs_diff(kept.right),
+        })
     }
 }

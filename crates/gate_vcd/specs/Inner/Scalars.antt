@@ -1,6 +1,7 @@
 -- What a reader keeps of the variables: the scalars by their names, the vectors by their bases.
-use Rattle.std.specs.Prelude.{◌≡◌, ◌<◌, ℕ, ◌-◌, Bool, nat_eq, if◌then◌else◌, List, [], ◌∷◌, length, take, codes, Option, Some, None, slice_get, option_map, option_and_then, map, Result, Ok, Err}
-use Rattle.std.specs.List.{ends_with, filter_map}
+use Rattle.std.specs.Prelude.{◌≡◌, ◌≤◌, ℕ, ◌-◌, Bool, nat_eq, if◌then◌else◌, List, length, take, codes, Option, Some, None, option_map, option_and_then, position, map, Result, Ok, Err}
+use Rattle.std.specs.Int.{abs_diff}
+use Rattle.std.specs.List.{ends_with}
 use Rattle.std.specs.Borrow.{Bor}
 use Rattle.std.specs.Str.{bytes_eq}
 use Rattle.gate_netlist.specs.declared.seed.TextSeed.{TextSeed}
@@ -10,13 +11,14 @@ use Rattle.gate_vcd.specs.declared.inputs.Inputs.{Inputs}
 use Rattle.gate_vcd.specs.declared.inputs.Inputs.TheVariants.{Found, Lacking}
 use Rattle.gate_vcd.specs.declared.vectors.Vector.{Vector as HeldVector}
 use Rattle.gate_vcd.specs.declared.vectors.Bit.{Bit as HeldBit}
-use Rattle.gate_vcd.specs.declared.vectors.Kept.{Kept}
+use Rattle.gate_vcd.specs.declared.runs.Kept.{Kept}
 use Rattle.gate_vcd.specs.declared.vectors.Vectors.{Vectors}
 use Rattle.gate_vcd.specs.Declarations.{Variable}
 use Rattle.gate_vcd.specs.Changes.{Source}
-use Rattle.gate_vcd.specs.Vectors.{Vector, Bit, vector_of}
-use Rattle.gate_vcd.specs.Inputs.{scalar_code}
+use Rattle.gate_vcd.specs.Vectors.{Vector, Bit}
+use Rattle.gate_vcd.specs.Inputs.{first_given, scalar_code, source_in}
 use Rattle.gate_vcd.specs.Inner.Known.{Sources, number_of, sources_by}
+use Rattle.gate_vcd.specs.Inner.Runs.{kept_at}
 
 -- codes by the names of the nets that they are scalars of
 abbrev pub Scalars : Type 0
@@ -44,25 +46,22 @@ bit b = record { base = b.base.now; index = b.index }
 abbrev pub two_texts : Option (Bor (List ℕ) × Bor (List ℕ)) → Option (List ℕ × List ℕ)
 two_texts o = option_map (λ (x : Bor (List ℕ) × Bor (List ℕ)). (x.0.now, x.1.now)) o
 
--- the vectors of a base among variables, each with its code
-abbrev pub with_code : List ℕ → Variable → Option (Vector × List ℕ)
-with_code base v = option_and_then (λ x. if bytes_eq base x.base then Some (x, v.code) else None) (vector_of v)
+-- the source that a bit takes of a vector that is kept
+abbrev pub source_from : ℕ → Kept → Source
+source_from index kept = record { code = kept.code.now; place = abs_diff index kept.right }
 
-abbrev pub vectors_of : List ℕ → List Variable → List (Vector × List ℕ)
-vectors_of base vs = filter_map (with_code base) vs
+-- the number of a base
+abbrev pub number_in : Vectors → List ℕ → Option ℕ
+number_in vectors base = position (λ (k : Bor (List ℕ)). bytes_eq base k.now) vectors.bases.keys
 
--- From a place on, which is below a bound, each vector refers to the next one of its base: these are all.
-abbrev pub Leads : List Kept → ℕ → Option ℕ → List (Vector × List ℕ) → Type 0
-Leads kept bound next [] = next ≡ None
-Leads kept bound next (x ∷ xs) = (k : ℕ) × (v : Kept) × (next ≡ Some k) × (k < bound) × (slice_get kept k ≡ Some v) × ((vector v.vector, v.code.now) ≡ x) × Leads kept k v.next xs
+-- the source that is kept for a bit
+abbrev pub kept_source : Vectors → Bit → Option Source
+kept_source vectors bit = option_map (source_from bit.index) (option_and_then (λ number. kept_at vectors.runs.starts number bit.index) (number_in vectors bit.base))
 
--- the place of the first vector of a base
-abbrev pub first_in : Vectors → List ℕ → Option ℕ
-first_in vectors base = get_by (λ (k : Bor (List ℕ)). bytes_eq base k.now) vectors.first
-
--- for each base its vectors are kept in their order
-abbrev pub AreVectors : Vectors → List Variable → Type 0
-AreVectors vectors vs = (base : List ℕ) → Leads vectors.kept.items (length vectors.kept.items) (first_in vectors base) (vectors_of base vs)
+-- For each bit the source is kept that the first vector gives that has it. At a number of no base nothing is kept.
+pub record AreVectors (vectors : Vectors) (vs : List Variable) : Type 0 where
+  pub sources : (bit : Bit) → kept_source vectors bit ≡ first_given (source_in bit) vs
+  pub fresh : (number index : ℕ) → length vectors.bases.keys ≤ number → kept_at vectors.runs.starts number index ≡ None
 
 -- these are the sources of the nets, or the fault of the first input without one
 abbrev pub AreInputs : Inputs → Result (List (Option Source)) StimFault → Type 0

@@ -1,9 +1,23 @@
-use Rattle.std.proofs.Common.{◌≡◌, ◌∙◌, length, arith}
-use Rattle.gate_vcd.proofs.VectorLaws.{put-before}
+use Rattle.std.proofs.Common.{◌≡◌, refl}
+use Rattle.gate_vcd.specs.declared.runs.Kept.{Kept}
+use Rattle.gate_vcd.specs.Inner.Scalars.{vector}
+use Rattle.gate_vcd.proofs.Numbered.{number}
+use Rattle.gate_vcd.proofs.VectorLaws.{on_each, put-before}
 use Rattle.gate_vcd.proofs.vectors.Vectors.put.Goals as goal
 
 pub returns-clause-ok : goal.returns-clause-ok
 returns-clause-ok c vs v is code law =
-    let many : c.len.result ≡ length c.args.self.now.kept.items = omega (arith, c.len.ensures, c.args.self.now.kept.ok) in
-    put-before c.args.self.now (record { first = c.insert.new.self; kept = c.push.new.self }) (record { vector = c.args.vector; code = c.args.code; next = c.copied-next.result }) v vs is code c.in_ok-push.ensures.items
-    (c.copied-next.ensures ∙ c.get.ensures.value) (λ base. rw (← many) (c.in_ok-insert.ensures.updates.0 (record { now = base; ref_ptr = (0, 0) }))) law
+    let old = c.args.self.now in
+    let base = c.args.vector.base in
+    let at : c.in_ok-base.base ≡ number old.bases.keys base = c.in_ok-base.ensures.index in
+    let kept : Kept = record { code = c.args.code; right = c.args.vector.right } in
+    on_each c.put.result c.put.ensures.ok
+    (λ runs. put-before old (record { bases = c.insert_full.new.self; runs = c.put.new.self }) (vector c.args.vector) base c.bits-low.result.0 c.bits-low.result.1 kept v vs (record {
+      is = is;
+      named = refl;
+      code = code;
+      right = refl;
+      bits = c.bits-low.ensures.bits;
+      bases = c.in_ok-base.ensures.keys;
+      runs = rw at at runs;
+    }) law)
