@@ -43,7 +43,7 @@ pub(super) fn empty_lists(alloc: Global, count: usize) -> Result<Vec<Vec<u32>>, 
     Ok(lists)
 }
 
-/// Puts the blocks that own some gates into an empty list, in ascending order and each once, but not the one block.
+/// Puts the other blocks that own some gates into an empty list, in ascending order, each once.
 fn add_owners(gates: &[u32], cut: &Cut, block: u32, list: &mut Vec<u32>) -> Result<(), AllocError>
     requires { list.old.items ≡ [] }
     ensures rising { OnOk result (IsStrictlyIncreasing list.new.items) }
