@@ -4,7 +4,7 @@ use std::test::Fail;
 
 const BITS: &str = "INPUT(A[0])\nINPUT(A[1])\nINPUT(A[2])\nY = XOR(A[0], A[2])\n";
 
-const DIGITS: [Row; 10] = [
+const DIGITS: [Row; 11] = [
     Row {
         bench: BITS,
         settings: "",
@@ -68,6 +68,14 @@ const DIGITS: [Row; 10] = [
             "00 11 20 3z 40 ",
             "01 10 3z 40 ",
             "00 3z 40 ",
+        ],
+    },
+    Row {
+        bench: "INPUT(A[0])\nINPUT(A[1])\nINPUT(A[2])\nINPUT(A[3])\nINPUT(A[4])\nINPUT(A[5])\nINPUT(A[6])\nINPUT(A[7])\nINPUT(A[8])\nINPUT(A[9])\n",
+        settings: "",
+        text: "$var wire 10 t B [9:0] $end $var wire 4 p A [7:4] $end $var wire 4 q A [2:5] $end $var wire 10 r A [9:0] $end $var wire 2 s A [4:3] $end $enddefinitions $end bz t b0101 p b0001 q b1110101111 r b01 s",
+        nets: &[
+            "01 ", "01 ", "00 ", "00 ", "01 ", "00 ", "01 ", "00 ", "01 ", "01 ",
         ],
     },
 ];
