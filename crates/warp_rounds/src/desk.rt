@@ -1,5 +1,7 @@
 //! What a worker works with, and keeps from one block, and from one round, to the next.
 
+ghost use Rattle.std.specs.Prelude.{◌≡◌, IfOk, []};
+
 use crate::site::Site;
 use std::alloc::{AllocError, Global};
 use std::sync::Wait;
@@ -16,7 +18,9 @@ pub struct Desk {
 
 impl Desk {
     /// Empty lists, for so many blocks.
-    pub fn new(alloc: Global, blocks: usize) -> Result<Desk, AllocError> {
+    pub fn new(alloc: Global, blocks: usize) -> Result<Desk, AllocError>
+        ensures { IfOk result (λ desk. desk.sent.items ≡ []) }
+    {
         let mut sorted = Vec::new(alloc);
         for _ in 0..blocks {
             sorted.push(Vec::new(alloc))?;
@@ -29,7 +33,9 @@ impl Desk {
 
     /// Puts what is sent into the inboxes of the blocks that it is for, in its order for each block, and holds each
     /// inbox's lock once. After that nothing is left to be sent.
-    pub fn deliver<R: Wait>(&mut self, rt: &R, sites: &[Site]) -> Result<(), AllocError> {
+    pub fn deliver<R: Wait>(&mut self, rt: &R, sites: &[Site]) -> Result<(), AllocError>
+        ensures { IfOk result (λ _. self.new.sent.items ≡ []) }
+    {
         sort_out(self.sent.as_slice(), &mut self.sorted)?;
         for message in &self.sent {
             put_list(rt, sites, message.block as usize, &mut self.sorted)?;
