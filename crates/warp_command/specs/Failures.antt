@@ -1,5 +1,6 @@
 -- What each failure writes on standard error, and the status that the program ends with.
-use Rattle.std.specs.Prelude.{ℕ, List, [], ◌∷◌, ◌++◌, codes, string_bytes}
+use Rattle.std.specs.Prelude.{◌≡◌, ◌⊎◌, ℕ, List, [], ◌∷◌, ◌++◌, codes, string_bytes}
+use Rattle.warp_text.specs.declared.fault.Fault.TheVariants as faults
 use Rattle.warp_text.specs.FaultLines.{fault_line, status_of}
 use Rattle.warp_command.specs.declared.failure.Failure.{Failure}
 use Rattle.warp_command.specs.declared.failure.Failure.TheVariants as failures
@@ -20,3 +21,8 @@ failure_status failures.StimulusNotExpected = 2
 failure_status (failures.Unreadable name) = 4
 failure_status (failures.Fault fault) = status_of fault
 failure_status failures.Unwritten = 4
+
+-- what the program tells of a line that it refuses itself: this text, with status 2; or memory ran out
+abbrev pub IsRefusedLine : List ℕ → Failure → Type 0
+IsRefusedLine text failure =
+    ((failure_text failure ≡ text) × (failure_status failure ≡ 2)) ⊎ (failure ≡ failures.Fault faults.Memory)

@@ -1,6 +1,6 @@
 //! Why the program ends without a text on standard output.
 ghost use Rattle.std.specs.Prelude.{◌≡◌, Some};
-ghost use Rattle.warp_command.specs.Failures.{failure_text, failure_status};
+ghost use Rattle.warp_command.specs.Failures.{failure_text, failure_status, IsRefusedLine};
 ghost use Rattle.warp_command.specs.declared.failure.Failure.TheVariants as failures;
 ghost use Rattle.warp_text.specs.declared.fault.Fault.TheVariants as faults;
 
@@ -27,7 +27,9 @@ pub enum Failure<'a> {
 
 impl<'a> Failure<'a> {
     /// The failure of a line that the program refuses itself, with a text that says why.
-    pub fn line(alloc: Global, text: &str) -> Failure<'a> {
+    pub fn line(alloc: Global, text: &str) -> Failure<'a>
+        ensures { IsRefusedLine text.now result }
+    {
         match String::from_str(alloc, text) {
             Ok(text) => Failure::Line(text),
             Err(_) => Failure::Fault(Fault::Memory),

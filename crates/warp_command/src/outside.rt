@@ -1,5 +1,5 @@
 //! The texts outside: files by name, and standard input.
-ghost use Rattle.std.specs.Prelude.{◌≡◌, IfOk, IfSome};
+ghost use Rattle.std.specs.Prelude.{◌≡◌, IfOk, IfSome, false};
 ghost use Rattle.warp_command.specs.Outside.{GivesOnce};
 
 use crate::texts::{FetchFault, Texts};
@@ -20,7 +20,9 @@ pub struct Outside<'a, R: Files + Input> {
 
 impl<'a, R: Files + Input> Outside<'a, R> {
     /// The texts outside, none of them read yet.
-    pub fn new(rt: &'a R) -> Outside<'a, R> {
+    pub fn new(rt: &'a R) -> Outside<'a, R>
+        ensures { result.has_given_input ≡ false }
+    {
         Outside {
             rt,
             has_given_input: false,
