@@ -4,21 +4,21 @@ use Rattle.std.specs.List.{filter, range_with_len, All}
 use Rattle.std.specs.List.Sorted.{IsStrictlyIncreasing}
 use Rattle.std.proofs.lemmas.Bool.{cases_Bool, cases_lt, eqb-true, or_right, or_left, and_right, and_from}
 use Rattle.std.proofs.lemmas.List.{append_assoc, map_more, length-drop, get_or_default, length-map, length-append, take-append-le, drop-append-le, take_all, drop_at, get_or_append_left, get_or_push}
-use Rattle.std.proofs.lemmas.List.Elements.{All-append, All-map, All-nil, All-cons, filter_agree}
+use Rattle.std.proofs.lemmas.List.Elements.{All-append, All-map, All-nil, All-cons}
 use Rattle.std.proofs.lemmas.List.Folds.{Any-from_list_any, list_any_none}
 use Rattle.gate_values.specs.declared.gate.Kind.{Kind}
 use Rattle.gate_values.specs.declared.logic.Logic.{Logic}
 use Rattle.gate_values.specs.Tables.{HasInputs}
 use Rattle.gate_values.specs.Behaviour.{Source}
 use Rattle.gate_netlist.specs.Circuit.{Design, IsCircuit, IsDriven, CutFits, IsDelay, nets_of, driver_of, source_of, source_by, is_input, delay_of, delay_by}
-use Rattle.gate_netlist.specs.Cut.{Ownership, is_owner as is_cut_owner, owner_of, own_among, own_nets}
+use Rattle.gate_netlist.specs.Cut.{Ownership, owner_of, own_among, own_nets}
 use Rattle.gate_netlist.specs.declared.driver.Driver.{Driver}
 use Rattle.gate_netlist.specs.declared.driver.Driver.TheVariants.{Input, Gate, Flop}
 use Rattle.warp_block.specs.declared.cell.Cell.{Cell}
 use Rattle.warp_block.specs.declared.cell.Cell.TheVariants as cell
 use Rattle.warp_block.specs.declared.cell.Span.{Span}
 use Rattle.warp_block.specs.Portion.{slot_of, uses, does_use}
-use Rattle.warp_block.specs.PartOf.{is_own, is_owner, is_used_by, part_nets, part_source}
+use Rattle.warp_block.specs.PartOf.{is_own, is_used_by, part_nets, part_source}
 use Rattle.warp_block.specs.Inner.HeldPart.{stretch}
 use Rattle.warp_block.specs.Inner.Building.{driver_uses, place_of, has, is_used_among, IsCell, HasMore, AreCells}
 use Rattle.warp_block.proofs.Slots.{slot_at, slot_is}
@@ -67,15 +67,9 @@ place_is nets n h = go (slot_of nets n) refl h
 -- ---- what is used
 
 module _ (d : Design) (cut : Ownership) (b : ℕ) where
-  owner_same : (o : Option ℕ) → is_cut_owner b o ≡ is_owner b o
-  owner_same None = refl
-  owner_same (Some owner) = refl
-
   -- a block's own nets are those of the circuit that it owns
   pub own_is : CutFits d cut → own_nets cut b ≡ filter (is_own cut b) (range_with_len 0 (nets_of d))
-  own_is fits =
-      ap (λ count. own_among cut.owners count b) fits.nets
-      ∙ filter_agree (λ n. is_cut_owner b (owner_of cut n)) (is_own cut b) (λ n. owner_same (owner_of cut n)) (range_with_len 0 (nets_of d))
+  own_is fits = ap (λ count. own_among cut.owners count b) fits.nets
 
   pub own_within : CutFits d cut → All (λ n. n < nets_of d) (own_nets cut b)
   own_within fits = rw (own_is fits) (kept_below (is_own cut b) (nets_of d))

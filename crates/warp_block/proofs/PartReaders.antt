@@ -9,12 +9,12 @@ use Rattle.std.proofs.lemmas.List.{map-set, length-map, length-set, get_or-map, 
 use Rattle.std.proofs.lemmas.List.Elements.{All-append, All-cons, All-nil}
 use Rattle.std.proofs.lemmas.List.Folds.{list_any-append, list_any_more, list_any_none}
 use Rattle.gate_netlist.specs.Circuit.{Design, nets_of, driver_of, source_of, nets_used, is_one_of, readers_of}
-use Rattle.gate_netlist.specs.Cut.{Ownership, IsOwnership, owner_of}
+use Rattle.gate_netlist.specs.Cut.{Ownership, IsOwnership, is_owner, owner_of}
 use Rattle.gate_netlist.specs.declared.driver.Driver.{Driver}
 use Rattle.gate_netlist.specs.declared.driver.Driver.TheVariants.{Input, Gate, Flop}
 use Rattle.warp_block.specs.declared.cell.Span.{Span}
 use Rattle.warp_block.specs.Portion.{does_use}
-use Rattle.warp_block.specs.PartOf.{is_own, is_owner, is_used_by, part_readers}
+use Rattle.warp_block.specs.PartOf.{is_own, is_used_by, part_readers}
 use Rattle.warp_block.specs.Inner.HeldPart.{stretch}
 use Rattle.warp_block.specs.Inner.Building.{driver_uses, has, lists_of, is_other_owner, AreReaders}
 use Rattle.warp_block.proofs.PartLists.{or_none, any_kept, any_same, kept_is}

@@ -7,14 +7,14 @@ use Rattle.std.proofs.lemmas.List.{length-map, get_or-map, ext_get_or}
 use Rattle.std.proofs.lemmas.List.Elements.{All-weaker, filter_passes}
 use Rattle.gate_values.specs.Behaviour.{Source, Outside, IsWellFormed, source_delay}
 use Rattle.gate_netlist.specs.Circuit.{Design, IsCircuit, IsDriven, CutFits, nets_of, driver_of, source_of, source_by, is_input, IsDelay}
-use Rattle.gate_netlist.specs.Cut.{Ownership, owner_of}
+use Rattle.gate_netlist.specs.Cut.{Ownership, is_owner, owner_of}
 use Rattle.gate_netlist.specs.declared.driver.Driver.{Driver}
 use Rattle.gate_netlist.specs.declared.driver.Driver.TheVariants.{Input, Gate, Flop}
 use Rattle.warp_block.specs.declared.cell.Cell.TheVariants as Cell
 use Rattle.warp_block.specs.declared.cell.Span.{Span}
 use Rattle.warp_block.specs.declared.part.Part.TheInside.{Inside}
 use Rattle.warp_block.specs.Portion.{Portion, IsPortion, is_driven, is_used, slot_of, uses, does_use}
-use Rattle.warp_block.specs.PartOf.{is_own, is_owner, is_used_by, part_nets, part_source, part_readers, part_of}
+use Rattle.warp_block.specs.PartOf.{is_own, is_used_by, part_nets, part_source, part_readers, part_of}
 use Rattle.warp_block.specs.Inner.HeldPart.{IsHeld, portion_of, cell_source, is_input_cell, stretch}
 use Rattle.warp_block.specs.Inner.Building.{AreCells}
 use Rattle.warp_block.proofs.PartLists.{and_none, any_kept, any_same, kept_rises}

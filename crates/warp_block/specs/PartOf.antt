@@ -1,14 +1,10 @@
 -- The part of a circuit that a cut gives a block.
-use Rattle.std.specs.Prelude.{ℕ, Bool, false, not, ◌&&◌, ◌||◌, ◌==◌, if◌then◌else◌, Option, Some, None, List, [], map}
+use Rattle.std.specs.Prelude.{ℕ, Bool, not, ◌&&◌, ◌||◌, ◌==◌, if◌then◌else◌, List, [], map}
 use Rattle.std.specs.List.{list_any, filter, range_with_len}
 use Rattle.gate_values.specs.Behaviour.{Source, Outside}
 use Rattle.gate_netlist.specs.Circuit.{Design, nets_of, driver_of, source_of, is_input}
-use Rattle.gate_netlist.specs.Cut.{Ownership, owner_of}
+use Rattle.gate_netlist.specs.Cut.{Ownership, is_owner, owner_of}
 use Rattle.warp_block.specs.Portion.{Portion, does_use}
-
-abbrev pub is_owner : ℕ → Option ℕ → Bool
-is_owner b None = false
-is_owner b (Some o) = o == b
 
 -- the block owns the net
 abbrev pub is_own : Ownership → ℕ → ℕ → Bool

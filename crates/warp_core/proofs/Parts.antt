@@ -4,11 +4,11 @@ use Rattle.std.proofs.lemmas.Bool.{cases_Bool, cases_lt, eqb-true, eq-eqb, or_le
 use Rattle.std.proofs.lemmas.List.{get_or_past}
 use Rattle.gate_values.specs.Behaviour.{Source, Outside}
 use Rattle.gate_netlist.specs.Circuit.{Design, CutFits, nets_of, driver_of, source_of as circuit_source, source_by, is_input}
-use Rattle.gate_netlist.specs.Cut.{Ownership, owner_of}
+use Rattle.gate_netlist.specs.Cut.{Ownership, is_owner, owner_of}
 use Rattle.gate_netlist.specs.declared.driver.Driver.{Driver}
 use Rattle.gate_netlist.specs.declared.driver.Driver.TheVariants.{Input, Gate, Flop}
 use Rattle.warp_block.specs.Portion.{Portion, is_driven, source_of, owns, reads, slot_of}
-use Rattle.warp_block.specs.PartOf.{is_own, is_owner, is_used_by, part_nets, part_source, part_of}
+use Rattle.warp_block.specs.PartOf.{is_own, is_used_by, part_nets, part_source, part_of}
 use Rattle.warp_block.proofs.Slots.{of_net-map, slot_is}
 use Rattle.warp_block.proofs.PartLists.{has_kept}
 use Rattle.warp_block.proofs.PartBuilding.{is_net, nets_rise, nets_within, slot_some}

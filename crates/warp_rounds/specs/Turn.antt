@@ -65,7 +65,7 @@ StaysInFront before out = (sent : List Message) × (out ≡ before ++ sent)
 -- ---- a turn
 
 -- The messages were received, and then what is below the floor was committed.
-pub record IsSettled (old settled : Process) (messages : List Message) (floor : ℕ) : Type 0 where
+pub record IsCaughtUp (old settled : Process) (messages : List Message) (floor : ℕ) : Type 0 where
   pub heard : Process
   pub received : AreReceived old.seen heard.seen messages
   pub possible : IsCommittable heard.seen floor
@@ -75,7 +75,7 @@ pub record IsSettled (old settled : Process) (messages : List Message) (floor : 
 -- A turn: after the commit so many event times were finished, fewer only where none is left.
 pub record IsTurn (old new : Process) (messages : List Message) (floor window : ℕ) : Type 0 where
   pub settled : Process
-  pub before : IsSettled old settled messages floor
+  pub before : IsCaughtUp old settled messages floor
   pub count : ℕ
   pub advanced : IsAdvanced settled.seen new.seen count
   pub all : (count ≡ window) ⊎ ((count < window) × IsDone new.seen)
@@ -99,7 +99,7 @@ pub record IsHeldBack (old new : View) (messages : List Message) (floor : ℕ) (
 -- Memory was wanting after the commit, when fewer event times than asked for were finished.
 pub record IsCutShort (old new : Process) (messages : List Message) (floor window : ℕ) (fault : BlockFault) : Type 0 where
   pub settled : Process
-  pub before : IsSettled old settled messages floor
+  pub before : IsCaughtUp old settled messages floor
   pub count : ℕ
   pub fewer : count < window
   pub advanced : IsAdvanced settled.seen new.seen count
