@@ -2,14 +2,13 @@
 
 ghost use Rattle.std.specs.Prelude.{◌<◌};
 
-use crate::texts;
-use crate::timer::report;
+use crate::circuits::{self, Given};
+use crate::timer::{self, report};
 use anyhow::Result;
-use gate_netlist::{Circuit, Cut, read_bench};
+use gate_netlist::{Circuit, Cut};
 use gate_values::Logic;
-use gate_vcd::{Stimulus, read_stimulus};
+use gate_vcd::Stimulus;
 use std::rt::Clock;
-use std::time::Instant;
 
 /// A prime above every size, so that its multiples reach each number below the size once.
 const STEP: u64 = 999_983;
@@ -28,20 +27,23 @@ fn times_of_one(stimulus: &Stimulus, size: u32) -> u64
     sum
 }
 
+fn at_timed<R: Eprint + Clock>(rt: &R, stimulus: &Stimulus, size: u32) -> Result<u64>
+    requires { 0 < size }
+{
+    let start = timer::start(rt)?;
+    let sum = times_of_one(stimulus, size);
+    report(rt, "at", size, start)?;
+    Ok(sum)
+}
+
 /// The values of an input with `size` changes, one for each time below `size`; the answer is the sum of the
 /// times at which it is 1.
 pub fn at<R: Eprint + Clock + AllocGlobal>(rt: &R, size: u32) -> Result<u64>
     requires { 0 < size }
 {
-    let bench = texts::inputs(rt.alloc(), 1)?;
-    let bench = read_bench(rt.alloc(), bench.as_bytes())?;
-    let circuit = Circuit::of(rt.alloc(), bench, b"")?;
-    let text = texts::stimulus(rt.alloc(), 1, size, false)?;
-    let stimulus = read_stimulus(rt.alloc(), text.as_bytes(), &circuit)?;
-    let start = Instant::now(rt)?;
-    let sum = times_of_one(&stimulus, size);
-    report(rt, "at", size, start)?;
-    Ok(sum)
+    let circuit = circuits::inputs(rt.alloc(), 1)?;
+    let given = Given::of(rt.alloc(), circuit, 1, size, false)?;
+    at_timed(rt, &given.stimulus, size)
 }
 
 /// How many nets are found by their names.
@@ -55,15 +57,17 @@ fn found(circuit: &Circuit) -> u64 {
     count
 }
 
-/// The nets of a circuit of `size` nets, each looked up by its name; the answer is how many are found.
-pub fn find<R: Eprint + Clock + AllocGlobal>(rt: &R, size: u32) -> Result<u64> {
-    let text = texts::chain(rt.alloc(), size)?;
-    let bench = read_bench(rt.alloc(), text.as_bytes())?;
-    let circuit = Circuit::of(rt.alloc(), bench, b"")?;
-    let start = Instant::now(rt)?;
-    let count = found(&circuit);
+fn find_timed<R: Eprint + Clock>(rt: &R, circuit: &Circuit, size: u32) -> Result<u64> {
+    let start = timer::start(rt)?;
+    let count = found(circuit);
     report(rt, "find", size, start)?;
     Ok(count)
+}
+
+/// The nets of a circuit of `size` nets, each looked up by its name; the answer is how many are found.
+pub fn find<R: Eprint + Clock + AllocGlobal>(rt: &R, size: u32) -> Result<u64> {
+    let circuit = circuits::chain(rt.alloc(), size)?;
+    find_timed(rt, &circuit, size)
 }
 
 /// The sum of the numbers of the blocks that own nets.
@@ -77,13 +81,24 @@ fn owners_in_all(cut: &Cut, nets: u32) -> u64 {
     sum
 }
 
+fn cut_timed<R: Eprint + Clock + AllocGlobal>(rt: &R, circuit: &Circuit, size: u32) -> Result<Cut> {
+    let start = timer::start(rt)?;
+    let cut = Cut::even(rt.alloc(), circuit, 16)?;
+    report(rt, "cut-even", size, start)?;
+    Ok(cut)
+}
+
+fn owners_cut<R: Eprint + Clock + AllocGlobal>(
+    rt: &R,
+    circuit: &Circuit,
+    size: u32,
+) -> Result<u64> {
+    let cut = cut_timed(rt, circuit, size)?;
+    Ok(owners_in_all(&cut, size))
+}
+
 /// A circuit of `size` nets cut evenly into 16 blocks; the answer is the sum of the owners' numbers.
 pub fn cut_even<R: Eprint + Clock + AllocGlobal>(rt: &R, size: u32) -> Result<u64> {
-    let text = texts::chain(rt.alloc(), size)?;
-    let bench = read_bench(rt.alloc(), text.as_bytes())?;
-    let circuit = Circuit::of(rt.alloc(), bench, b"")?;
-    let start = Instant::now(rt)?;
-    let cut = Cut::even(rt.alloc(), &circuit, 16)?;
-    report(rt, "cut-even", size, start)?;
-    Ok(owners_in_all(&cut, size))
+    let circuit = circuits::chain(rt.alloc(), size)?;
+    owners_cut(rt, &circuit, size)
 }

@@ -7,6 +7,7 @@
 
 ghost use Rattle.std.specs.Prelude.{◌<◌};
 
+mod circuits;
 mod looking;
 mod playing;
 mod reading;
@@ -98,9 +99,9 @@ fn run_named<R: Print + Eprint + Clock + AllocGlobal>(rt: &R, name: &str, size: 
     requires { 0 < size }
 {
     let mut is_known = false;
-    for (known, benchmark) in BENCHMARKS {
-        if name == "all" || name == known {
-            run_one(rt, known, benchmark, size)?;
+    for (known, benchmark) in &BENCHMARKS {
+        if name == "all" || name == *known {
+            run_one(rt, known, *benchmark, size)?;
             is_known = true;
         }
     }

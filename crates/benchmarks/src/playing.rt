@@ -2,13 +2,11 @@
 ghost use Rattle.gate_netlist.specs.Circuit.{CutFits};
 ghost use Rattle.gate_vcd.specs.Given.{Fits};
 
-use crate::texts;
-use crate::timer::report;
+use crate::circuits::{self, Given};
+use crate::timer::{self, report};
 use anyhow::Result;
-use gate_netlist::{Circuit, Cut, read_bench};
-use gate_vcd::{Stimulus, read_stimulus};
+use gate_netlist::Cut;
 use std::rt::Clock;
-use std::time::Instant;
 use warp_core::{Event, World};
 
 const NETS: u32 = 64;
@@ -37,36 +35,39 @@ fn play_events(world: &mut World<'_>, count: u32) -> Result<()> {
     Ok(())
 }
 
-/// A chain of gates.
-fn chain<R: AllocGlobal>(rt: &R) -> Result<Circuit> {
-    let text = texts::chain(rt.alloc(), NETS)?;
-    let bench = read_bench(rt.alloc(), text.as_bytes())?;
-    Ok(Circuit::of(rt.alloc(), bench, b"")?)
+fn play_timed<R: Eprint + Clock>(rt: &R, world: &mut World<'_>, size: u32) -> Result<u64> {
+    let start = timer::start(rt)?;
+    play_events(world, size)?;
+    report(rt, "play", size, start)?;
+    Ok(world.least())
 }
 
 /// Plays `size` events on a circuit's blocks; the answer is the least time.
 fn play_on<R: Eprint + Clock + AllocGlobal>(
     rt: &R,
-    circuit: &Circuit,
+    given: &Given,
     cut: &Cut,
-    stimulus: &Stimulus,
     size: u32,
 ) -> Result<u64>
-    requires cut { CutFits circuit.now cut.now }
-    requires stimulus { Fits stimulus.now circuit.now }
+    requires cut { CutFits given.now.circuit cut.now }
+    requires stimulus { Fits given.now.stimulus given.now.circuit }
 {
-    let mut world = World::new(rt.alloc(), circuit, cut, stimulus, u64::from(size))?;
-    let start = Instant::now(rt)?;
-    play_events(&mut world, size)?;
-    report(rt, "play", size, start)?;
-    Ok(world.least())
+    let horizon = u64::from(size);
+    let mut world = World::new(rt.alloc(), &given.circuit, cut, &given.stimulus, horizon)?;
+    play_timed(rt, &mut world, size)
+}
+
+/// The same in 16 blocks.
+fn play_cut<R: Eprint + Clock + AllocGlobal>(rt: &R, given: &Given, size: u32) -> Result<u64>
+    requires { Fits given.now.stimulus given.now.circuit }
+{
+    let cut = Cut::even(rt.alloc(), &given.circuit, BLOCKS)?;
+    play_on(rt, given, &cut, size)
 }
 
 /// `size` events on a chain of gates in 16 blocks, all of which change at each time; the answer is the least time.
 pub fn play<R: Eprint + Clock + AllocGlobal>(rt: &R, size: u32) -> Result<u64> {
-    let circuit = chain(rt)?;
-    let text = texts::stimulus(rt.alloc(), 1, size / BLOCKS, false)?;
-    let stimulus = read_stimulus(rt.alloc(), text.as_bytes(), &circuit)?;
-    let cut = Cut::even(rt.alloc(), &circuit, BLOCKS)?;
-    play_on(rt, &circuit, &cut, &stimulus, size)
+    let circuit = circuits::chain(rt.alloc(), NETS)?;
+    let given = Given::of(rt.alloc(), circuit, 1, size / BLOCKS, false)?;
+    play_cut(rt, &given, size)
 }

@@ -14,19 +14,36 @@ pub fn chain(alloc: Global, size: u32) -> Result<String, AllocError> {
     Ok(text)
 }
 
-/// A delay and a block for each gate of the chain.
-pub fn chain_settings(alloc: Global, size: u32) -> Result<String, AllocError> {
-    let mut text = String::new(alloc);
+/// The same with a last line that defines its input again.
+pub fn chain_refused(alloc: Global, size: u32) -> Result<String, AllocError> {
+    let mut text = chain(alloc, size)?;
+    text.push_str("n0 = NOT(n0)\n")?;
+    Ok(text)
+}
+
+fn push_delays(text: &mut String, size: u32) -> Result<(), AllocError> {
     writeln!(text, "[net]")?;
     for net in 1..size {
         let delay = net % 7 + 1;
         writeln!(text, "n{net} = {delay}")?;
     }
+    Ok(())
+}
+
+fn push_blocks(text: &mut String, size: u32) -> Result<(), AllocError> {
     writeln!(text, "[block]")?;
     for net in 1..size {
         let block = net % 1024;
         writeln!(text, "n{net} = {block}")?;
     }
+    Ok(())
+}
+
+/// A delay and a block for each gate of the chain.
+pub fn chain_settings(alloc: Global, size: u32) -> Result<String, AllocError> {
+    let mut text = String::new(alloc);
+    push_delays(&mut text, size)?;
+    push_blocks(&mut text, size)?;
     Ok(text)
 }
 
@@ -76,20 +93,32 @@ fn push_step(text: &mut String, inputs: u32, time: u32, value: u32) -> Result<()
     Ok(())
 }
 
-/// A stimulus of so many inputs that change at the first stamp and at the last, and between them so many
-/// changes of ten variables that are no inputs, one change for each stamp.
-pub fn stimulus_unused(alloc: Global, inputs: u32, changes: u32) -> Result<String, AllocError> {
-    let mut text = String::new(alloc);
+/// The declaration of ten variables that are no inputs.
+fn push_unused(text: &mut String) -> Result<(), AllocError> {
     for variable in 0..10 {
         writeln!(text, "$var wire 1 u{variable} unused{variable} $end")?;
     }
-    push_variables(&mut text, inputs, false)?;
-    push_step(&mut text, inputs, 0, 0)?;
+    Ok(())
+}
+
+/// So many changes of those variables, one change for each stamp.
+fn push_unused_changes(text: &mut String, changes: u32) -> Result<(), AllocError> {
     for time in 0..changes {
         let code = time % 10;
         let value = time / 10 % 2;
         writeln!(text, "#{time}\n{value}u{code}")?;
     }
+    Ok(())
+}
+
+/// A stimulus of so many inputs that change at the first stamp and at the last, and between them so many
+/// changes of ten variables that are no inputs, one change for each stamp.
+pub fn stimulus_unused(alloc: Global, inputs: u32, changes: u32) -> Result<String, AllocError> {
+    let mut text = String::new(alloc);
+    push_unused(&mut text)?;
+    push_variables(&mut text, inputs, false)?;
+    push_step(&mut text, inputs, 0, 0)?;
+    push_unused_changes(&mut text, changes)?;
     push_step(&mut text, inputs, changes, 1)?;
     Ok(text)
 }
@@ -109,18 +138,23 @@ fn push_bus(text: &mut String) -> Result<(), AllocError> {
     writeln!(text, "$enddefinitions $end")
 }
 
+/// All digits of the bus at a time.
+fn push_word(text: &mut String, time: u32) -> Result<(), AllocError> {
+    let four = if time % 2 == 0 { "0000" } else { "0001" };
+    writeln!(text, "#{time}")?;
+    text.push_str("b")?;
+    for _ in 0..16 {
+        text.push_str(four)?;
+    }
+    text.push_str(" !\n")
+}
+
 /// A stimulus of a 64-bit bus with so many changes, all digits each time, of which every fourth moves.
 pub fn bus(alloc: Global, changes: u32) -> Result<String, AllocError> {
     let mut text = String::new(alloc);
     push_bus(&mut text)?;
     for time in 0..changes {
-        let four = if time % 2 == 0 { "0000" } else { "0001" };
-        writeln!(text, "#{time}")?;
-        text.push_str("b")?;
-        for _ in 0..16 {
-            text.push_str(four)?;
-        }
-        text.push_str(" !\n")?;
+        push_word(&mut text, time)?;
     }
     Ok(text)
 }

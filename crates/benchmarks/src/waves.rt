@@ -1,12 +1,11 @@
 //! What waves cost.
 
-use crate::timer::report;
+use crate::timer::{self, report};
 use anyhow::Result;
 use gate_values::{Change, Logic};
 use gate_vcd::Waves;
 use std::alloc::{AllocError, Global};
 use std::rt::Clock;
-use std::time::Instant;
 
 /// How many changes a net has; the last one may have fewer.
 const TURNS: u32 = 10;
@@ -63,7 +62,7 @@ fn held(waves: &Waves) -> u64 {
 
 /// `size` changes, ten of each net, one net after another; the answer is how many are held.
 pub fn waves_by_net<R: Eprint + Clock + AllocGlobal>(rt: &R, size: u32) -> Result<u64> {
-    let start = Instant::now(rt)?;
+    let start = timer::start(rt)?;
     let waves = pushed_by_net(rt.alloc(), size)?;
     report(rt, "waves-by-net", size, start)?;
     Ok(held(&waves))
@@ -71,7 +70,7 @@ pub fn waves_by_net<R: Eprint + Clock + AllocGlobal>(rt: &R, size: u32) -> Resul
 
 /// The same changes, one time after another.
 pub fn waves_by_time<R: Eprint + Clock + AllocGlobal>(rt: &R, size: u32) -> Result<u64> {
-    let start = Instant::now(rt)?;
+    let start = timer::start(rt)?;
     let waves = pushed_by_time(rt.alloc(), size)?;
     report(rt, "waves-by-time", size, start)?;
     Ok(held(&waves))

@@ -1,17 +1,16 @@
 //! What the writer of dumps costs.
 
 ghost use Rattle.std.specs.Prelude.{◌≡◌, ℕ, ◌+◌, ◌<◌, ◌≤◌, length, IfOk, OnOk};
+ghost use Rattle.gate_netlist.specs.Circuit.{nets_of};
 ghost use Rattle.gate_vcd.specs.Waves.{wave_of, end_time};
 
-use crate::texts;
-use crate::timer::report;
+use crate::circuits::{self, Given};
+use crate::timer::{self, report};
 use anyhow::Result;
-use gate_netlist::{Circuit, read_bench};
 use gate_values::{Change, Logic};
-use gate_vcd::{Grow, Waves, read_stimulus, write_vcd};
+use gate_vcd::{Grow, Waves, write_vcd};
 use std::alloc::{AllocError, Global};
 use std::rt::Clock;
-use std::time::Instant;
 
 /// The other of 0 and 1 than the last value of a net.
 fn other_value(changes: &[Change]) -> Logic {
@@ -66,30 +65,47 @@ fn sparse(alloc: Global, nets: u32) -> Result<Waves, AllocError>
     Ok(waves)
 }
 
-/// The dump of `size` nets of which three change at each of `size` times; the answer is its length.
-pub fn write<R: Eprint + Clock + AllocGlobal>(rt: &R, size: u32) -> Result<u64>
-    requires { 0 < size }
+/// Writes the dump of waves, and tells how long that takes; the answer is its length.
+fn write_timed<R: Eprint + Clock + AllocGlobal>(
+    rt: &R,
+    given: &Given,
+    waves: &Waves,
+    size: u32,
+) -> Result<u64>
+    requires nets { length waves.now ≡ nets_of given.now.circuit }
+    requires some { 0 < size }
+    requires until { (n : ℕ) → end_time 0 (wave_of waves.now n) ≤ size }
 {
-    let bench = texts::inputs(rt.alloc(), size)?;
-    let bench = read_bench(rt.alloc(), bench.as_bytes())?;
-    let circuit = Circuit::of(rt.alloc(), bench, b"")?;
-    let text = texts::stimulus(rt.alloc(), size, 0, true)?;
-    let stimulus = read_stimulus(rt.alloc(), text.as_bytes(), &circuit)?;
-    let waves = sparse(rt.alloc(), size)?;
-    if waves.nets() != circuit.nets() {
-        return Ok(0);
-    }
     let mut sink = Grow::new(rt.alloc());
-    let start = Instant::now(rt)?;
+    let start = timer::start(rt)?;
     let answer = write_vcd(
         &mut sink,
         "top",
-        &circuit,
-        &stimulus,
-        &waves,
+        &given.circuit,
+        &given.stimulus,
+        waves,
         size as u64 - 1,
     );
     report(rt, "write", size, start)?;
     answer?;
     Ok(sink.into_vec().len() as u64)
+}
+
+fn write_sparse<R: Eprint + Clock + AllocGlobal>(rt: &R, given: &Given, size: u32) -> Result<u64>
+    requires { 0 < size }
+{
+    let waves = sparse(rt.alloc(), size)?;
+    if waves.nets() != given.circuit.nets() {
+        return Ok(0);
+    }
+    write_timed(rt, given, &waves, size)
+}
+
+/// The dump of `size` nets of which three change at each of `size` times; the answer is its length.
+pub fn write<R: Eprint + Clock + AllocGlobal>(rt: &R, size: u32) -> Result<u64>
+    requires { 0 < size }
+{
+    let circuit = circuits::inputs(rt.alloc(), size)?;
+    let given = Given::of(rt.alloc(), circuit, size, 0, true)?;
+    write_sparse(rt, &given, size)
 }
