@@ -1,9 +1,8 @@
 ghost use Rattle.std.specs.Prelude.{◌<◌};
 
-use super::driver_tests::{Texts, circuit_of, cut_of};
+use super::given::{Given, Texts};
 use Event::{Advance, Commit, Deliver};
-use gate_netlist::{Circuit, Cut};
-use gate_vcd::{Stimulus, Waves, read_stimulus};
+use gate_vcd::Waves;
 use std::alloc::Global;
 use std::test::Fail;
 use warp_core::{Event, PlayFault, World, drive};
@@ -115,33 +114,22 @@ fn are_equal(first: &Waves, second: &Waves) -> bool {
 /// Plays drawn events on a new world, and then rounds: how many events were refused, and the waves.
 fn play_world(
     alloc: Global,
-    circuit: &Circuit,
-    cut: &Cut,
-    stimulus: &Stimulus,
+    given: &Given,
     order: &[u32],
     dice: &mut Dice,
 ) -> Result<(u32, Waves), Fail> {
-    if !cut.fits(circuit) || !stimulus.fits(circuit) {
-        return Err(Fail::from("a cut or stimulus of another circuit"));
-    }
-    let mut world = World::new(alloc, circuit, cut, stimulus, HORIZON)?;
+    let mut world = given.world(alloc, HORIZON)?;
     let refused = play_drawn(&mut world, dice)?;
     Ok((refused, finished(world, order)?))
 }
 
 /// How many events of a hundred worlds were refused, where the waves of all are these.
-fn play_worlds(
-    alloc: Global,
-    circuit: &Circuit,
-    cut: &Cut,
-    stimulus: &Stimulus,
-    want: &Waves,
-) -> Result<u32, Fail> {
+fn play_worlds(alloc: Global, given: &Given, want: &Waves) -> Result<u32, Fail> {
     let mut dice = Dice::new(1);
     let mut refused = 0_u32;
     for order in [[0, 1, 2], [2, 1, 0], [1, 0, 2], [2, 0, 1]] {
         for _ in 0..25 {
-            let (count, waves) = play_world(alloc, circuit, cut, stimulus, &order, &mut dice)?;
+            let (count, waves) = play_world(alloc, given, &order, &mut dice)?;
             refused = refused.saturating_add(count);
             if !are_equal(&waves, want) {
                 return Err(Fail::from("other waves"));
@@ -151,20 +139,32 @@ fn play_worlds(
     Ok(refused)
 }
 
+/// The waves that `drive` finds.
+fn driven(alloc: Global, given: &Given) -> Result<Waves, Fail> {
+    let cut = given.cut()?;
+    let order = [0, 1, 2];
+    let (waves, _) = drive(alloc, &given.circuit, cut, &given.stimulus, HORIZON, &order)?;
+    Ok(waves)
+}
+
+/// How many changes those waves have, and how many events of a hundred worlds that come to them were refused.
+fn outcome_of(alloc: Global, given: &Given) -> Result<(usize, u32), Fail> {
+    let waves = driven(alloc, given)?;
+    let refused = play_worlds(alloc, given, &waves)?;
+    Ok((count(&waves), refused))
+}
+
+fn outcome(alloc: Global) -> Result<(usize, u32), Fail> {
+    let given = Given::of(alloc, RINGS)?;
+    outcome_of(alloc, &given)
+}
+
 #[test]
 fn drawn_events_and_then_rounds_lead_to_the_waves_that_drive_finds(
     rt: HostRuntime,
 ) -> Result<(), Fail> {
-    let alloc = rt.alloc();
-    let circuit = circuit_of(alloc, RINGS)?;
-    let cut = cut_of(&circuit)?;
-    let stimulus = read_stimulus(alloc, RINGS.stimulus.as_bytes(), &circuit)?;
-    if !cut.fits(&circuit) || !stimulus.fits(&circuit) {
-        return Err(Fail::from("a cut or stimulus of another circuit"));
-    }
-    let (waves, _) = drive(alloc, &circuit, cut, &stimulus, HORIZON, &[0, 1, 2])?;
-    assert_eq!(rt; count(&waves), 39);
-    let refused = play_worlds(alloc, &circuit, cut, &stimulus, &waves)?;
+    let (count, refused) = outcome(rt.alloc())?;
+    assert_eq!(rt; count, 39);
     assert!(rt; refused > 1000 && refused < 9000, "{refused} of 10000");
     Ok(())
 }

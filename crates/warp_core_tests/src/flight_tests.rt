@@ -1,11 +1,9 @@
-use super::driver_tests::{Texts, circuit_of, cut_of};
+use super::given::{Given, Texts};
 use Logic::{One, Zero};
 use gate_values::Logic;
-use gate_vcd::read_stimulus;
 use std::alloc::Global;
 use std::test::Fail;
 use warp_block::{Message, Sign};
-use warp_core::World;
 
 /// A toggle in two blocks; nets N, Q, CK.
 const TOGGLE: Texts = Texts {
@@ -21,37 +19,38 @@ const REGISTER: Texts = Texts {
     stimulus: "$var wire 1 d D $end $var wire 1 c CK $end $enddefinitions $end",
 };
 
-/// What is in flight in a new world.
-fn opening(alloc: Global, texts: Texts) -> Result<Vec<Message>, Fail> {
-    let circuit = circuit_of(alloc, texts)?;
-    let cut = cut_of(&circuit)?;
-    let stimulus = read_stimulus(alloc, texts.stimulus.as_bytes(), &circuit)?;
-    if !cut.fits(&circuit) || !stimulus.fits(&circuit) {
-        return Err(Fail::from("a cut or stimulus of another circuit"));
-    }
-    let world = World::new(alloc, &circuit, cut, &stimulus, 10)?;
+fn opening_of(alloc: Global, given: &Given) -> Result<Vec<Message>, Fail> {
+    let world = given.world(alloc, 10)?;
     Ok(Vec::from_slice(alloc, world.flight())?)
 }
 
+/// What is in flight in a new world.
+fn opening(alloc: Global, texts: Texts) -> Result<Vec<Message>, Fail> {
+    let given = Given::of(alloc, texts)?;
+    opening_of(alloc, &given)
+}
+
+/// Circuits, and the nets, blocks and values of the messages that are in flight at first.
+static OPENINGS: [(Texts, &[(u32, u32, Logic)]); 2] = [
+    (TOGGLE, &[(1, 0, Zero)]),
+    (
+        REGISTER,
+        &[
+            (2, 1, Zero),
+            (2, 2, Zero),
+            (3, 1, One),
+            (3, 2, One),
+            (1, 2, One),
+        ],
+    ),
+];
+
 #[test]
 fn initial_contents_are_in_flight_by_block_net_and_reader(rt: HostRuntime) -> Result<(), Fail> {
-    let rows: [(Texts, &[(u32, u32, Logic)]); 2] = [
-        (TOGGLE, &[(1, 0, Zero)]),
-        (
-            REGISTER,
-            &[
-                (2, 1, Zero),
-                (2, 2, Zero),
-                (3, 1, One),
-                (3, 2, One),
-                (1, 2, One),
-            ],
-        ),
-    ];
-    for (texts, want) in rows {
-        let flight = opening(rt.alloc(), texts)?;
+    for (texts, want) in &OPENINGS {
+        let flight = opening(rt.alloc(), *texts)?;
         assert_eq!(rt; flight.len(), want.len());
-        for (message, (net, block, value)) in flight.iter().zip(want) {
+        for (message, (net, block, value)) in flight.iter().zip(*want) {
             let told = Message {
                 time: 0,
                 block: *block,

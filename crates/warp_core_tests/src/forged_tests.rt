@@ -2,15 +2,14 @@
 //! it has received.
 
 use super::drawn_tests::Dice;
-use super::driver_tests::{Texts, circuit_of, cut_of};
+use super::given::{Given, Texts};
 use BlockFault::{BelowFloor, PastHorizon, WrongNet};
 use Logic::{One, X, Z, Zero};
 use Sign::{Minus, Plus};
 use gate_values::{Change, Kind, Logic, flip, table};
-use gate_vcd::read_stimulus;
 use std::alloc::Global;
 use std::test::Fail;
-use warp_block::{Block, BlockFault, Message, Part, Sign};
+use warp_block::{Block, BlockFault, Message, Sign};
 
 /// A NAND and a flip-flop that read each other, and an XOR, in block 1. Block 0 tells it the nets A and B, of which B is
 /// its clock, and block 2 reads Y, Q and S. Nets P, A, B, Y, Q, S, W.
@@ -80,19 +79,33 @@ fn ago(rows: &[Row], delay: usize) -> Row {
     }
 }
 
+/// The value that an input net has at a time, where it had another before.
+fn told(block: &Block, net: u32, time: u64, before: Logic) -> Logic {
+    block.entry(net, time).effective().unwrap_or(before)
+}
+
 /// The row that comes next, at a time, by what the block has received.
 fn next_row(block: &Block, rows: &[Row], time: u64) -> Row {
-    let [last, second, third] = [ago(rows, 1), ago(rows, 2), ago(rows, 3)];
-    let a = block.entry(A, time).effective().unwrap_or(last.a);
-    let b = block.entry(B, time).effective().unwrap_or(last.b);
+    let last = ago(rows, 1);
+    let b = told(block, B, time, last.b);
     Row {
-        a,
+        a: told(block, A, time, last.a),
         b,
-        y: table(Kind::Nand, &[second.a, second.q]),
+        y: next_y(ago(rows, 2)),
         q: last.held,
-        s: table(Kind::Xor, &[third.y, third.b]),
+        s: next_s(ago(rows, 3)),
         held: flip(last.held, last.b, b, last.y),
     }
+}
+
+/// What the NAND makes of the values two times ago.
+fn next_y(row: Row) -> Logic {
+    table(Kind::Nand, &[row.a, row.q])
+}
+
+/// What the XOR makes of the values three times ago.
+fn next_s(row: Row) -> Logic {
+    table(Kind::Xor, &[row.y, row.b])
 }
 
 fn rows_of(alloc: Global, block: &Block) -> Result<Vec<Row>, Fail> {
@@ -244,8 +257,8 @@ fn is_settled(block: &Block) -> bool {
     true
 }
 
-/// Tells whether what the block shows, and what it sent, is what it makes of the messages that it has received.
-fn check(alloc: Global, block: &Block, sent: &[i64]) -> Result<(), Fail> {
+/// Tells whether the block has the logs that its rows give.
+fn check_logs(alloc: Global, block: &Block) -> Result<(), Fail> {
     let rows = rows_of(alloc, block)?;
     for (net, delay) in OWN {
         let end = block.mark().saturating_add(delay);
@@ -253,12 +266,25 @@ fn check(alloc: Global, block: &Block, sent: &[i64]) -> Result<(), Fail> {
             return Err(Fail::from("another log"));
         }
     }
+    Ok(())
+}
+
+/// Tells whether the block has sent what it has logged.
+fn check_sent(alloc: Global, block: &Block, sent: &[i64]) -> Result<(), Fail> {
+    let counts = logged(alloc, block)?;
+    if counts.as_slice() != sent {
+        return Err(Fail::from("other messages"));
+    }
+    Ok(())
+}
+
+/// Tells whether what the block shows, and what it sent, is what it makes of the messages that it has received.
+fn check(alloc: Global, block: &Block, sent: &[i64]) -> Result<(), Fail> {
+    check_logs(alloc, block)?;
     if block.next_time() != next_time(block) {
         return Err(Fail::from("another event time"));
     }
-    if *logged(alloc, block)?.as_slice() != *sent {
-        return Err(Fail::from("other messages"));
-    }
+    check_sent(alloc, block, sent)?;
     if !is_settled(block) {
         return Err(Fail::from("an unsettled entry below the floor"));
     }
@@ -267,33 +293,39 @@ fn check(alloc: Global, block: &Block, sent: &[i64]) -> Result<(), Fail> {
 
 /// Block 1, and what it sends.
 fn new_block(alloc: Global, out: &mut Vec<Message>) -> Result<Block, Fail> {
-    let circuit = circuit_of(alloc, RING)?;
-    let cut = cut_of(&circuit)?;
-    let stimulus = read_stimulus(alloc, RING.stimulus.as_bytes(), &circuit)?;
-    if !cut.fits(&circuit) || cut.blocks() < 2 {
-        return Err(Fail::from("a cut of another circuit"));
-    }
-    let part = Part::of(alloc, &circuit, cut, 1)?;
-    Ok(Block::new(alloc, part, &stimulus, HORIZON, out)?)
+    let given = Given::of(alloc, RING)?;
+    given.block(alloc, 1, HORIZON, out)
 }
 
-/// Makes so many drawn calls of a new block, which is checked after each hundredth: how many were refused, and its floor.
-fn play(alloc: Global, seed: u32, calls: u32) -> Result<(u32, u64), Fail> {
-    let mut out = Vec::new(alloc);
-    let mut block = new_block(alloc, &mut out)?;
-    let mut sent = vec![in alloc; 0_i64; PLACES]?;
+/// Makes so many drawn calls of a block, which is checked after each hundredth: how many were refused, and its floor.
+/// The list has what the block has sent so far.
+fn play_on(
+    alloc: Global,
+    block: &mut Block,
+    out: &mut Vec<Message>,
+    seed: u32,
+    calls: u32,
+) -> Result<(u32, u64), Fail> {
     let mut dice = Dice::new(seed);
+    let mut sent = vec![in alloc; 0_i64; PLACES]?;
     let mut refused = 0_u32;
     for made in 0..calls {
-        if !call(&mut block, &mut dice, &mut out)? {
+        if !call(block, &mut dice, out)? {
             refused = refused.saturating_add(1);
         }
         if made % 100 == 99 {
-            count_sent(&mut sent, &mut out);
-            check(alloc, &block, sent.as_slice())?;
+            count_sent(&mut sent, out);
+            check(alloc, block, sent.as_slice())?;
         }
     }
     Ok((refused, block.floor()))
+}
+
+/// Makes so many drawn calls of a new block: how many were refused, and its floor.
+fn play(alloc: Global, seed: u32, calls: u32) -> Result<(u32, u64), Fail> {
+    let mut out = Vec::new(alloc);
+    let mut block = new_block(alloc, &mut out)?;
+    play_on(alloc, &mut block, &mut out, seed, calls)
 }
 
 #[test]

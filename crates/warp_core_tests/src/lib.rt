@@ -13,6 +13,8 @@ mod forged_tests;
 #[cfg(test)]
 mod gather_tests;
 #[cfg(test)]
+mod given;
+#[cfg(test)]
 mod schedule_tests;
 #[cfg(test)]
 mod world_tests;

@@ -4,7 +4,7 @@ use std::test::Fail;
 use warp_core::{Event, ScheduleCause, ScheduleFault, read_schedule};
 
 /// Texts and the events that they list.
-const READ: [(&str, &[Event]); 7] = [
+static READ: [(&str, &[Event]); 7] = [
     ("", &[]),
     ("commit", &[Commit]),
     (
@@ -35,7 +35,7 @@ const READ: [(&str, &[Event]); 7] = [
 ];
 
 /// Texts and their first fault.
-const REFUSED: [(&str, u64, ScheduleCause); 12] = [
+static REFUSED: [(&str, u64, ScheduleCause); 12] = [
     ("Commit", 1, BadLine),
     ("deliver 1 2", 1, BadLine),
     ("advance 1", 1, BadLine),
@@ -52,18 +52,22 @@ const REFUSED: [(&str, u64, ScheduleCause); 12] = [
 
 #[test]
 fn schedules_are_read(rt: HostRuntime) -> Result<(), Fail> {
-    for (text, events) in READ {
+    for (text, events) in &READ {
         let read = read_schedule(rt.alloc(), text.as_bytes())?;
-        assert_eq!(rt; read.as_slice(), events, "{text}");
+        assert_eq!(rt; read.as_slice(), *events, "{text}");
     }
     Ok(())
 }
 
 #[test]
 fn a_schedules_first_fault_is_told(rt: HostRuntime) -> Result<(), Fail> {
-    for (text, line, cause) in REFUSED {
+    for (text, line, cause) in &REFUSED {
         let fault = read_schedule(rt.alloc(), text.as_bytes()).err();
-        assert_eq!(rt; fault, Some(ScheduleFault { line, cause }), "{text}");
+        let want = ScheduleFault {
+            line: *line,
+            cause: *cause,
+        };
+        assert_eq!(rt; fault, Some(want), "{text}");
     }
     Ok(())
 }

@@ -1,18 +1,9 @@
+use super::given::{Given, PAIR, other_net};
 use Event::{Advance, Commit, Deliver};
-use Logic::{One, Zero};
-use gate_netlist::{Circuit, read_bench};
-use gate_values::{Change, Logic};
-use gate_vcd::{Stimulus, Waves, read_stimulus};
+use gate_vcd::Waves;
 use std::alloc::Global;
 use std::test::Fail;
 use warp_core::{Event, GatherFault, PlayFault, World};
-
-/// Two buffers in block 0, an AND in block 1 and a NOT in block 2; nets P, Q, A, B, Y, Z.
-const PAIR: &str = "INPUT(P)\nINPUT(Q)\nA = BUFF(P)\nB = BUFF(Q)\nY = AND(A, B)\nZ = NOT(Y)\n";
-
-const CUT: &str = "[block]\nA = 0\nB = 0\nY = 1\nZ = 2\n";
-
-const BOTH_ONE: &str = "$var wire 1 p P $end $var wire 1 q Q $end $enddefinitions $end #0 1p 1q";
 
 /// Block 1 sees B alone, then A from its past, and rolls back.
 const EVENTS: [Event; 8] = [
@@ -26,41 +17,36 @@ const EVENTS: [Event; 8] = [
     Advance { block: 2, steps: 1 },
 ];
 
-fn circuit_of(alloc: Global) -> Result<Circuit, Fail> {
-    let bench = read_bench(alloc, PAIR.as_bytes())?;
-    Ok(Circuit::of(alloc, bench, CUT.as_bytes())?)
-}
-
-/// A new world with horizon 10.
-fn world_of<'a>(
-    alloc: Global,
-    circuit: &'a Circuit,
-    stimulus: &'a Stimulus,
-) -> Result<World<'a>, Fail> {
-    let cut = circuit.cut().ok_or("a cut")?;
-    if !cut.fits(circuit) || !stimulus.fits(circuit) {
-        return Err(Fail::from("a cut or stimulus of another circuit"));
-    }
-    Ok(World::new(alloc, circuit, cut, stimulus, 10)?)
-}
-
-/// The least time after some events, and what is gathered then.
-fn outcome(alloc: Global, events: &[Event]) -> Result<(u64, Result<Waves, GatherFault>), Fail> {
-    let circuit = circuit_of(alloc)?;
-    let stimulus = read_stimulus(alloc, BOTH_ONE.as_bytes(), &circuit)?;
-    let mut world = world_of(alloc, &circuit, &stimulus)?;
+fn play_all(world: &mut World<'_>, events: &[Event]) -> Result<(), Fail> {
     for event in events {
         world.play(*event)?;
     }
+    Ok(())
+}
+
+type Outcome = (u64, Result<Waves, GatherFault>);
+
+fn outcome_of(alloc: Global, given: &Given, events: &[Event]) -> Result<Outcome, Fail> {
+    let mut world = given.world(alloc, 10)?;
+    play_all(&mut world, events)?;
     Ok((world.least(), world.finish()))
+}
+
+/// The least time after some events, and what is gathered then.
+fn outcome(alloc: Global, events: &[Event]) -> Result<Outcome, Fail> {
+    let given = Given::of(alloc, PAIR)?;
+    outcome_of(alloc, &given, events)
+}
+
+fn refusal_of(alloc: Global, given: &Given, event: Event) -> Result<Option<PlayFault>, Fail> {
+    let mut world = given.world(alloc, 10)?;
+    Ok(world.play(event).err())
 }
 
 /// Why a new world refuses an event.
 fn refusal(alloc: Global, event: Event) -> Result<Option<PlayFault>, Fail> {
-    let circuit = circuit_of(alloc)?;
-    let stimulus = read_stimulus(alloc, BOTH_ONE.as_bytes(), &circuit)?;
-    let mut world = world_of(alloc, &circuit, &stimulus)?;
-    Ok(world.play(event).err())
+    let given = Given::of(alloc, PAIR)?;
+    refusal_of(alloc, &given, event)
 }
 
 #[test]
@@ -68,15 +54,8 @@ fn events_lead_to_the_circuits_waves(rt: HostRuntime) -> Result<(), Fail> {
     let (least, waves) = outcome(rt.alloc(), EVENTS.as_slice())?;
     assert_eq!(rt; least, 11);
     let waves = waves?;
-    let want = [(0, One), (0, One), (1, One), (1, One), (2, One), (3, Zero)];
     assert_eq!(rt; waves.nets(), 6);
-    for (net, (time, value)) in want.into_iter().enumerate() {
-        assert_eq!(rt;
-            waves.changes(net as u32),
-            [Change { time, value }].as_slice(),
-            "net {net}"
-        );
-    }
+    assert_eq!(rt; other_net(&waves), None);
     Ok(())
 }
 
