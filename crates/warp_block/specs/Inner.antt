@@ -18,5 +18,6 @@ pub mod SamePart
 pub mod StateLists
 pub mod States
 pub mod Step
+pub mod Timed
 pub mod View
 pub mod Woken

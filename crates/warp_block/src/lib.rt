@@ -27,6 +27,7 @@ mod part;
 mod queue;
 mod state;
 mod states;
+mod timed;
 
 pub use block::Block;
 pub use entry::Entry;

@@ -1,12 +1,14 @@
-ghost use Rattle.std.specs.Prelude.{◌≡◌, ◌<◌, ◌≤◌, IsSome, length};
+ghost use Rattle.std.specs.Prelude.{◌≡◌, ◌<◌, ◌≤◌, IfOk, IsSome, length};
 ghost use Rattle.std.specs.List.Sorted.{IsPartitionPoint};
 ghost use Rattle.gate_values.specs.declared.logic.Logic.TheVariants.{X};
 ghost use Rattle.gate_values.specs.Changes.{latest, last_value as value_after, pair_at, before_time};
 ghost use Rattle.warp_block.specs.View.{IsLeast};
+ghost use Rattle.warp_block.specs.Inner.Held.{lists_in};
 ghost use Rattle.warp_block.specs.Inner.Logs.{IsLog};
 ghost use Rattle.warp_block.specs.Inner.Step.{since_time};
 
 use gate_values::{Change, Logic};
+use std::alloc::{AllocError, Global};
 
 /// How many changes of a log are before a time.
 fn count_before(log: &[Change], time: u64) -> usize
@@ -68,4 +70,15 @@ pub(crate) fn cut(log: &mut Vec<Change>, end: u64)
 {
     let count = count_before(log, end);
     log.truncate(count);
+}
+
+/// Copies of some logs.
+pub(crate) fn copies(alloc: Global, logs: &[Vec<Change>]) -> Result<Vec<Vec<Change>>, AllocError>
+    ensures { IfOk result (λ copies. lists_in copies.items ≡ lists_in logs.now) }
+{
+    let mut copies = Vec::with_capacity(alloc, logs.len())?;
+    for log in logs {
+        copies.push(Vec::from_slice(alloc, log)?)?;
+    }
+    Ok(copies)
 }

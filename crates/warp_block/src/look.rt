@@ -8,7 +8,6 @@ ghost use Rattle.warp_block.specs.Lawful.{IsLawful};
 ghost use Rattle.warp_block.specs.Inner.Advance.{IsQuiet, IsBusyFrom};
 ghost use Rattle.warp_block.specs.Opening.{opening_view, opening_queue};
 ghost use Rattle.warp_block.specs.Receive.{is_for};
-ghost use Rattle.warp_block.specs.Inner.Held.{lists_in};
 
 mod admit;
 mod busy;
@@ -21,10 +20,10 @@ mod pass;
 mod start;
 
 use crate::entry::Entry;
-use crate::log;
 use crate::message::Message;
 use crate::part::Part;
-use crate::queue::{self, Timed};
+use crate::timed::Timed;
+use crate::{log, queue};
 use gate_values::{Change, Logic};
 use gate_vcd::Stimulus;
 use std::alloc::{AllocError, Global};
@@ -240,8 +239,8 @@ impl Look {
             horizon: self.horizon,
             mark: self.mark,
             floor: self.floor,
-            queues: copies(alloc, &self.queues)?,
-            logs: copies(alloc, &self.logs)?,
+            queues: queue::copies(alloc, &self.queues)?,
+            logs: log::copies(alloc, &self.logs)?,
         })
     }
 }
@@ -276,15 +275,4 @@ fn earlier(first: Option<u64>, second: Option<u64>) -> Option<u64>
         (Some(first), None) => Some(first),
         _ => second,
     }
-}
-
-/// Copies of some lists.
-fn copies<T: Copy + Drop>(alloc: Global, lists: &[Vec<T>]) -> Result<Vec<Vec<T>>, AllocError>
-    ensures { IfOk result (λ copies. lists_in copies.items ≡ lists_in lists.now) }
-{
-    let mut copies = Vec::with_capacity(alloc, lists.len())?;
-    for list in lists {
-        copies.push(Vec::from_slice(alloc, list)?)?;
-    }
-    Ok(copies)
 }

@@ -6,49 +6,13 @@ ghost use Rattle.gate_vcd.specs.Inner.Lists.{IsRising};
 ghost use Rattle.warp_block.specs.Opening.{message_of};
 ghost use Rattle.warp_block.specs.Entries.{entry_in, no_messages, is_settled, IsQueue};
 ghost use Rattle.warp_block.specs.Inner.Entries.{effective_in};
+ghost use Rattle.warp_block.specs.Inner.Held.{lists_in};
 ghost use Rattle.warp_block.specs.View.{IsLeast};
 
 use crate::entry::Entry;
+use crate::timed::Timed;
 use gate_values::{Change, Logic};
 use std::alloc::{AllocError, Global};
-use std::marker::Model;
-
-/// The entry of a net at a time.
-#[derive(Clone, Copy, Debug)]
-pub(crate) struct Timed {
-    time: u64,
-    entry: Entry,
-}
-
-impl Model for Timed {
-    ghost use Rattle.warp_block.specs.Entries.{Received};
-
-    ghost Value = { Received };
-
-    ghost view = { λ timed. record { time = timed.time; entry = timed.entry } };
-
-    ghost inverse = { λ received. record { time = received.time; entry = received.entry } };
-}
-
-impl Timed {
-    fn new(time: u64, entry: Entry) -> Timed
-        ensures { result ≡ record { time = time; entry = entry } }
-    {
-        Timed { time, entry }
-    }
-
-    pub(crate) fn time(&self) -> u64
-        ensures { result ≡ self.now.time }
-    {
-        self.time
-    }
-
-    fn entry(&self) -> Entry
-        ensures { result ≡ self.now.entry }
-    {
-        self.entry
-    }
-}
 
 /// How many entries of a queue are before a time.
 fn count_before(queue: &[Timed], time: u64) -> usize
@@ -152,16 +116,17 @@ pub(crate) fn put(queue: &mut Vec<Timed>, time: u64, entry: Entry) -> Result<(),
     ensures ok { OnOk result ((t : ℕ) → entry_in queue.new.items t ≡ (if t == time then entry else entry_in queue.old.items t)) }
     ensures err { OnErr result (queue.new.items ≡ queue.old.items) }
 {
-    match place_of(queue, time) {
-        Ok(place) if entry.is_empty() => {
+    let place = place_of(queue, time);
+    if entry.is_empty() {
+        if let Ok(place) = place {
             queue.remove(place);
         }
-        Ok(place) => queue[place] = Timed::new(time, entry),
-        Err(place) => {
-            if !entry.is_empty() {
-                queue.insert(place, Timed::new(time, entry))?;
-            }
-        }
+        return Ok(());
+    }
+    let timed = Timed::new(*queue.allocator(), time, entry)?;
+    match place {
+        Ok(place) => queue[place] = timed,
+        Err(place) => queue.insert(place, timed)?,
     }
     Ok(())
 }
@@ -181,7 +146,30 @@ pub(crate) fn opening(
         if change.time > horizon {
             return Ok(queue);
         }
-        queue.push(Timed::new(change.time, Entry::one_message(change.value)))?;
+        let entry = Entry::one_message(change.value);
+        queue.push(Timed::new(alloc, change.time, entry)?)?;
     }
     Ok(queue)
+}
+
+/// Copies of some queues.
+pub(crate) fn copies(alloc: Global, queues: &[Vec<Timed>]) -> Result<Vec<Vec<Timed>>, AllocError>
+    ensures { IfOk result (λ copies. lists_in copies.items ≡ lists_in queues.now) }
+{
+    let mut copies = Vec::with_capacity(alloc, queues.len())?;
+    for queue in queues {
+        copies.push(copy(alloc, queue)?)?;
+    }
+    Ok(copies)
+}
+
+/// A copy of a queue.
+fn copy(alloc: Global, queue: &[Timed]) -> Result<Vec<Timed>, AllocError>
+    ensures { IfOk result (λ copy. copy.items ≡ queue.now) }
+{
+    let mut copy = Vec::with_capacity(alloc, queue.len())?;
+    for timed in queue {
+        copy.push(timed.copy(alloc)?)?;
+    }
+    Ok(copy)
 }

@@ -6,7 +6,7 @@ ghost use Rattle.warp_block.specs.Inner.Index.{IsIndexed, IsGrown};
 
 use super::Look;
 use crate::agenda::Agenda;
-use crate::queue::Timed;
+use crate::timed::Timed;
 use gate_values::Change;
 use std::alloc::AllocError;
 
