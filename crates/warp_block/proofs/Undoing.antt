@@ -18,18 +18,18 @@ back-append (x ∷ xs) ys s = ap (put_back x) (back-append xs ys s)
 
 -- a mark is no matter of what is put back
 put-mark : (o : Old) (s : Saved) (m : ℕ) → put_back o (record s { mark = m }) ≡ record (put_back o s) { mark = m }
-put-mark (Value place value) s m = refl
-put-mark (Content place value) s m = refl
+put-mark (Value value place) s m = refl
+put-mark (Content value place) s m = refl
 
 back-mark : (os : List Old) (s : Saved) (m : ℕ) → back os (record s { mark = m }) ≡ record (back os s) { mark = m }
 back-mark [] s m = refl
 back-mark (o ∷ os) s m = ap (put_back o) (back-mark os s m) ∙ put-mark o (back os s) m
 
 -- what was put there is taken back
-pub undone_value : (s : Saved) (place : ℕ) (v d : Logic) → put_back (Value place (get_or s.values place d)) (record s { values = set s.values place v }) ≡ s
+pub undone_value : (s : Saved) (place : ℕ) (v d : Logic) → put_back (Value (get_or s.values place d) place) (record s { values = set s.values place v }) ≡ s
 undone_value s place v d = ap (λ (vs : List Logic). record s { values = vs }) (set-set s.values place v (get_or s.values place d) ∙ set-get_or s.values place d)
 
-pub undone_content : (s : Saved) (place : ℕ) (v d : Logic) → put_back (Content place (get_or s.contents place d)) (record s { contents = set s.contents place v }) ≡ s
+pub undone_content : (s : Saved) (place : ℕ) (v d : Logic) → put_back (Content (get_or s.contents place d) place) (record s { contents = set s.contents place v }) ≡ s
 undone_content s place v d = ap (λ (vs : List Logic). record s { contents = vs }) (set-set s.contents place v (get_or s.contents place d) ∙ set-get_or s.contents place d)
 
 -- saved states that are the same, one by one

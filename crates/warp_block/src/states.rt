@@ -10,13 +10,16 @@ ghost use Rattle.warp_block.specs.Inner.StateLists.{now_of, saved_by, IsOld, Fit
 use crate::state::SAVE_EVERY;
 use gate_values::Logic;
 use std::alloc::{AllocError, Global};
+use std::mem::size_of;
 
-/// A value or a content of a place, as it was.
+/// A value or a content of a place, as it was, in 8 bytes.
 #[derive(Clone, Copy, Debug)]
 pub(crate) enum Old {
-    Value { place: usize, value: Logic },
-    Content { place: usize, value: Logic },
+    Value { value: Logic, place: u32 },
+    Content { value: Logic, place: u32 },
 }
+
+const _: () = prove!(size_of::<Old>() <= 8);
 
 /// A saved state: its mark, and how much was there to be put back when it was saved.
 #[derive(Clone, Copy, Debug)]
@@ -92,7 +95,7 @@ impl States {
     }
 
     /// Another value of a place. After an error nothing has changed.
-    pub(crate) fn set_value(&mut self, place: usize, value: Logic) -> Result<(), AllocError>
+    pub(crate) fn set_value(&mut self, place: u32, value: Logic) -> Result<(), AllocError>
         requires place { place < length (now_of self.old).values }
         requires within { FitTogether self.old }
         ensures now { OnOk result (now_of self.new ≡ record (now_of self.old) { values = slice_set (now_of self.old).values place value }) }
@@ -101,18 +104,19 @@ impl States {
         ensures err { OnErr result (now_of self.new ≡ now_of self.old) }
         ensures within { FitTogether self.new }
     {
-        let old = self.values[place];
+        let slot = place as usize;
+        let old = self.values[slot];
         if old == value {
             return Ok(());
         }
         self.undo.reserve(1)?;
-        self.undo.push_reserved(Old::Value { place, value: old });
-        self.values[place] = value;
+        self.undo.push_reserved(Old::Value { value: old, place });
+        self.values[slot] = value;
         Ok(())
     }
 
     /// Another content of a place. After an error nothing has changed.
-    pub(crate) fn set_content(&mut self, place: usize, value: Logic) -> Result<(), AllocError>
+    pub(crate) fn set_content(&mut self, place: u32, value: Logic) -> Result<(), AllocError>
         requires place { place < length (now_of self.old).contents }
         requires within { FitTogether self.old }
         ensures now { OnOk result (now_of self.new ≡ record (now_of self.old) { contents = slice_set (now_of self.old).contents place value }) }
@@ -121,13 +125,14 @@ impl States {
         ensures err { OnErr result (now_of self.new ≡ now_of self.old) }
         ensures within { FitTogether self.new }
     {
-        let old = self.contents[place];
+        let slot = place as usize;
+        let old = self.contents[slot];
         if old == value {
             return Ok(());
         }
         self.undo.reserve(1)?;
-        self.undo.push_reserved(Old::Content { place, value: old });
-        self.contents[place] = value;
+        self.undo.push_reserved(Old::Content { value: old, place });
+        self.contents[slot] = value;
         Ok(())
     }
 
@@ -257,8 +262,8 @@ impl States {
         ensures places { (length self.new.values.items ≡ length self.old.values.items) × (length self.new.contents.items ≡ length self.old.contents.items) }
     {
         match old {
-            Old::Value { place, value } => self.values[place] = value,
-            Old::Content { place, value } => self.contents[place] = value,
+            Old::Value { value, place } => self.values[place as usize] = value,
+            Old::Content { value, place } => self.contents[place as usize] = value,
         }
     }
 }

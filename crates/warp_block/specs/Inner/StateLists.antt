@@ -19,8 +19,8 @@ saved_by s = states_at (now_of s) s.undo.items s.saved.items
 
 -- what is to be put back belongs to places that there are
 abbrev pub IsOld : ℕ → ℕ → Old → Type 0
-IsOld values contents (Value place value) = place < values
-IsOld values contents (Content place value) = place < contents
+IsOld values contents (Value value place) = place < values
+IsOld values contents (Content value place) = place < contents
 
 -- no saved state begins past the end of what is to be put back, and this belongs to places that there are
 pub record FitTogether (s : States) : Type 0 where

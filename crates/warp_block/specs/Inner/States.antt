@@ -8,8 +8,8 @@ use Rattle.warp_block.specs.View.{Saved}
 
 -- a value, or a content, as it was
 abbrev pub put_back : Old → Saved → Saved
-put_back (Value place value) s = record s { values = slice_set s.values place value }
-put_back (Content place value) s = record s { contents = slice_set s.contents place value }
+put_back (Value value place) s = record s { values = slice_set s.values place value }
+put_back (Content value place) s = record s { contents = slice_set s.contents place value }
 
 -- all of them, the last one first
 abbrev pub back : List Old → Saved → Saved

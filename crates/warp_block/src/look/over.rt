@@ -95,7 +95,7 @@ impl Look {
         for gate in gates {
             let slot = *gate as usize;
             let content = self.next_content(slot, time, states);
-            states.set_content(slot, content)?;
+            states.set_content(*gate, content)?;
         }
         Ok(())
     }
@@ -167,7 +167,7 @@ impl Look {
         for place in places {
             let slot = *place as usize;
             let value = self.value(slot, time);
-            states.set_value(slot, value)?;
+            states.set_value(*place, value)?;
         }
         Ok(())
     }

@@ -15,10 +15,10 @@ returns-clause-saved c =
     let s = c.args.self.now in
     let own = get_or_read s.contents.items c.args.place c.index.result.now (omega (arith, s.contents.ok.0)) c.index.ensures X in
     let at : get_or s.contents.items c.args.place X ≡ c.index.result.now = cc in
-    let o : Old = Content c.args.place c.index.result.now in
+    let o : Old = Content c.index.result.now c.args.place in
     let after : Saved = record (now_of s) { contents = set s.contents.items c.args.place c.args.value } in
-    let back : put_back (Content c.args.place c.index.result.now) after ≡ now_of s =
-    subst (λ (v : Logic). put_back (Content c.args.place v) after ≡ now_of s) at (undone_content (now_of s) c.args.place c.args.value X) in
-    let undo : c.push_reserved.new.self.items ≡ s.undo.items ++ Content c.args.place c.index.result.now ∷ [] =
-    c.push_reserved.ensures.items ∙ ap (λ (os : List Old). os ++ Content c.args.place c.index.result.now ∷ []) c.in_ok-reserve.ensures.items in
-    rw undo (pushed (now_of s) after s.undo.items (Content c.args.place c.index.result.now) s.saved.items back c.requires.within.within)
+    let back : put_back (Content c.index.result.now c.args.place) after ≡ now_of s =
+    subst (λ (v : Logic). put_back (Content v c.args.place) after ≡ now_of s) at (undone_content (now_of s) c.args.place c.args.value X) in
+    let undo : c.push_reserved.new.self.items ≡ s.undo.items ++ Content c.index.result.now c.args.place ∷ [] =
+    c.push_reserved.ensures.items ∙ ap (λ (os : List Old). os ++ Content c.index.result.now c.args.place ∷ []) c.in_ok-reserve.ensures.items in
+    rw undo (pushed (now_of s) after s.undo.items (Content c.index.result.now c.args.place) s.saved.items back c.requires.within.within)
