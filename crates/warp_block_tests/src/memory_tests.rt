@@ -1,4 +1,4 @@
-use super::block_tests::{A, Y, pair, to, told};
+use super::block_tests::{A, Y, numbers, pair, to, told};
 use Sign::{Minus, Plus};
 use gate_values::Logic::{One, Zero};
 use std::test::Fail;
@@ -65,5 +65,19 @@ fn a_rollback_or_no_memory(rt: HostRuntime) -> Result<(), Fail> {
         to(2, Plus, Y, 3, One),
     ];
     assert_eq!(rt; out.as_slice(), want.as_slice());
+    Ok(())
+}
+
+#[test]
+fn an_entry_outgrows_a_byte_or_no_memory(rt: HostRuntime) -> Result<(), Fail> {
+    let mut out = Vec::new(rt.alloc());
+    let mut block = pair(rt.alloc(), &mut out)?;
+    for _ in 0..127 {
+        block.receive(told(A, 4, One), &mut out)?;
+    }
+    for (sign, number) in [(Plus, 128), (Plus, 129), (Minus, 128), (Minus, 127)] {
+        receive(to(1, sign, A, 4, One), &mut block, &mut out)?;
+        assert_eq!(rt; block.entry(A, 4), numbers(0, number, 0, 0));
+    }
     Ok(())
 }
