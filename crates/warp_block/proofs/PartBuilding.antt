@@ -11,7 +11,7 @@ use Rattle.gate_values.specs.declared.logic.Logic.{Logic}
 use Rattle.gate_values.specs.Tables.{HasInputs}
 use Rattle.gate_values.specs.Behaviour.{Source}
 use Rattle.gate_netlist.specs.Circuit.{Design, IsCircuit, IsDriven, CutFits, IsDelay, nets_of, driver_of, source_of, source_by, is_input, delay_of, delay_by}
-use Rattle.gate_netlist.specs.Cut.{Ownership, owner_of, own_among, own_nets}
+use Rattle.gate_netlist.specs.Cut.{Ownership, own_among, own_nets}
 use Rattle.gate_netlist.specs.declared.driver.Driver.{Driver}
 use Rattle.gate_netlist.specs.declared.driver.Driver.TheVariants.{Input, Gate, Flop}
 use Rattle.warp_block.specs.declared.cell.Cell.{Cell}

@@ -1,8 +1,9 @@
 -- Lists whose items have rising times.
-use Rattle.std.proofs.Common.{◌≡◌, ℕ, zero, suc, ◌<◌, ◌≤◌, Bool, true, false, List, [], ◌∷◌, filter, length, get_or, take, drop, Some, refl, ap, sym, subst, ltb, leb, arith, inl, inr}
-use Rattle.std.specs.List.{All, AllPairs, insert}
+use Rattle.std.proofs.Common.{◌≡◌, ℕ, zero, suc, ◌<◌, ◌≤◌, Bool, true, false, List, [], ◌∷◌, filter, length, get_or, take, drop, Some, refl, ap, sym, subst, ◌∙◌, ◌+◌, ◌-◌, ltb, leb, arith, inl, inr}
+use Rattle.std.specs.List.{All, AllPairs, AllWithin, insert}
 use Rattle.std.specs.List.Sorted.{IsNonDecreasingBy, IsPartitionPoint}
 use Rattle.std.proofs.lemmas.Bool.{cases_eq, cases_lt, ltb-true, ltb-false, leb-true, leb-false}
+use Rattle.std.proofs.lemmas.List.{get_or_default, get_or-drop, length-drop}
 use Rattle.std.proofs.lemmas.List.Elements.{All-cons, All-append, All-take, All-drop}
 use Rattle.std.proofs.lemmas.List.Kept.{AllPairs-cons}
 use Rattle.warp_block.specs.View.{IsLeast}
@@ -24,8 +25,38 @@ module _ {X : Type 0} (time : X → ℕ) where
   pub split-until : (xs : List X) (t i : ℕ) → IsPartitionPoint (λ x. leb (time x) t ≡ true) (λ x. leb (time x) t ≡ false) xs i → IsPartitionPoint (λ x. time x ≤ t) (λ x. t < time x) xs i
   split-until xs t i (low, high) = (λ k d a b. leb-true _ _ (low k d a b), λ k d a b. leb-false _ _ (high k d a b))
 
+  -- what stands before an item that isn't past a time isn't either
+  pub early-before : (xs : List X) (t i : ℕ) (e : X) → Rises xs → i < length xs → time (get_or xs i e) ≤ t → AllWithin (λ x. time x ≤ t) xs 0 i
+  early-before xs t i e r within early k d low high =
+      let same : time (get_or xs i d) ≡ time (get_or xs i e) = ap time (get_or_default xs i d e within) in
+      let before : time (get_or xs k d) < time (get_or xs i d) = r k i d high within in
+      omega arith
+
+  -- where none of the first items is past a time, it is enough to look at the others
+  pub split-late : (xs : List X) (t first count : ℕ) → AllWithin (λ x. time x ≤ t) xs 0 first
+      → IsPartitionPoint (λ x. time x ≤ t) (λ x. t < time x) (drop first xs) count
+      → IsPartitionPoint (λ x. time x ≤ t) (λ x. t < time x) xs (first + count)
+  split-late xs t first count early (low, high) = (
+    λ k d a b. elim (cases_lt k first) [
+      | inl lt ↦ early k d a lt
+      | inr ge ↦ subst (λ (x : X). time x ≤ t) (rest k d ge) (low (k - first) d (omega arith) (omega arith))
+    ],
+    λ k d a b.
+        let l : length (drop first xs) ≡ length xs - first = length-drop first xs in
+        subst (λ (x : X). t < time x) (rest k d (omega arith)) (high (k - first) d (omega arith) (omega arith)),
+  )
+    where
+      rest : (k : ℕ) (d : X) → first ≤ k → get_or (drop first xs) (k - first) d ≡ get_or xs k d
+      rest k d ge = get_or-drop first xs (k - first) d ∙ ap (λ (i : ℕ). get_or xs i d) (let e : first + (k - first) ≡ k = omega arith in e)
+
   rising-tail : (x : X) (xs : List X) → Rises (x ∷ xs) → Rises xs
   rising-tail x xs r i j d h l = r (suc i) (suc j) d (omega arith) (omega arith)
+
+  pub rising-drop : (n : ℕ) (xs : List X) → Rises xs → Rises (drop n xs)
+  rising-drop n xs r i j d h l =
+      let size : length (drop n xs) ≡ length xs - n = length-drop n xs in
+      let in_all : time (get_or xs (n + i) d) < time (get_or xs (n + j) d) = r (n + i) (n + j) d (omega arith) (omega arith) in
+      rw (get_or-drop n xs i d) (rw (get_or-drop n xs j d) in_all)
 
   -- an item between those before its time and those after it
   pub rising-insert : (xs : List X) (i : ℕ) (y : X) → Rises xs → i ≤ length xs

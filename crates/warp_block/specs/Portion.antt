@@ -1,5 +1,5 @@
 -- What a block has of a circuit: its own nets, and the nets that their gates read.
-use Rattle.std.specs.Prelude.{◌≡◌, ◌≢◌, ℕ, ◌<◌, ◌≤◌, ◌^◌, Bool, true, false, not, ◌&&◌, ◌==◌, Option, Some, None, is_some, IsTrue, List, [], ◌∷◌, length, get_or, slice_index}
+use Rattle.std.specs.Prelude.{◌≡◌, ◌≢◌, ℕ, ◌<◌, ◌^◌, Bool, true, false, not, ◌&&◌, ◌==◌, Option, Some, None, is_some, IsTrue, List, [], ◌∷◌, length, get_or, slice_index}
 use Rattle.std.specs.List.{list_any, position, All}
 use Rattle.std.specs.List.Sorted.{IsStrictlyIncreasing}
 use Rattle.gate_values.specs.Behaviour.{Source, Outside, Gate, Flop, IsWellFormed, source_delay}

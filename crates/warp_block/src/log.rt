@@ -1,4 +1,5 @@
 ghost use Rattle.std.specs.Prelude.{◌≡◌, ◌<◌, ◌≤◌, IfOk, IsSome, length};
+ghost use Rattle.std.specs.List.{AllWithin};
 ghost use Rattle.std.specs.List.Sorted.{IsPartitionPoint};
 ghost use Rattle.gate_values.specs.declared.logic.Logic.TheVariants.{X};
 ghost use Rattle.gate_values.specs.Changes.{latest, last_value as value_after, pair_at, before_time};
@@ -10,13 +11,22 @@ ghost use Rattle.warp_block.specs.Inner.Step.{since_time};
 use gate_values::{Change, Logic};
 use std::alloc::{AllocError, Global};
 
-/// How many changes of a log are before a time.
-fn count_before(log: &[Change], time: u64) -> usize
+/// A place before which no change of a log is past a time. It is at most twice as far from the end as the last of these,
+/// so what stands near the end is found in a few steps, however long the log is.
+fn late_start(log: &[Change], time: u64) -> usize
     requires { IsLog log.now }
     ensures within { result ≤ length log.now }
-    ensures split { IsPartitionPoint (λ c. c.time < time) (λ c. time ≤ c.time) log.now result }
+    ensures early { AllWithin (λ c. c.time ≤ time) log.now 0 result }
 {
-    log.partition_point(|change| change.time < time)
+    let mut reach = 1;
+    while reach < log.len() {
+        let start = log.len() - reach;
+        if log[start].time <= time {
+            return start;
+        }
+        reach = reach.saturating_mul(2);
+    }
+    0
 }
 
 /// How many changes of a log aren't past a time.
@@ -25,7 +35,20 @@ fn count_until(log: &[Change], time: u64) -> usize
     ensures within { result ≤ length log.now }
     ensures split { IsPartitionPoint (λ c. c.time ≤ time) (λ c. time < c.time) log.now result }
 {
-    log.partition_point(|change| change.time <= time)
+    let start = late_start(log, time);
+    start + log[start..].partition_point(|change| change.time <= time)
+}
+
+/// How many changes of a log are before a time.
+fn count_before(log: &[Change], time: u64) -> usize
+    requires { IsLog log.now }
+    ensures within { result ≤ length log.now }
+    ensures split { IsPartitionPoint (λ c. c.time < time) (λ c. time ≤ c.time) log.now result }
+{
+    match time.checked_sub(1) {
+        Some(last) => count_until(log, last),
+        None => 0,
+    }
 }
 
 /// The value that a log leaves in the end.

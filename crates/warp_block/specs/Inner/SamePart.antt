@@ -1,6 +1,6 @@
 -- What only proofs need beside `SamePart`.
 use Rattle.std.specs.Prelude.{◌≡◌, ℕ, ◌+◌, ◌≤◌, false, List, [], get_or}
-use Rattle.gate_values.specs.Behaviour.{Outside, Gate, Flop}
+use Rattle.gate_values.specs.Behaviour.{Outside}
 use Rattle.warp_block.specs.declared.cell.Cell.{Cell}
 use Rattle.warp_block.specs.declared.cell.Cell.TheVariants as cell
 use Rattle.warp_block.specs.Inner.HeldPart.{stretch}
