@@ -4,7 +4,10 @@ pub mod DumpRows
 pub mod Compared
 pub mod Writing
 pub mod Passing
-pub mod SameEntries
+pub mod Paired
+pub mod Counting
+pub mod TimelineLaws
+pub mod MergeLaws
 pub mod Stops
 pub mod WaveValues
 pub mod DumpLaws

@@ -1,44 +1,19 @@
 -- All changes of some nets up to a time, in the order of time and net; and what is written of them.
-use Rattle.std.proofs.Common.{◌≡◌, ◌≢◌, ℕ, zero, suc, ◌<◌, ◌≤◌, ◌⊎◌, inl, inr, Bool, true, false, cond, not, ◌||◌, nat_eq, nat_lt, Some, None, List, [], ◌∷◌, ◌++◌, refl, ap, sym, ◌∙◌, subst, arith, append_assoc}
+use Rattle.std.proofs.Common.{◌≡◌, ◌≢◌, ℕ, zero, suc, ◌<◌, ◌≤◌, ◌⊎◌, inl, inr, Bool, true, false, cond, not, ◌||◌, ◌&&◌, nat_eq, Some, None, List, [], ◌∷◌, ◌++◌, refl, ap, sym, ◌∙◌, subst, arith, append_assoc}
 use Rattle.std.proofs.lemmas.List.{append-nil}
+use Rattle.std.proofs.lemmas.Bool.Decides.{nat_tests}
 use Rattle.std.specs.List.{AllByRecursion}
-use Rattle.std.specs.List.Sorted.{IsStrictlySortedBy}
-use Rattle.std.specs.Map.{keys_of, lookup}
-use Rattle.std.specs.declared.cmp.Ordering.{Ordering}
-use Rattle.std.specs.declared.cmp.Ordering.TheVariants.{Less}
-use Rattle.std.specs.BTreeMap.{BTreeMap, get, is_at, IsOrdered}
-use Rattle.gate_vcd.proofs.SameEntries.{same_entries}
 use Rattle.gate_values.specs.declared.logic.Logic.{Logic}
 use Rattle.gate_values.specs.Changes.{same, just_before}
 use Rattle.gate_values.proofs.ChangeLists.{change_option}
 use Rattle.gate_vcd.specs.Dump.{stamp, value_line, has_change, some_change, change_lines, moment, moments}
-use Rattle.gate_vcd.specs.Inner.Waves.{by_time}
-use Rattle.gate_vcd.specs.Inner.Walk.{Stop, stop_lines, walked, last_stop, tail_line}
-use Rattle.gate_vcd.proofs.Waving.{at_place, at_other, by_time_total, by_time_exact}
-use Rattle.gate_vcd.proofs.Compared.{eq_true, eq_false, lt_true, lt_false, cases_eq, cases_lt, cases_below}
-
--- what is written of two lists, one behind the other
-walked-append : (last : ℕ) (xs ys : List Stop) → walked last (xs ++ ys) ≡ walked last xs ++ walked (last_stop last xs) ys
-walked-append last [] ys = refl
-walked-append last (x ∷ xs) ys =
-    ap (λ l. stop_lines last x.0.0 x.0.1 x.1 ++ l) (walked-append x.0.0 xs ys) ∙ sym (append_assoc (stop_lines last x.0.0 x.0.1 x.1) (walked x.0.0 xs) (walked (last_stop x.0.0 xs) ys))
-
-last_stop-append : (last : ℕ) (xs ys : List Stop) → last_stop last (xs ++ ys) ≡ last_stop (last_stop last xs) ys
-last_stop-append last [] ys = refl
-last_stop-append last (x ∷ xs) ys = last_stop-append x.0.0 xs ys
-
--- a look-up in two lists, one of which has nothing there
-lookup-behind : (test : ℕ × ℕ → Bool) (xs ys : List Stop) → lookup test xs ≡ None → lookup test (xs ++ ys) ≡ lookup test ys
-lookup-behind test [] ys e = refl
-lookup-behind test (x ∷ xs) ys e = go (test x.0) (lookup-behind test xs ys) e
-  where
-    go : (b : Bool) → (lookup test xs ≡ None → lookup test (xs ++ ys) ≡ lookup test ys) → cond b (Some x.1) (lookup test xs) ≡ None → cond b (Some x.1) (lookup test (xs ++ ys)) ≡ lookup test ys
-    go true h e = cc
-    go false h e = h e
-
-lookup-before : (test : ℕ × ℕ → Bool) (xs ys : List Stop) → lookup test ys ≡ None → lookup test (xs ++ ys) ≡ lookup test xs
-lookup-before test [] ys e = e
-lookup-before test (x ∷ xs) ys e = ap (cond (test x.0) (Some x.1)) (lookup-before test xs ys e)
+use Rattle.gate_vcd.specs.declared.timeline.Stop.{Stop}
+use Rattle.gate_vcd.specs.Inner.Timeline.{Before, IsRising, count}
+use Rattle.gate_vcd.specs.Inner.Waves.{marked}
+use Rattle.gate_vcd.specs.Inner.Walk.{walked, last_stop, tail_line}
+use Rattle.gate_vcd.proofs.Counting.{count-append}
+use Rattle.gate_vcd.proofs.Walking.{walked-append, last_stop-append}
+use Rattle.gate_vcd.proofs.Compared.{eq_true, eq_false, lt_true, lt_false, cases_eq, cases_below}
 
 All-append : {X : Type 0} (P : X → Type 0) (xs ys : List X) → AllByRecursion P xs → AllByRecursion P ys → AllByRecursion P (xs ++ ys)
 All-append P [] ys a b = b
@@ -48,31 +23,20 @@ All-weaker : {X : Type 0} (P Q : X → Type 0) (xs : List X) → ((x : X) → P 
 All-weaker P Q [] h a = tt
 All-weaker P Q (x ∷ xs) h a = (h x a.0, All-weaker P Q xs h a.1)
 
-sorted-push : {K : Type 0} (R : K → K → Ordering) (xs : List K) (y : K) → IsStrictlySortedBy R xs → AllByRecursion (λ x. R x y ≡ Less) xs → IsStrictlySortedBy R (xs ++ y ∷ [])
-unfolding IsStrictlySortedBy
-sorted-push R [] y s a = (tt, tt)
-sorted-push R (x ∷ xs) y s a = (All-append (λ z. R x z ≡ Less) xs (y ∷ []) s.0 (a.0, tt), sorted-push R xs y s.1 a.1)
+rising-push : (xs : List Stop) (y : Stop) → IsRising xs → AllByRecursion (λ x. Before x y) xs → IsRising (xs ++ y ∷ [])
+rising-push [] y s a = (tt, tt)
+rising-push (x ∷ xs) y s a = (All-append (Before x) xs (y ∷ []) s.0 (a.0, tt), rising-push xs y s.1 a.1)
 
-keys-append : (xs ys : List Stop) → keys_of (xs ++ ys) ≡ keys_of xs ++ keys_of ys
-keys-append [] ys = refl
-keys-append (x ∷ xs) ys = ap (λ l. x.0 ∷ l) (keys-append xs ys)
-
--- earlier than net n at time t
-abbrev Earlier : ℕ → ℕ → ℕ × ℕ → Type 0
-Earlier t n k = (k.0 < t) ⊎ ((k.0 ≡ t) × (k.1 < n))
-
-Less-earlier : (t n : ℕ) (k : ℕ × ℕ) → Earlier t n k → by_time k (t, n) ≡ Less
-Less-earlier t n k (inl h) = rw (lt_true k.0 t h) refl
-Less-earlier t n k (inr h) =
-    let not_less : nat_lt k.0 t ≡ false = lt_false k.0 t (omega (arith, h.0)) in
-    rw (not_less, eq_true k.0 t h.0, lt_true k.1 n h.1) refl
+-- a stop that is earlier than net n at time t
+abbrev Earlier : ℕ → ℕ → Stop → Type 0
+Earlier t n s = (s.time < t) ⊎ ((s.time ≡ t) × (s.net < n))
 
 -- `value n t` is the value of net n at time t
 module _ (value : ℕ → ℕ → Logic) where
   -- the changes at t of the nets below n
   abbrev pub stops_at : ℕ → ℕ → List Stop
   stops_at t zero = []
-  stops_at t (suc n) = stops_at t n ++ cond (has_change value t n) (((t, n), value n t) ∷ []) []
+  stops_at t (suc n) = stops_at t n ++ cond (has_change value t n) ((record { time = t; net = n; value = value n t }) ∷ []) []
 
   -- the changes of so many nets below a time
   abbrev pub all_stops : ℕ → ℕ → List Stop
@@ -85,7 +49,7 @@ module _ (value : ℕ → ℕ → Logic) where
   last_stop-at last t (suc n) =
       last_stop-append last (stops_at t n) _ ∙ rw (last_stop-at last t n) (go (some_change value t n) (has_change value t n))
     where
-      go : (a b : Bool) → last_stop (cond a t last) (cond b (((t, n), value n t) ∷ []) []) ≡ cond (a || b) t last
+      go : (a b : Bool) → last_stop (cond a t last) (cond b ((record { time = t; net = n; value = value n t }) ∷ []) []) ≡ cond (a || b) t last
       go true true = refl
       go true false = refl
       go false true = refl
@@ -114,7 +78,7 @@ module _ (value : ℕ → ℕ → Logic) where
       later : nat_eq t last ≡ false
       later = eq_false t last (λ e. omega arith)
 
-      go : (a : Bool) → some_change value t n ≡ a → (b : Bool) → cond a (stamp t ++ change_lines value t n) [] ++ walked (cond a t last) (cond b (((t, n), value n t) ∷ []) []) ≡ cond (a || b) (stamp t ++ (change_lines value t n ++ cond b (value_line (value n t) n) [])) []
+      go : (a : Bool) → some_change value t n ≡ a → (b : Bool) → cond a (stamp t ++ change_lines value t n) [] ++ walked (cond a t last) (cond b ((record { time = t; net = n; value = value n t }) ∷ []) []) ≡ cond (a || b) (stamp t ++ (change_lines value t n ++ cond b (value_line (value n t) n) [])) []
       go true e true = rw (positive, eq_true t t refl, append-nil (value_line (value n t) n)) (append_assoc (stamp t) (change_lines value t n) (value_line (value n t) n))
       go true e false = append_assoc (stamp t) (change_lines value t n) []
       go false e true = rw (positive, later, change_lines-quiet t n e) (append-nil (stamp t ++ value_line (value n t) n))
@@ -125,7 +89,7 @@ module _ (value : ℕ → ℕ → Logic) where
   walked-first zero = refl
   walked-first (suc n) = walked-append 0 (stops_at 0 n) _ ∙ rw (walked-first n) (go (has_change value 0 n))
     where
-      go : (b : Bool) → walked (last_stop 0 (stops_at 0 n)) (cond b (((0, n), value n 0) ∷ []) []) ≡ []
+      go : (b : Bool) → walked (last_stop 0 (stops_at 0 n)) (cond b ((record { time = 0; net = n; value = value n 0 }) ∷ []) []) ≡ []
       go true = refl
       go false = refl
 
@@ -183,127 +147,117 @@ module _ (value : ℕ → ℕ → Logic) where
       go false e = rw (lt_true (last_stop 0 (all_stops nets (suc t))) (suc t) (omega (arith, last_stop-all nets t)), change_lines-quiet (suc t) nets e) (ap (λ l. moments value nets (suc t) t ++ l) (append-nil (stamp (suc t))) ∙ ap (λ l. l ++ stamp (suc t)) (sym (append-nil _)))
 
   -- ---- which changes there are
-  abbrev at_stop : ℕ → ℕ → ℕ × ℕ → Bool
-  at_stop s m = is_at (by_time (s, m))
+  -- the stop of net n at t, if that is a change
+  abbrev stop_if : ℕ → ℕ → List Stop
+  stop_if t n = cond (has_change value t n) (record { time = t; net = n; value = value n t } ∷ []) []
 
-  stops_at-other : (s m t n : ℕ) → s ≢ t → lookup (at_stop s m) (stops_at t n) ≡ None
-  stops_at-other s m t zero h = refl
-  stops_at-other s m t (suc n) h = lookup-behind (at_stop s m) (stops_at t n) _ (stops_at-other s m t n h) ∙ go (has_change value t n)
+  other_stop : (s : Stop) (t n : ℕ) → (s.time ≡ t → s.net ≡ n → ⊥) → count s (stop_if t n) ≡ 0
+  other_stop s t n h = go (has_change value t n)
     where
-      go : (b : Bool) → lookup (at_stop s m) (cond b (((t, n), value n t) ∷ []) []) ≡ None
-      go true = rw (at_other s m t n (λ e _. h e)) refl
+      differ : (a b : Bool) → nat_eq s.time t ≡ a → nat_eq s.net n ≡ b → (a && (b && same s.value (value n t))) ≡ false
+      differ true true e f = absurd (h (grind (arith, nat_tests, e)) (grind (arith, nat_tests, f)))
+      differ true false e f = refl
+      differ false b e f = refl
+
+      go : (b : Bool) → count s (cond b (record { time = t; net = n; value = value n t } ∷ []) []) ≡ 0
+      go true = rw (differ (nat_eq s.time t) (nat_eq s.net n) refl refl) (omega arith)
       go false = refl
 
-  stops_at-above : (s m n : ℕ) → n ≤ m → lookup (at_stop s m) (stops_at s n) ≡ None
-  stops_at-above s m zero h = refl
-  stops_at-above s m (suc n) h = lookup-behind (at_stop s m) (stops_at s n) _ (stops_at-above s m n (omega arith)) ∙ go (has_change value s n)
+  same_stop : (s : Stop) → count s (stop_if s.time s.net) ≡ marked s.value (change_option (value s.net) s.time)
+  same_stop s = go (same (value s.net s.time) (just_before (value s.net) s.time))
     where
-      go : (b : Bool) → lookup (at_stop s m) (cond b (((s, n), value n s) ∷ []) []) ≡ None
-      go true = rw (at_other s m s n (λ _ e. omega arith)) refl
-      go false = refl
+      go : (b : Bool) → count s (cond (not b) (record { time = s.time; net = s.net; value = value s.net s.time } ∷ []) []) ≡ marked s.value (cond b None (Some (value s.net s.time)))
+      go true = refl
+      go false = rw (eq_true s.time s.time refl, eq_true s.net s.net refl) (omega arith)
 
-  stops_at-here : (s m n : ℕ) → m < n → lookup (at_stop s m) (stops_at s n) ≡ change_option (value m) s
-  stops_at-here s m zero h = absurd (omega arith)
-  stops_at-here s m (suc n) h = elim (cases_below m n h) [
-    | inl below ↦ (lookup-before (at_stop s m) (stops_at s n) _ (later (has_change value s n) below) ∙ stops_at-here s m n below)
-    | inr same_net ↦ (lookup-behind (at_stop s m) (stops_at s n) _ (stops_at-above s m n (omega arith)) ∙ subst (λ (k : ℕ). lookup (at_stop s m) (cond (has_change value s k) (((s, k), value k s) ∷ []) []) ≡ change_option (value m) s) same_net (here (same (value m s) (just_before (value m) s))))
+  stops_at-other : (s : Stop) (t n : ℕ) → s.time ≢ t → count s (stops_at t n) ≡ 0
+  stops_at-other s t zero h = refl
+  stops_at-other s t (suc n) h = omega (arith, count-append s (stops_at t n) (stop_if t n), stops_at-other s t n h, other_stop s t n (λ e _. h e))
+
+  stops_at-above : (s : Stop) (n : ℕ) → n ≤ s.net → count s (stops_at s.time n) ≡ 0
+  stops_at-above s zero h = refl
+  stops_at-above s (suc n) h = omega (arith, count-append s (stops_at s.time n) (stop_if s.time n), stops_at-above s n (omega arith), other_stop s s.time n (λ _ e. omega (arith, e)))
+
+  stops_at-here : (s : Stop) (n : ℕ) → s.net < n → count s (stops_at s.time n) ≡ marked s.value (change_option (value s.net) s.time)
+  stops_at-here s zero h = absurd (omega arith)
+  stops_at-here s (suc n) h = elim (cases_below s.net n h) [
+    | inl below ↦ omega (arith, count-append s (stops_at s.time n) (stop_if s.time n), stops_at-here s n below, other_stop s s.time n (λ _ e. omega (arith, e)))
+    | inr same_net ↦ subst (λ (k : ℕ). count s (stops_at s.time (suc k)) ≡ marked s.value (change_option (value s.net) s.time)) same_net
+        (omega (arith, count-append s (stops_at s.time s.net) (stop_if s.time s.net), stops_at-above s s.net (omega arith), same_stop s))
   ]
+
+  pub all_stops-late : (nets t : ℕ) (s : Stop) → t ≤ s.time → count s (all_stops nets t) ≡ 0
+  all_stops-late nets zero s h = refl
+  all_stops-late nets (suc t) s h = omega (arith, count-append s (all_stops nets t) (stops_at t nets), all_stops-late nets t s (omega arith), stops_at-other s t nets (λ e. omega (arith, e)))
+
+  at_now : (nets t : ℕ) (s : Stop) (many : ℕ) → s.time ≡ t → count s (stops_at s.time nets) ≡ many → count s (stops_at t nets) ≡ many
+  at_now nets t s many now h = subst (λ (u : ℕ). count s (stops_at u nets) ≡ many) now h
+
+  pub all_stops-above : (nets t : ℕ) (s : Stop) → nets ≤ s.net → count s (all_stops nets t) ≡ 0
+  all_stops-above nets zero s h = refl
+  all_stops-above nets (suc t) s h = omega (arith, count-append s (all_stops nets t) (stops_at t nets), all_stops-above nets t s h, here)
     where
-      later : (b : Bool) → m < n → lookup (at_stop s m) (cond b (((s, n), value n s) ∷ []) []) ≡ None
-      later true l = rw (at_other s m s n (λ _ e. omega arith)) refl
-      later false l = refl
-
-      here : (b : Bool) → lookup (at_stop s m) (cond (not b) (((s, m), value m s) ∷ []) []) ≡ cond b None (Some (value m s))
-      here true = refl
-      here false = rw (at_place s m) refl
-
-  all_stops-late : (nets t s m : ℕ) → t ≤ s → lookup (at_stop s m) (all_stops nets t) ≡ None
-  all_stops-late nets zero s m h = refl
-  all_stops-late nets (suc t) s m h = lookup-behind (at_stop s m) (all_stops nets t) _ (all_stops-late nets t s m (omega arith)) ∙ stops_at-other s m t nets (λ e. omega arith)
-
-  all_stops-above : (nets t s m : ℕ) → nets ≤ m → lookup (at_stop s m) (all_stops nets t) ≡ None
-  all_stops-above nets zero s m h = refl
-  all_stops-above nets (suc t) s m h =
-      lookup-behind (at_stop s m) (all_stops nets t) _ (all_stops-above nets t s m h) ∙ elim (cases_eq s t) [
-        | inl now ↦ subst (λ (u : ℕ). lookup (at_stop s m) (stops_at u nets) ≡ None) now (stops_at-above s m nets h)
-        | inr other ↦ stops_at-other s m t nets other
+      here : count s (stops_at t nets) ≡ 0
+      here = elim (cases_eq s.time t) [
+        | inl now ↦ at_now nets t s 0 now (stops_at-above s nets h)
+        | inr other ↦ stops_at-other s t nets other
       ]
 
-  all_stops-here : (nets t s m : ℕ) → s < t → m < nets → lookup (at_stop s m) (all_stops nets t) ≡ change_option (value m) s
-  all_stops-here nets zero s m h k = absurd (omega arith)
-  all_stops-here nets (suc t) s m h k = elim (cases_below s t h) [
-    | inl below ↦ (lookup-before (at_stop s m) (all_stops nets t) _ (stops_at-other s m t nets (λ e. omega arith)) ∙ all_stops-here nets t s m below k)
-    | inr now ↦ (lookup-behind (at_stop s m) (all_stops nets t) _ (all_stops-late nets t s m (omega arith)) ∙ subst (λ (u : ℕ). lookup (at_stop s m) (stops_at u nets) ≡ change_option (value m) s) now (stops_at-here s m nets k))
+  pub all_stops-here : (nets t : ℕ) (s : Stop) → s.time < t → s.net < nets → count s (all_stops nets t) ≡ marked s.value (change_option (value s.net) s.time)
+  all_stops-here nets zero s h k = absurd (omega arith)
+  all_stops-here nets (suc t) s h k = elim (cases_below s.time t h) [
+    | inl below ↦ omega (arith, count-append s (all_stops nets t) (stops_at t nets), stops_at-other s t nets (λ e. omega (arith, e)), all_stops-here nets t s below k)
+    | inr now ↦ omega (arith, count-append s (all_stops nets t) (stops_at t nets), all_stops-late nets t s (omega (arith, now)), at_now nets t s _ now (stops_at-here s nets k))
   ]
 
-  stops_at-known : (nets t n : ℕ) → n ≤ nets → AllByRecursion (λ (s : Stop). s.0.1 < nets) (stops_at t n)
+  stops_at-known : (nets t n : ℕ) → n ≤ nets → AllByRecursion (λ (s : Stop). s.net < nets) (stops_at t n)
   stops_at-known nets t zero h = tt
-  stops_at-known nets t (suc n) h = All-append (λ (s : Stop). s.0.1 < nets) (stops_at t n) _ (stops_at-known nets t n (omega arith)) (go (has_change value t n))
+  stops_at-known nets t (suc n) h = All-append (λ (s : Stop). s.net < nets) (stops_at t n) _ (stops_at-known nets t n (omega arith)) (go (has_change value t n))
     where
-      go : (b : Bool) → AllByRecursion (λ (s : Stop). s.0.1 < nets) (cond b (((t, n), value n t) ∷ []) [])
+      go : (b : Bool) → AllByRecursion (λ (s : Stop). s.net < nets) (cond b ((record { time = t; net = n; value = value n t }) ∷ []) [])
       go true = (omega arith, tt)
       go false = tt
 
-  all_stops-known : (nets t : ℕ) → AllByRecursion (λ (s : Stop). s.0.1 < nets) (all_stops nets t)
+  all_stops-known : (nets t : ℕ) → AllByRecursion (λ (s : Stop). s.net < nets) (all_stops nets t)
   all_stops-known nets zero = tt
-  all_stops-known nets (suc t) = All-append (λ (s : Stop). s.0.1 < nets) (all_stops nets t) (stops_at t nets) (all_stops-known nets t) (stops_at-known nets t nets (omega arith))
+  all_stops-known nets (suc t) = All-append (λ (s : Stop). s.net < nets) (all_stops nets t) (stops_at t nets) (all_stops-known nets t) (stops_at-known nets t nets (omega arith))
 
   -- they are of the nets that there are
-  pub known_below : (nets most t : ℕ) → nets ≤ most → AllByRecursion (λ (s : Stop). s.0.1 < most) (all_stops nets t)
-  known_below nets most t h = All-weaker (λ (s : Stop). s.0.1 < nets) (λ (s : Stop). s.0.1 < most) (all_stops nets t) (λ s l. omega arith) (all_stops-known nets t)
+  pub known_below : (nets most t : ℕ) → nets ≤ most → AllByRecursion (λ (s : Stop). s.net < most) (all_stops nets t)
+  known_below nets most t h = All-weaker (λ (s : Stop). s.net < nets) (λ (s : Stop). s.net < most) (all_stops nets t) (λ s l. omega arith) (all_stops-known nets t)
 
   -- ---- they are in order
-  record InOrder (t n : ℕ) (xs : List Stop) : Type 0 where
-    sorted : IsStrictlySortedBy by_time (keys_of xs)
-    early : AllByRecursion (Earlier t n) (keys_of xs)
+  record InTime (t n : ℕ) (xs : List Stop) : Type 0 where
+    rising : IsRising xs
+    early : AllByRecursion (Earlier t n) xs
 
-  in_order-push : (t n : ℕ) (v : Logic) (b : Bool) (xs : List Stop) → InOrder t n xs → InOrder t (suc n) (xs ++ cond b (((t, n), v) ∷ []) [])
-  in_order-push t n v true xs o = record {
-    sorted = rw (keys-append xs (((t, n), v) ∷ [])) (sorted-push by_time (keys_of xs) (t, n) o.sorted (All-weaker _ (λ k. by_time k (t, n) ≡ Less) (keys_of xs) (Less-earlier t n) o.early));
-    early = rw (keys-append xs (((t, n), v) ∷ [])) (All-append (Earlier t (suc n)) (keys_of xs) ((t, n) ∷ []) (All-weaker (Earlier t n) (Earlier t (suc n)) (keys_of xs) wider o.early) (inr (refl, omega arith), tt));
+  wider : (t n : ℕ) (s : Stop) → Earlier t n s → Earlier t (suc n) s
+  wider t n s (inl h) = inl h
+  wider t n s (inr h) = inr (h.0, omega (arith, h.1))
+
+  later : (t n : ℕ) (s : Stop) → Earlier t n s → Earlier (suc t) 0 s
+  later t n s (inl h) = inl (omega arith)
+  later t n s (inr h) = inl (omega (arith, h.0))
+
+  in_time-push : (t n : ℕ) (v : Logic) (b : Bool) (xs : List Stop) → InTime t n xs → InTime t (suc n) (xs ++ cond b (record { time = t; net = n; value = v } ∷ []) [])
+  in_time-push t n v true xs o = record {
+    rising = rising-push xs _ o.rising (All-weaker (Earlier t n) _ xs (λ s e. e) o.early);
+    early = All-append (Earlier t (suc n)) xs _ (All-weaker (Earlier t n) (Earlier t (suc n)) xs (wider t n) o.early) (inr (refl, omega arith), tt);
   }
-    where
-      wider : (k : ℕ × ℕ) → Earlier t n k → Earlier t (suc n) k
-      wider k (inl h) = inl h
-      wider k (inr h) = inr (h.0, omega (arith, h.1))
-  in_order-push t n v false xs o = rw (append-nil xs) (record {
-    sorted = o.sorted;
-    early = All-weaker (Earlier t n) (Earlier t (suc n)) (keys_of xs) wider o.early;
+  in_time-push t n v false xs o = rw (append-nil xs) (record {
+    rising = o.rising;
+    early = All-weaker (Earlier t n) (Earlier t (suc n)) xs (wider t n) o.early;
   })
-    where
-      wider : (k : ℕ × ℕ) → Earlier t n k → Earlier t (suc n) k
-      wider k (inl h) = inl h
-      wider k (inr h) = inr (h.0, omega (arith, h.1))
 
-  in_order-at : (t n : ℕ) (xs : List Stop) → InOrder t 0 xs → InOrder t n (xs ++ stops_at t n)
-  in_order-at t zero xs o = rw (append-nil xs) o
-  in_order-at t (suc n) xs o = rw (← append_assoc xs (stops_at t n) (cond (has_change value t n) (((t, n), value n t) ∷ []) [])) (in_order-push t n (value n t) (has_change value t n) (xs ++ stops_at t n) (in_order-at t n xs o))
+  in_time-at : (t n : ℕ) (xs : List Stop) → InTime t 0 xs → InTime t n (xs ++ stops_at t n)
+  in_time-at t zero xs o = rw (append-nil xs) o
+  in_time-at t (suc n) xs o = rw (← append_assoc xs (stops_at t n) (stop_if t n)) (in_time-push t n (value n t) (has_change value t n) (xs ++ stops_at t n) (in_time-at t n xs o))
 
-  in_order-all : (nets t : ℕ) → InOrder t 0 (all_stops nets t)
-  unfolding IsStrictlySortedBy
-  in_order-all nets zero = record { sorted = tt; early = tt }
-  in_order-all nets (suc t) =
-      let o = in_order-at t nets (all_stops nets t) (in_order-all nets t) in
-      record { sorted = o.sorted; early = All-weaker (Earlier t nets) (Earlier (suc t) 0) _ later o.early }
-    where
-      later : (k : ℕ × ℕ) → Earlier t nets k → Earlier (suc t) 0 k
-      later k (inl h) = inl (omega arith)
-      later k (inr h) = inl (omega (arith, h.0))
+  in_time-all : (nets t : ℕ) → InTime t 0 (all_stops nets t)
+  in_time-all nets zero = record { rising = tt; early = tt }
+  in_time-all nets (suc t) =
+      let o = in_time-at t nets (all_stops nets t) (in_time-all nets t) in
+      record { rising = o.rising; early = All-weaker (Earlier t nets) (Earlier (suc t) 0) _ (later t nets) o.early }
 
-  -- an ordered map with just the changes of the nets below the end is their list
-  pub entries_are : (nets end : ℕ) (order : BTreeMap (ℕ × ℕ) Logic) → IsOrdered by_time order
-      → ((s m : ℕ) → s < end → m < nets → get by_time order (s, m) ≡ change_option (value m) s)
-      → ((s m : ℕ) → end ≤ s → get by_time order (s, m) ≡ None)
-      → ((s m : ℕ) → nets ≤ m → get by_time order (s, m) ≡ None)
-      → order.entries ≡ all_stops nets end
-  entries_are nets end order sorted here late above =
-      same_entries by_time by_time_total by_time_exact order.entries (all_stops nets end) sorted (in_order-all nets end).sorted same_get
-    where
-      same_get : (q : ℕ × ℕ) → get by_time order q ≡ lookup (is_at (by_time q)) (all_stops nets end)
-      same_get q = elim (cases_lt q.0 end) [
-        | inl l ↦ elim (cases_lt q.1 nets) [
-          | inl k ↦ here q.0 q.1 l k ∙ sym (all_stops-here nets end q.0 q.1 l k)
-          | inr k ↦ above q.0 q.1 k ∙ sym (all_stops-above nets end q.0 q.1 k)
-        ]
-        | inr l ↦ late q.0 q.1 l ∙ sym (all_stops-late nets end q.0 q.1 l)
-      ]
+  pub all_stops-rising : (nets t : ℕ) → IsRising (all_stops nets t)
+  all_stops-rising nets t = (in_time-all nets t).rising

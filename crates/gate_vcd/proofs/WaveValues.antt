@@ -1,17 +1,18 @@
 -- The values that waves give, and the changes of a function as a wave.
 use Rattle.std.proofs.Common.{◌≡◌, ◌≢◌, ℕ, zero, suc, ◌+◌, ◌<◌, ◌≤◌, inl, inr, Bool, true, false, cond, nat_le, Some, None, List, [], ◌∷◌, ◌++◌, length, get_or, take, refl, ap, sym, ◌∙◌, subst, arith}
 use Rattle.std.proofs.lemmas.List.{append-nil, get_or_past}
-use Rattle.std.specs.BTreeMap.{BTreeMap, IsOrdered}
 use Rattle.gate_values.specs.declared.logic.Logic.{Logic}
 use Rattle.gate_values.specs.declared.logic.Logic.TheVariants.{X}
 use Rattle.gate_values.specs.declared.logic.Change.{Change}
 use Rattle.gate_values.specs.Changes.{same, just_before, change_at, changes, latest, last_value, pair_at}
 use Rattle.gate_values.proofs.ChangeLists.{change_option, same_refl, same_is, last_value-changes}
 use Rattle.gate_vcd.specs.Waves.{wave_of, wave_value, end_time, Follows, IsWaveFrom, IsWave, IsUntil}
-use Rattle.gate_vcd.specs.Inner.Waves.{by_time, IsOrderOf}
+use Rattle.gate_vcd.specs.declared.timeline.Stop.{Stop}
+use Rattle.gate_vcd.specs.Inner.Timeline.{count}
+use Rattle.gate_vcd.specs.Inner.Waves.{marked, AreStopsOf}
 use Rattle.gate_vcd.proofs.Waving.{pair_at-end, IsWaveFrom-push}
-use Rattle.gate_vcd.proofs.Stops.{all_stops, entries_are}
-use Rattle.gate_vcd.proofs.Compared.{eq_true, eq_false, le_true, le_false, cases_three, cases_below}
+use Rattle.gate_vcd.proofs.Stops.{all_stops, all_stops-here, all_stops-above, all_stops-late}
+use Rattle.gate_vcd.proofs.Compared.{eq_true, eq_false, le_true, le_false, cases_lt, cases_three, cases_below}
 
 same_not : (v w : Logic) → v ≢ w → same v w ≡ false
 same_not v w h = go (same v w) refl
@@ -86,13 +87,16 @@ pub pair_at-wave : (cs : List Change) (t : ℕ) → IsWave cs → pair_at cs t �
 pair_at-wave cs zero w = pair_at-from 0 X cs 0 w
 pair_at-wave cs (suc t) w = pair_at-from 0 X cs (suc t) w
 
--- the order by time is the list of all changes of all nets
-pub order_is : (lists : List (List Change)) (order : BTreeMap (ℕ × ℕ) Logic) (horizon : ℕ) → IsOrdered by_time order → IsOrderOf lists order → ((n : ℕ) → IsWave (wave_of lists n)) → ((n : ℕ) → IsUntil horizon (wave_of lists n))
-    → order.entries ≡ all_stops (wave_value lists) (length lists) (suc horizon)
-order_is lists order horizon sorted is waves until = entries_are (wave_value lists) (length lists) (suc horizon) order sorted
-    (λ s m _ _. is s m ∙ pair_at-wave (wave_of lists m) s (waves m))
-    (λ s m h. is s m ∙ pair_at-end 0 X (wave_of lists m) s (waves m) (omega (arith, until m)))
-    (λ s m h. is s m ∙ ap (λ (cs : List Change). pair_at cs s) (get_or_past lists m [] h))
+-- the stops are all changes of all nets
+pub stops_are : (lists : List (List Change)) (stops : List Stop) (horizon : ℕ) → AreStopsOf lists stops → ((n : ℕ) → IsWave (wave_of lists n)) → ((n : ℕ) → IsUntil horizon (wave_of lists n))
+    → (s : Stop) → count s stops ≡ count s (all_stops (wave_value lists) (length lists) (suc horizon))
+stops_are lists stops horizon is waves until s = is s ∙ elim (cases_lt s.time (suc horizon)) [
+  | inl early ↦ elim (cases_lt s.net (length lists)) [
+    | inl known ↦ (ap (marked s.value) (pair_at-wave (wave_of lists s.net) s.time (waves s.net)) ∙ sym (all_stops-here (wave_value lists) (length lists) (suc horizon) s early known))
+    | inr above ↦ (ap (λ (cs : List Change). marked s.value (pair_at cs s.time)) (get_or_past lists s.net [] above) ∙ sym (all_stops-above (wave_value lists) (length lists) (suc horizon) s above))
+  ]
+  | inr late ↦ (ap (marked s.value) (pair_at-end 0 X (wave_of lists s.net) s.time (waves s.net) (omega (arith, until s.net))) ∙ sym (all_stops-late (wave_value lists) (length lists) (suc horizon) s late))
+]
 
 latest-append : (v : Logic) (xs ys : List Change) (t : ℕ) → latest v (xs ++ ys) t ≡ latest (latest v xs t) ys t
 unfolding latest

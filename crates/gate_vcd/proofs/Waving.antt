@@ -1,44 +1,20 @@
--- Laws of waves, and of their order by time.
-use Rattle.std.proofs.Common.{◌≡◌, ◌≢◌, ℕ, zero, suc, ◌+◌, ◌<◌, ◌≤◌, ◌^◌, inl, inr, Bool, true, false, cond, nat_eq, Some, None, List, [], ◌∷◌, ◌++◌, map, length, get_or, refl, ap, sym, ◌∙◌, subst, arith, replicate, Result, Ok, Err}
+-- Laws of waves, and of their stops.
+use Rattle.std.proofs.Common.{◌≡◌, ◌≢◌, ℕ, zero, suc, ◌+◌, ◌<◌, ◌≤◌, ◌^◌, inl, inr, Bool, true, false, cond, ◌&&◌, nat_eq, Some, None, List, [], ◌∷◌, ◌++◌, map, length, get_or, refl, ap, sym, ◌∙◌, subst, arith, replicate, Result, Ok, Err}
 use Rattle.std.proofs.Math.ListN.{set, length-set}
 use Rattle.std.proofs.lemmas.List.{length-map, length-replicate, get_or-map, map-set}
 use Rattle.std.proofs.Math.Seq.{map-set_same}
 use Rattle.std.specs.Result.{OnErr}
 use Rattle.std.proofs.lemmas.Grind.{common_steps}
-use Rattle.std.proofs.lemmas.Cmp.{nat_cmp_total, then_total, on_total, tied_itself}
-use Rattle.std.proofs.lemmas.Map.Lookups.{CmpEqualImpliesEq, exact_unsigned, exact_pairs}
-use Rattle.std.specs.Cmp.{IsTotalOrder}
-use Rattle.std.specs.Ordering.{nat_cmp, is_eq}
-use Rattle.std.specs.BTreeMap.{BTreeMap, get, is_at, IsOrdered, Updates}
-use Rattle.std.specs.List.Sorted.{IsStrictlySortedBy}
-use Rattle.std.specs.Map.{keys_of}
 use Rattle.gate_values.specs.declared.logic.Logic.{Logic}
 use Rattle.gate_values.specs.declared.logic.Logic.TheVariants.{X}
 use Rattle.gate_values.specs.declared.logic.Change.{Change}
 use Rattle.gate_values.specs.Changes.{last_value, pair_at}
 use Rattle.gate_vcd.specs.Waves.{wave_of, end_time, Follows, IsWaveFrom, IsWave}
-use Rattle.gate_vcd.specs.Inner.Waves.{by_time, IsOrderOf}
+use Rattle.gate_vcd.specs.declared.timeline.Stop.{Stop}
+use Rattle.gate_vcd.specs.Inner.Timeline.{one, count}
+use Rattle.gate_vcd.specs.Inner.Waves.{marked, AreStopsOf}
 use Rattle.gate_vcd.specs.Inner.HeldWaves.{IsInStep}
-use Rattle.gate_vcd.proofs.Compared.{eq_true, eq_false, cases_eq, is_eq_Equal}
-
--- the order by time is a total one, and tells all places apart
-pub by_time_total : IsTotalOrder by_time
-by_time_total = then_total (on_total (λ p. p.0) nat_cmp_total) (on_total (λ p. p.1) nat_cmp_total)
-
-pub by_time_exact : CmpEqualImpliesEq by_time
-by_time_exact = exact_pairs nat_cmp nat_cmp exact_unsigned exact_unsigned
-
-pub at_place : (t n : ℕ) → is_at (by_time (t, n)) (t, n) ≡ true
-at_place t n = ap is_eq (tied_itself by_time_total (t, n))
-
-pub at_other : (t n s m : ℕ) → (t ≡ s → n ≡ m → ⊥) → is_at (by_time (t, n)) (s, m) ≡ false
-at_other t n s m h = go (is_at (by_time (t, n)) (s, m)) refl
-  where
-    go : (b : Bool) → is_at (by_time (t, n)) (s, m) ≡ b → b ≡ false
-    go false e = refl
-    go true e =
-        let both : (t, n) ≡ (s, m) = by_time_exact (t, n) (s, m) (is_eq_Equal _ e) in
-        absurd (h (ap (λ (p : ℕ × ℕ). p.0) both) (ap (λ (p : ℕ × ℕ). p.1) both))
+use Rattle.gate_vcd.proofs.Compared.{eq_true, eq_false, cases_eq}
 
 -- times of a wave are at least the one that it is from
 pub from-end_time : (from : ℕ) (before : Logic) (cs : List Change) → IsWaveFrom from before cs → from ≤ end_time from cs
@@ -70,8 +46,12 @@ pub IsWaveFrom-push : (from : ℕ) (before : Logic) (cs : List Change) (c : Chan
 IsWaveFrom-push from before [] c w late new = (late, new, tt)
 IsWaveFrom-push from before (x ∷ cs) c w late new = (w.0, w.1, IsWaveFrom-push (x.time + 1) x.value cs c w.2 late new)
 
--- the order with one change more
-module _ (lists : List (List Change)) (old new : BTreeMap (ℕ × ℕ) Logic) (net : ℕ) (c : Change) where
+-- the stop of a change
+abbrev pub stop_of : ℕ → Change → Stop
+stop_of net c = record { time = c.time; net = net; value = c.value }
+
+-- the stops with one change more
+module _ (lists : List (List Change)) (old new : List Stop) (net : ℕ) (c : Change) where
   abbrev pushed : List (List Change)
   pushed = set lists net (wave_of lists net ++ c ∷ [])
 
@@ -81,17 +61,32 @@ module _ (lists : List (List Change)) (old new : BTreeMap (ℕ × ℕ) Logic) (n
   pushed-other : (n : ℕ) → n ≢ net → wave_of pushed n ≡ wave_of lists n
   pushed-other n h = grind (arith, common_steps)
 
-  order_push : IsOrderOf lists old → Updates by_time old new (c.time, net) (Some c.value) → net < length lists → pair_at (wave_of lists net) c.time ≡ None → IsOrderOf pushed new
-  order_push was updates known free t n = updates.0 (t, n) ∙ elim (cases_eq net n) [
-    | inl same ↦ elim (cases_eq c.time t) [
-      | inl now ↦ subst (λ (m : ℕ). cond (is_at (by_time (c.time, net)) (t, m)) (Some c.value) (get by_time old (t, m)) ≡ pair_at (wave_of pushed m) t) same
-          (subst (λ (u : ℕ). cond (is_at (by_time (c.time, net)) (u, net)) (Some c.value) (get by_time old (u, net)) ≡ pair_at (wave_of pushed net) u) now
-          (rw (at_place c.time net, pushed-same known) (sym (pair_at-push (wave_of lists net) c free))))
-      | inr other ↦ subst (λ (m : ℕ). cond (is_at (by_time (c.time, net)) (t, m)) (Some c.value) (get by_time old (t, m)) ≡ pair_at (wave_of pushed m) t) same
-          (rw (at_other c.time net t net (λ e _. other e), pushed-same known, pair_at-push_other (wave_of lists net) c t other) (was t net))
+  stops_push : AreStopsOf lists old → ((s : Stop) → count s new ≡ one s (stop_of net c) + count s old) → net < length lists → pair_at (wave_of lists net) c.time ≡ None → AreStopsOf pushed new
+  stops_push was more known free s = elim (cases_eq s.net net) [
+    | inl same_net ↦ elim (cases_eq s.time c.time) [
+      | inl now ↦ (
+          let value : pair_at (wave_of pushed s.net) s.time ≡ Some c.value = rw (same_net, now, pushed-same known) (pair_at-push (wave_of lists net) c free) in
+          let before : count s old ≡ 0 = was s ∙ rw (same_net, now, free) refl in
+          rw value (omega (arith, more s, before, one-here s same_net now)))
+      | inr other ↦ (
+          let value : pair_at (wave_of pushed s.net) s.time ≡ pair_at (wave_of lists s.net) s.time = rw (same_net, pushed-same known) (pair_at-push_other (wave_of lists net) c s.time (λ e. other (sym e))) in
+          rw value (omega (arith, more s, was s, one-late s other)))
     ]
-    | inr apart ↦ (let apart_too : n ≢ net = λ e. apart (sym e) in rw (at_other c.time net t n (λ _ e. apart e), pushed-other n apart_too) (was t n))
+    | inr apart ↦ (rw (pushed-other s.net apart) (omega (arith, more s, was s, one-apart s apart)))
   ]
+    where
+      one-here : (s : Stop) → s.net ≡ net → s.time ≡ c.time → one s (stop_of net c) ≡ marked s.value (Some c.value)
+      one-here s a b = rw (eq_true s.time c.time b, eq_true s.net net a) refl
+
+      one-late : (s : Stop) → s.time ≢ c.time → one s (stop_of net c) ≡ 0
+      one-late s h = rw (eq_false s.time c.time h) refl
+
+      one-apart : (s : Stop) → s.net ≢ net → one s (stop_of net c) ≡ 0
+      one-apart s h = rw (eq_false s.net net h) (go (nat_eq s.time c.time))
+        where
+          go : (b : Bool) → ◌≡◌ {A = ℕ} (cond (b && false) 1 0) 0
+          go true = refl
+          go false = refl
 
   waves_push : ((n : ℕ) → IsWave (wave_of lists n)) → net < length lists → Follows (wave_of lists net) c → (n : ℕ) → IsWave (wave_of pushed n)
   waves_push was known follows n = elim (cases_eq net n) [
@@ -99,22 +94,20 @@ module _ (lists : List (List Change)) (old new : BTreeMap (ℕ × ℕ) Logic) (n
     | inr apart ↦ (let apart_too : n ≢ net = λ e. apart (sym e) in rw (pushed-other n apart_too) (was n))
   ]
 
-  -- lists and order are in step again when both have the change
-  pub in_step-push : IsInStep lists old → net < length lists → Follows (wave_of lists net) c → Updates by_time old new (c.time, net) (Some c.value) → IsOrdered by_time new → (all : List (List Change)) → all ≡ pushed → IsInStep all new
-  in_step-push is known follows updates sorted all e = rw e (record {
+  -- lists and stops are in step again when both have the change
+  pub in_step-push : IsInStep lists old → net < length lists → Follows (wave_of lists net) c → ((s : Stop) → count s new ≡ one s (stop_of net c) + count s old) → (all : List (List Change)) → all ≡ pushed → IsInStep all new
+  in_step-push is known follows more all e = rw e (record {
     few = omega (arith, is.few, length-set lists net (wave_of lists net ++ c ∷ []));
     waves = waves_push is.waves known follows;
-    sorted = sorted;
-    in_step = order_push is.in_step updates known (pair_at-end 0 X (wave_of lists net) c.time (is.waves net) follows.0);
+    in_step = stops_push is.in_step more known (pair_at-end 0 X (wave_of lists net) c.time (is.waves net) follows.0);
   })
 
--- lists and order stay in step where neither has changed
-pub in_step-kept : (lists all : List (List Change)) (old new : BTreeMap (ℕ × ℕ) Logic) → IsInStep lists old → all ≡ lists → new.entries ≡ old.entries → IsInStep all new
+-- lists and stops stay in step where neither has changed
+pub in_step-kept : (lists all : List (List Change)) (old new : List Stop) → IsInStep lists old → all ≡ lists → ((s : Stop) → count s new ≡ count s old) → IsInStep all new
 in_step-kept lists all old new is e same = rw e (record {
   few = is.few;
   waves = is.waves;
-  sorted = subst (λ es. IsStrictlySortedBy by_time (keys_of es)) (sym same) is.sorted;
-  in_step = λ t n. rw same (is.in_step t n);
+  in_step = λ s. same s ∙ is.in_step s;
 })
 
 wave_of-none : (count n : ℕ) → wave_of (replicate count []) n ≡ []
@@ -122,13 +115,12 @@ wave_of-none zero n = refl
 wave_of-none (suc count) zero = refl
 wave_of-none (suc count) (suc n) = wave_of-none count n
 
--- lists without a change, and an order without a place
-pub in_step-none : (count : ℕ) (all : List (List Change)) (order : BTreeMap (ℕ × ℕ) Logic) → count < 2 ^ 32 → all ≡ replicate count [] → order.entries ≡ [] → IsOrdered by_time order → IsInStep all order
-in_step-none count all order small e none sorted = rw e (record {
-  few = omega (arith, length-replicate {A = List Change} count []);
-  waves = λ n. rw (wave_of-none count n) tt;
-  sorted = sorted;
-  in_step = λ t n. rw (none, wave_of-none count n) refl;
+-- lists without a change, and no stop
+pub in_step-none : (many : ℕ) (all : List (List Change)) (stops : List Stop) → many < 2 ^ 32 → all ≡ replicate many [] → stops ≡ [] → IsInStep all stops
+in_step-none many all stops small e none = rw e (record {
+  few = omega (arith, length-replicate {A = List Change} many []);
+  waves = λ n. rw (wave_of-none many n) tt;
+  in_step = λ s. rw (none, wave_of-none many s.net) refl;
 })
 
 pub on_err : {T E P : Type 0} (r : Result T E) → P → OnErr r P

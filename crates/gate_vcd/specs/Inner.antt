@@ -8,6 +8,8 @@ pub mod Items
 pub mod Known
 pub mod Lists
 pub mod Lots
+pub mod Merging
+pub mod Pairs
 pub mod Reading
 pub mod Runs
 pub mod Scalars
@@ -15,6 +17,7 @@ pub mod Scopes
 pub mod Sink
 pub mod Sought
 pub mod Table
+pub mod Timeline
 pub mod Walk
 pub mod Waves
 pub mod Words

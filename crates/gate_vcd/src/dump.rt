@@ -2,6 +2,7 @@
 
 ghost use Rattle.std.specs.Prelude.{◌≡◌, ℕ, ◌+◌, ◌*◌, ◌<◌, ◌≤◌, ◌^◌, ◌++◌, ◌↔◌, false, length, take, IsTrue, IsErr, IfErr, OnOk};
 ghost use Rattle.std.specs.List.{AllByRecursion};
+ghost use Rattle.gate_vcd.specs.declared.timeline.Stop.{Stop};
 ghost use Rattle.gate_netlist.specs.Circuit.{nets_of};
 ghost use Rattle.gate_values.specs.declared.logic.Logic.TheVariants.{X};
 ghost use Rattle.gate_values.specs.Changes.{latest};
@@ -14,13 +15,14 @@ ghost use Rattle.gate_vcd.specs.Inner.Walk.{stop_lines, walked, last_stop, tail_
 use crate::fault::WriteFault;
 use crate::lines::{put_scope, put_stamp, put_timescale, put_value, put_var};
 use crate::lot::Lot;
+use crate::merging::next_chunk;
 use crate::sink::Sink;
 use crate::stimulus::Stimulus;
+use crate::timeline::Stop;
 use crate::timescale::Timescale;
 use crate::waves::Waves;
 use gate_netlist::Circuit;
 use gate_values::{Change, Logic};
-use std::collections::BTreeMap;
 
 /// Writes the dump of the waves up to the horizon, which is at most 10^12, in units of the stimulus's timescale
 /// (IEEE 1364-2005, section 18): behind what the sink has taken, the timescale, the scope `top` with the code and
@@ -130,39 +132,45 @@ fn put_moments<S: Sink>(sink: &mut S, lot: &mut Lot, waves: &Waves, horizon: u64
     ensures { Passes (S.held sink.old) (S.held sink.new) lot.old (moments (wave_value waves.now) (length waves.now) horizon horizon) lot.new }
 {
     waves.law();
-    let last = put_stops(sink, lot, waves.order());
+    let timeline = waves.timeline();
+    let mut all = timeline.all_runs();
+    let runs = &mut all[..timeline.runs()];
+    let mut last = 0;
+    while let Some((run, count)) = next_chunk(runs) {
+        let (chunk, rest) = runs[run].split_at(count);
+        last = put_stops(sink, lot, last, chunk);
+        runs[run] = rest;
+    }
     put_tail(sink, lot, last, horizon);
 }
 
-/// Puts the changes, which stand in the order of time and net. Returns the last time.
-fn put_stops<S: Sink>(sink: &mut S, lot: &mut Lot, order: &BTreeMap<(u64, u32), Logic>) -> u64
-    requires { AllByRecursion (λ s. s.0.1 < 1000000) order.now.entries }
-    ensures text { Passes (S.held sink.old) (S.held sink.new) lot.old (walked 0 order.now.entries) lot.new }
-    ensures last { result ≡ last_stop 0 order.now.entries }
+/// Puts the stops, which follow one at the time `last`. Returns the last time.
+fn put_stops<S: Sink>(sink: &mut S, lot: &mut Lot, mut last: u64, stops: &[Stop]) -> u64
+    requires { AllByRecursion (λ (s : Stop). s.net < 1000000) stops.now }
+    ensures text { Passes (S.held sink.old) (S.held sink.new) lot.old (walked last stops.now) lot.new }
+    ensures last { result ≡ last_stop last stops.now }
 {
-    let mut last = 0;
-    for (place, value) in order {
-        let (time, net) = *place;
-        put_stop(sink, lot, last, time, net, *value);
-        last = time;
+    for stop in stops {
+        put_stop(sink, lot, last, *stop);
+        last = stop.time;
     }
     last
 }
 
 /// Puts a change after one at the time `last`.
-fn put_stop<S: Sink>(sink: &mut S, lot: &mut Lot, last: u64, time: u64, net: u32, value: Logic)
-    requires { net < 1000000 }
-    ensures { Passes (S.held sink.old) (S.held sink.new) lot.old (stop_lines last time net value) lot.new }
+fn put_stop<S: Sink>(sink: &mut S, lot: &mut Lot, last: u64, stop: Stop)
+    requires { stop.net < 1000000 }
+    ensures { Passes (S.held sink.old) (S.held sink.new) lot.old (stop_lines last stop.time stop.net stop.value) lot.new }
 {
-    if time == 0 {
+    if stop.time == 0 {
         return;
     }
-    if time == last {
-        put_value(sink, lot, value, net);
+    if stop.time == last {
+        put_value(sink, lot, stop.value, stop.net);
         return;
     }
-    put_stamp(sink, lot, time);
-    put_value(sink, lot, value, net);
+    put_stamp(sink, lot, stop.time);
+    put_value(sink, lot, stop.value, stop.net);
 }
 
 /// Puts the time of the horizon, where it is later than the last change.

@@ -1,11 +1,10 @@
 ghost use Rattle.std.specs.Prelude.{◌≡◌, ◌≢◌, ℕ, ◌<◌, ◌++◌, [], ◌∷◌, length, IfOk, OnOk, OnErr, IsTrue, ◌↔◌, slice_set, replicate};
 ghost use Rattle.gate_vcd.specs.Waves.{wave_of, Follows, IsWave};
-ghost use Rattle.gate_vcd.specs.Inner.Waves.{by_time, IsOrderOf};
-ghost use Rattle.std.specs.BTreeMap.{IsOrdered};
+ghost use Rattle.gate_vcd.specs.Inner.Waves.{AreStopsOf};
 
+use crate::timeline::{Stop, Timeline};
 use gate_values::{Change, Logic};
 use std::alloc::{AllocError, Global};
-use std::collections::BTreeMap;
 use std::marker::Model;
 
 /// The changes of each net of a circuit: times rise, and each value is other than the one before, which
@@ -13,7 +12,7 @@ use std::marker::Model;
 #[derive(Drop)]
 pub struct Waves {
     lists: Vec<Vec<Change>>,
-    order: BTreeMap<(u64, u32), Logic>,
+    timeline: Timeline,
 }
 
 impl Model for Waves {
@@ -26,7 +25,7 @@ impl Model for Waves {
 
     ghost view = { lists_of };
 
-    ghost invariant = { λ w. IsInStep (lists_of w) w.order };
+    ghost invariant = { λ w. IsInStep (lists_of w) w.timeline.stops };
 }
 
 fn differs(value: Logic, other: Logic) -> bool
@@ -46,7 +45,7 @@ impl Waves {
         }
         Ok(Waves {
             lists,
-            order: BTreeMap::new(alloc),
+            timeline: Timeline::new(alloc),
         })
     }
 
@@ -97,16 +96,19 @@ impl Waves {
     {
         let at = net as usize;
         self.lists[at].reserve(1)?;
-        self.order.insert((change.time, net), change.value)?;
+        self.timeline.push(Stop {
+            time: change.time,
+            net,
+            value: change.value,
+        })?;
         self.lists[at].push_reserved(change);
         Ok(())
     }
 
-    /// All changes by time, and at one time by net.
-    pub(crate) fn order(&self) -> &BTreeMap<(u64, u32), Logic>
-        ensures sorted { IsOrdered by_time result.now }
-        ensures in_step { IsOrderOf self.now result.now }
+    /// All changes by time.
+    pub(crate) fn timeline(&self) -> &Timeline
+        ensures { AreStopsOf self.now result.now.stops }
     {
-        &self.order
+        &self.timeline
     }
 }

@@ -5,10 +5,7 @@ use Rattle.gate_vcd.specs.Inner.Lots.{Lot, Passes}
 use Rattle.std.specs.Prelude.{◌≡◌, ◌<◌, ℕ, ◌==◌, nat_lt, if◌then◌else◌, List, [], ◌∷◌, ◌++◌}
 use Rattle.gate_values.specs.declared.logic.Logic.{Logic}
 use Rattle.gate_vcd.specs.Dump.{stamp, value_line}
-
--- a change: the time and the net, and the value
-abbrev pub Stop : Type 0
-Stop = (ℕ × ℕ) × Logic
+use Rattle.gate_vcd.specs.declared.timeline.Stop.{Stop}
 
 -- What a change adds after one at the time `last`: nothing at time 0, whose values stand above; else its
 -- line, behind the line of its time where that is a new one.
@@ -18,21 +15,21 @@ stop_lines last t n v = if t == 0 then [] else if t == last then value_line v n 
 -- what changes add, one after another
 abbrev pub walked : ℕ → List Stop → List ℕ
 walked last [] = []
-walked last (s ∷ ss) = stop_lines last s.0.0 s.0.1 s.1 ++ walked s.0.0 ss
+walked last (s ∷ ss) = stop_lines last s.time s.net s.value ++ walked s.time ss
 
 -- the time of the last change
 abbrev pub last_stop : ℕ → List Stop → ℕ
 last_stop last [] = last
-last_stop last (s ∷ ss) = last_stop s.0.0 ss
+last_stop last (s ∷ ss) = last_stop s.time ss
 
 -- the line of the horizon, where it is later than the last change
 abbrev pub tail_line : ℕ → ℕ → List ℕ
 tail_line last horizon = if nat_lt last horizon then stamp horizon else []
 
--- Some changes of all have been written, the last one at the time `last`, and the rest are left.
-pub record IsWalked (old new : Held) (from to : Lot) (last : ℕ) (rest all : List Stop) : Type 0 where
+-- Some changes of all after one at the time `first` have been written, the last one at the time `last`, and the rest are left.
+pub record IsWalked (old new : Held) (from to : Lot) (first last : ℕ) (rest all : List Stop) : Type 0 where
   pub text : List ℕ
   pub written : Passes old new from text to
-  pub whole : text ++ walked last rest ≡ walked 0 all
-  pub end : last_stop last rest ≡ last_stop 0 all
-  pub known : AllByRecursion (λ s. s.0.1 < 1000000) rest
+  pub whole : text ++ walked last rest ≡ walked first all
+  pub end : last_stop last rest ≡ last_stop first all
+  pub known : AllByRecursion (λ (s : Stop). s.net < 1000000) rest

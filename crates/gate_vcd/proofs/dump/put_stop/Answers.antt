@@ -3,4 +3,4 @@ use Rattle.gate_vcd.proofs.Walking.{stop_lines-later}
 use Rattle.gate_vcd.proofs.dump.put_stop.Goals as goal
 
 pub returns : goal.returns
-returns g c = rw (stop_lines-later c.args.last c.args.time c.args.net c.args.value c.if-time-eq0.false c.if-time-last.false) (passes_then c.put_stamp.ensures c.put_value-2.ensures)
+returns g c = rw (stop_lines-later c.args.last c.args.stop.time c.args.stop.net c.args.stop.value c.if-stop-eq0.false c.if-stop-last.false) (passes_then c.put_stamp.ensures c.put_value-2.ensures)

@@ -1,16 +1,15 @@
-use Rattle.gate_vcd.proofs.Walking.{walked_start, walked_step, walked_known, walked_end}
+use Rattle.std.proofs.Common.{◌<◌, ◌+◌, length, get_or, drop, arith}
+use Rattle.std.proofs.lemmas.List.{drop_more}
+use Rattle.gate_values.specs.declared.logic.Logic.TheVariants.{Zero}
+use Rattle.gate_vcd.specs.declared.timeline.Stop.{Stop}
+use Rattle.gate_vcd.proofs.Walking.{walked_step}
 use Rattle.gate_vcd.proofs.dump.put_stops.Goals as goal
 
-pub loop-place-init : goal.loop-place-init
-loop-place-init g c = walked_start _ _ _ _ c.into_iter-place-iterator.ensures.into_iter_gives.0 c.requires
+first : Stop
+first = record { time = 0; net = 0; value = Zero }
 
-pub put_stop-requires : goal.put_stop-requires
-put_stop-requires g c = walked_known _ _ _ _ _ _ _ _ (c.in-Some.place.now, c.in-Some.value.now) c.loop-place.invariant c.in-Some.ensures.steps
-
-pub loop-place-preserved : goal.loop-place-preserved
-loop-place-preserved g c = walked_step _ _ _ _ _ _ _ _ _ _ (c.in-Some.place.now, c.in-Some.value.now) c.loop-place.invariant c.in-Some.ensures.steps c.put_stop.ensures
-
-pub returns : goal.returns
-returns g c =
-    let (text, last) = walked_end _ _ _ _ _ _ _ c.loop-place.invariant c.in-None.ensures.steps.0 in
-    record { text = text; last = last }
+pub loop-stop-preserved : goal.loop-stop-preserved
+unfolding first
+loop-stop-preserved g c =
+    let within : c.loop-stop.stop-index < length c.args.stops.now = omega (arith, c.loop-stop-test.true, c.loop-stop.auto.stop-index-end) in
+    walked_step _ _ _ _ _ _ _ _ (drop c.loop-stop.stop-index c.args.stops.now) (drop (c.loop-stop.stop-index + 1) c.args.stops.now) _ (get_or c.args.stops.now c.loop-stop.stop-index first) c.loop-stop.invariant (drop_more c.args.stops.now c.loop-stop.stop-index first within) c.put_stop.ensures

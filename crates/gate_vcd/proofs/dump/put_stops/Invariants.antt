@@ -1,6 +1,7 @@
+use Rattle.std.proofs.Common.{drop}
 use Rattle.gate_vcd.specs.Inner.Walk.{IsWalked}
 use Rattle.gate_vcd.proofs.dump.put_stops.Given as goal
 
--- the changes so far
-abbrev pub invariant-loop-place : goal.invariant-loop-place
-invariant-loop-place g l = IsWalked (g.S.Sink.held l.fn.sink) (g.S.Sink.held l.sink) l.fn.lot l.lot l.last l.place-iterator l.order.entries
+-- the stops so far
+abbrev pub invariant-loop-stop : goal.invariant-loop-stop
+invariant-loop-stop g l = IsWalked (g.S.Sink.held l.fn.sink) (g.S.Sink.held l.sink) l.fn.lot l.lot l.fn.last l.last (drop l.stop-index l.stops) l.stops

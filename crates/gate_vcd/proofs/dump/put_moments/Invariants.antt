@@ -1,0 +1,12 @@
+use Rattle.std.proofs.Common.{suc, length}
+use Rattle.gate_vcd.specs.Waves.{wave_value}
+use Rattle.gate_vcd.specs.Inner.Merging.{lefts, flat, IsMerged}
+use Rattle.gate_vcd.proofs.Stops.{all_stops}
+use Rattle.gate_vcd.proofs.dump.put_moments.Given as goal
+
+-- the stops so far
+abbrev pub invariant-loop-run : goal.invariant-loop-run
+invariant-loop-run g l = IsMerged (g.S.Sink.held l.fn.sink) (g.S.Sink.held l.sink) l.fn.lot l.lot l.last (lefts l.runs) (all_stops (wave_value l.waves) (length l.waves) (suc l.horizon))
+
+abbrev pub decreases-loop-run : goal.decreases-loop-run
+decreases-loop-run g l = length (flat (lefts l.runs))
