@@ -1,5 +1,9 @@
-use crate::program_tests::tell;
+use crate::told::{Answer, assert_told, named};
+use std::alloc::Global;
+use std::process::Abort;
+use std::sync::Wait;
 use std::test::Fail;
+use std::thread::Threads;
 
 const INVERTER: &str = "INPUT(A)\nOUTPUT(Y)\nY = NOT(A)\n";
 
@@ -29,7 +33,7 @@ struct Dump<'a> {
     changes: &'a str,
 }
 
-const DUMPS: [Dump; 8] = [
+static DUMPS: [Dump; 8] = [
     Dump {
         line: "warp_sim run --until 10 b v",
         bench: INVERTER,
@@ -96,19 +100,25 @@ const DUMPS: [Dump; 8] = [
     },
 ];
 
+fn assert_dump<R: Abort + Threads + Wait + Sync>(
+    rt: &R,
+    alloc: Global,
+    dump: &Dump<'_>,
+) -> Result<(), Fail> {
+    let want = format!(in alloc; "{}{}", dump.head, dump.changes)?;
+    let answer = Answer {
+        status: 0,
+        out: want.as_str(),
+        err: "",
+    };
+    let texts = named(dump.bench, dump.settings, dump.stimulus);
+    assert_told(rt, alloc, dump.line, &texts, answer)
+}
+
 #[test]
 fn dumps_are_exact(rt: HostRuntime) -> Result<(), Fail> {
-    for dump in DUMPS {
-        let texts = [
-            ("b", dump.bench.as_bytes()),
-            ("s", dump.settings.as_bytes()),
-            ("v", dump.stimulus.as_bytes()),
-        ];
-        let told = tell(&rt, rt.alloc(), dump.line, &texts)?;
-        let want = format!(in rt.alloc(); "{}{}", dump.head, dump.changes)?;
-        assert_eq!(rt; told.err.as_slice(), b"".as_slice(), "{}", dump.line);
-        assert_eq!(rt; told.out.as_slice(), want.as_bytes(), "{}", dump.line);
-        assert_eq!(rt; told.status, 0, "{}", dump.line);
+    for dump in &DUMPS {
+        assert_dump(&rt, rt.alloc(), dump)?;
     }
     Ok(())
 }
@@ -116,33 +126,28 @@ fn dumps_are_exact(rt: HostRuntime) -> Result<(), Fail> {
 #[test]
 fn joined_texts_give_a_dump(rt: HostRuntime) -> Result<(), Fail> {
     let joined = format!(in rt.alloc(); "{INVERTER}%%\n{RISE_AT_5}\n")?;
-    let told = tell(
-        &rt,
-        rt.alloc(),
-        "warp_sim run --until 10 -",
-        &[("-", joined.as_bytes())],
-    )?;
-    assert_eq!(rt; told.status, 0);
-    assert_eq!(rt; told.out.as_slice(), INVERTER_DUMP.as_bytes());
-    Ok(())
+    let answer = Answer {
+        status: 0,
+        out: INVERTER_DUMP,
+        err: "",
+    };
+    let texts = [("-", joined.as_bytes())];
+    assert_told(&rt, rt.alloc(), "warp_sim run --until 10 -", &texts, answer)
 }
 
 #[test]
 fn circuits_are_counted(rt: HostRuntime) -> Result<(), Fail> {
-    let told = tell(
-        &rt,
-        rt.alloc(),
-        "warp_sim check -",
-        &[("-", INVERTER.as_bytes())],
-    )?;
-    assert_eq!(rt; told.status, 0);
-    let want = b"nets 2\ninputs 1\ngates 1\nflip-flops 0\noutputs 1\nblocks 1\n";
-    assert_eq!(rt; told.out.as_slice(), want.as_slice());
-    Ok(())
+    let answer = Answer {
+        status: 0,
+        out: "nets 2\ninputs 1\ngates 1\nflip-flops 0\noutputs 1\nblocks 1\n",
+        err: "",
+    };
+    let texts = [("-", INVERTER.as_bytes())];
+    assert_told(&rt, rt.alloc(), "warp_sim check -", &texts, answer)
 }
 
 /// Bench and settings, and a line for each net.
-const LISTED: [(&str, &str, &str); 3] = [
+static LISTED: [(&str, &str, &str); 3] = [
     (
         INVERTER,
         "",
@@ -158,17 +163,26 @@ const LISTED: [(&str, &str, &str); 3] = [
 
 #[test]
 fn nets_are_listed(rt: HostRuntime) -> Result<(), Fail> {
-    for (bench, settings, want) in LISTED {
-        let texts = [("b", bench.as_bytes()), ("s", settings.as_bytes())];
-        let told = tell(&rt, rt.alloc(), "warp_sim nets --settings s b", &texts)?;
-        assert_eq!(rt; told.status, 0, "{bench}");
-        assert_eq!(rt; told.out.as_slice(), want.as_bytes(), "{bench}");
+    for (bench, settings, out) in &LISTED {
+        let answer = Answer {
+            status: 0,
+            out,
+            err: "",
+        };
+        let texts = named(bench, settings, "");
+        assert_told(
+            &rt,
+            rt.alloc(),
+            "warp_sim nets --settings s b",
+            &texts,
+            answer,
+        )?;
     }
     Ok(())
 }
 
 /// Bench, settings and stimulus, and the line that tells the refusal.
-const REFUSED: [(&str, &str, &str, &str); 11] = [
+static REFUSED: [(&str, &str, &str, &str); 11] = [
     (
         "y = NOT(b)\n",
         "speed = 1",
@@ -224,21 +238,20 @@ const REFUSED: [(&str, &str, &str, &str); 11] = [
 
 #[test]
 fn refused_texts_are_told(rt: HostRuntime) -> Result<(), Fail> {
-    for (bench, settings, stimulus, message) in REFUSED {
-        let texts = [
-            ("b", bench.as_bytes()),
-            ("s", settings.as_bytes()),
-            ("v", stimulus.as_bytes()),
-        ];
-        let told = tell(
+    let line = "warp_sim run --until 5 --settings s b v";
+    for (bench, settings, stimulus, err) in &REFUSED {
+        let answer = Answer {
+            status: 1,
+            out: "",
+            err,
+        };
+        assert_told(
             &rt,
             rt.alloc(),
-            "warp_sim run --until 5 --settings s b v",
-            &texts,
+            line,
+            &named(bench, settings, stimulus),
+            answer,
         )?;
-        assert_eq!(rt; told.err.as_slice(), message.as_bytes());
-        assert_eq!(rt; told.status, 1, "{message}");
-        assert!(rt; told.out.is_empty(), "{message}");
     }
     Ok(())
 }

@@ -18,3 +18,5 @@ mod replay_tests;
 mod run_tests;
 #[cfg(test)]
 mod s27_tests;
+#[cfg(test)]
+mod told;

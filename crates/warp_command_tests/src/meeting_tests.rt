@@ -2,6 +2,7 @@ use Logic::{One, Zero};
 use gate_values::{Change, Logic};
 use std::alloc::Global;
 use std::hint;
+use std::process::Abort;
 use std::sync::Wait;
 use std::sync::atomic::AtomicBool;
 use std::sync::atomic::Ordering::SeqCst;
@@ -136,31 +137,51 @@ fn dump_at<R: Threads + Wait + Sync>(
     Ok(dump)
 }
 
+/// The dump is that of the circuit.
+fn assert_dump<R: Abort + Threads + Wait + Sync>(
+    rt: &R,
+    alloc: Global,
+    settings: &str,
+    blocks: Option<u32>,
+    workers: u32,
+    gate: &Meeting,
+) -> Result<(), Fail> {
+    let dump = dump_at(rt, alloc, settings, blocks, workers, gate)?;
+    assert_eq!(rt; dump.as_slice(), DUMP.as_bytes());
+    Ok(())
+}
+
 #[test]
 fn two_turns_meet(rt: HostRuntime) -> Result<(), Fail> {
     let gate = Meeting::new(true);
-    let dump = dump_at(&rt, rt.alloc(), "", Some(2), 2, &gate)?;
-    assert_eq!(rt; dump.as_slice(), DUMP.as_bytes());
+    assert_dump(&rt, rt.alloc(), "", Some(2), 2, &gate)?;
     assert!(rt; !gate.gave_up.load(SeqCst));
     assert!(rt; is_set(&gate.finished, 0) && is_set(&gate.finished, 1));
     Ok(())
 }
 
+/// The turns that are taken are those of so many blocks.
+fn assert_begun(rt: &impl Abort, gate: &Meeting, count: u32) {
+    assert!(rt; is_set(&gate.begun, 0), "{count}");
+    assert_eq!(rt; is_set(&gate.begun, 1), count > 1, "{count}");
+    assert_eq!(rt; is_set(&gate.begun, 2), count > 2, "{count}");
+}
+
+/// Settings and the number of blocks that is asked for, and how many there are: as many as are asked for, else as the settings
+/// have them, else one.
+static CUTS: [(&str, Option<u32>, u32); 4] = [
+    ("", None, 1),
+    (SETTINGS, None, 3),
+    (SETTINGS, Some(1), 1),
+    (SETTINGS, Some(2), 2),
+];
+
 #[test]
 fn the_circuit_is_cut_as_told(rt: HostRuntime) -> Result<(), Fail> {
-    // By the number of blocks, else by the settings, else not at all.
-    for (settings, blocks, count) in [
-        ("", None, 1),
-        (SETTINGS, None, 3),
-        (SETTINGS, Some(1), 1),
-        (SETTINGS, Some(2), 2),
-    ] {
+    for (settings, blocks, count) in &CUTS {
         let gate = Meeting::new(false);
-        let dump = dump_at(&rt, rt.alloc(), settings, blocks, 1, &gate)?;
-        assert_eq!(rt; dump.as_slice(), DUMP.as_bytes());
-        assert!(rt; is_set(&gate.begun, 0), "{count}");
-        assert_eq!(rt; is_set(&gate.begun, 1), count > 1, "{count}");
-        assert_eq!(rt; is_set(&gate.begun, 2), count > 2, "{count}");
+        assert_dump(&rt, rt.alloc(), settings, *blocks, 1, &gate)?;
+        assert_begun(&rt, &gate, *count);
     }
     Ok(())
 }

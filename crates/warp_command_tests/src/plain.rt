@@ -145,39 +145,62 @@ fn content_of(
     )
 }
 
-/// The values of all nets at the times up to a last one.
-fn values_of(
-    alloc: Global,
-    circuit: &Circuit,
-    stimulus: &Stimulus,
-    until: u64,
-) -> Result<Vec<Vec<Logic>>, Fail>
-    requires { until ≤ 1000 }
-{
-    let mut values = Vec::new(alloc);
-    let mut contents = Vec::new(alloc);
-    for time in 0..until + 1 {
+/// The values of all nets and the contents of all flip-flops, of each of the times from 0 on.
+#[derive(Drop)]
+struct History {
+    values: Vec<Vec<Logic>>,
+    contents: Vec<Vec<Logic>>,
+}
+
+impl History {
+    /// The values at the time that comes next.
+    fn next_values(
+        &self,
+        alloc: Global,
+        circuit: &Circuit,
+        stimulus: &Stimulus,
+        time: u64,
+    ) -> Result<Vec<Logic>, Fail> {
+        let (values, contents) = (self.values.as_slice(), self.contents.as_slice());
         let mut row = Vec::new(alloc);
         for net in 0..circuit.nets() {
-            let value = value_of(
-                circuit,
-                stimulus,
-                values.as_slice(),
-                contents.as_slice(),
-                time,
-                net,
-            );
-            row.push(value)?;
+            row.push(value_of(circuit, stimulus, values, contents, time, net))?;
         }
-        values.push(row)?;
-        let mut row = Vec::new(alloc);
-        for net in 0..circuit.nets() {
-            let content = content_of(circuit, values.as_slice(), contents.as_slice(), time, net);
-            row.push(content)?;
-        }
-        contents.push(row)?;
+        Ok(row)
     }
-    Ok(values)
+
+    /// The contents at a time whose values are known.
+    fn next_contents(
+        &self,
+        alloc: Global,
+        circuit: &Circuit,
+        time: u64,
+    ) -> Result<Vec<Logic>, Fail> {
+        let (values, contents) = (self.values.as_slice(), self.contents.as_slice());
+        let mut row = Vec::new(alloc);
+        for net in 0..circuit.nets() {
+            row.push(content_of(circuit, values, contents, time, net))?;
+        }
+        Ok(row)
+    }
+
+    fn fill(
+        &mut self,
+        alloc: Global,
+        circuit: &Circuit,
+        stimulus: &Stimulus,
+        until: u64,
+    ) -> Result<(), Fail>
+        requires { until ≤ 1000 }
+    {
+        for time in 0..until + 1 {
+            let row = self.next_values(alloc, circuit, stimulus, time)?;
+            self.values.push(row)?;
+            let row = self.next_contents(alloc, circuit, time)?;
+            self.contents.push(row)?;
+        }
+        Ok(())
+    }
 }
 
 fn push_value(dump: &mut Vec<u8>, value: Logic, net: u32) -> Result<(), Fail> {
@@ -227,6 +250,59 @@ fn push_changes(
     Ok(())
 }
 
+/// The dump of values, from `#0` on.
+fn dump_of_values(
+    alloc: Global,
+    values: &[Vec<Logic>],
+    nets: u32,
+    until: u64,
+) -> Result<Vec<u8>, Fail>
+    requires { until ≤ 1000 }
+{
+    let mut dump = Vec::from_slice(alloc, b"#0\n$dumpvars\n")?;
+    for net in 0..nets {
+        push_value(&mut dump, at(values, 0, net), net)?;
+    }
+    dump.extend_from_slice(b"$end\n")?;
+    for time in 1..until + 1 {
+        push_changes(alloc, &mut dump, values, nets, time, time == until)?;
+    }
+    Ok(dump)
+}
+
+fn dump_of_stimulus(
+    alloc: Global,
+    circuit: &Circuit,
+    stimulus: &Stimulus,
+    until: u64,
+) -> Result<Vec<u8>, Fail>
+    requires { until ≤ 1000 }
+{
+    let mut history = History {
+        values: Vec::new(alloc),
+        contents: Vec::new(alloc),
+    };
+    history.fill(alloc, circuit, stimulus, until)?;
+    dump_of_values(alloc, history.values.as_slice(), circuit.nets(), until)
+}
+
+fn dump_of_circuit(
+    alloc: Global,
+    circuit: &Circuit,
+    stimulus: &str,
+    until: u64,
+) -> Result<Vec<u8>, Fail>
+    requires { until ≤ 1000 }
+{
+    let stimulus = read_stimulus(alloc, stimulus.as_bytes(), circuit)?;
+    dump_of_stimulus(alloc, circuit, &stimulus, until)
+}
+
+fn circuit_of(alloc: Global, bench: &str, settings: &str) -> Result<Circuit, Fail> {
+    let bench = read_bench(alloc, bench.as_bytes())?;
+    Ok(Circuit::of(alloc, bench, settings.as_bytes())?)
+}
+
 /// The dump of a circuit's values, from `#0` on.
 pub fn dump_of(
     alloc: Global,
@@ -237,25 +313,6 @@ pub fn dump_of(
 ) -> Result<Vec<u8>, Fail>
     requires { until ≤ 1000 }
 {
-    let bench = read_bench(alloc, bench.as_bytes())?;
-    let circuit = Circuit::of(alloc, bench, settings.as_bytes())?;
-    let stimulus = read_stimulus(alloc, stimulus.as_bytes(), &circuit)?;
-    let values = values_of(alloc, &circuit, &stimulus, until)?;
-    let nets = circuit.nets();
-    let mut dump = Vec::from_slice(alloc, b"#0\n$dumpvars\n")?;
-    for net in 0..nets {
-        push_value(&mut dump, at(values.as_slice(), 0, net), net)?;
-    }
-    dump.extend_from_slice(b"$end\n")?;
-    for time in 1..until + 1 {
-        push_changes(
-            alloc,
-            &mut dump,
-            values.as_slice(),
-            nets,
-            time,
-            time == until,
-        )?;
-    }
-    Ok(dump)
+    let circuit = circuit_of(alloc, bench, settings)?;
+    dump_of_circuit(alloc, &circuit, stimulus, until)
 }

@@ -1,5 +1,9 @@
-use crate::program_tests::tell;
+use crate::told::{Answer, tell};
+use std::alloc::Global;
+use std::process::Abort;
+use std::sync::Wait;
 use std::test::Fail;
+use std::thread::Threads;
 
 /// Two buffers in block 0, an AND in block 1 and a NOT in block 2.
 const PAIR: &str = "INPUT(P)\nINPUT(Q)\nA = BUFF(P)\nB = BUFF(Q)\nY = AND(A, B)\nZ = NOT(Y)\n";
@@ -20,7 +24,7 @@ const IN_THREE: &str = "warp_sim replay --until 10 --settings s b v c";
 const IN_ONE: &str = "warp_sim replay --until 10 --blocks 1 --settings s b v c";
 
 /// A line, the two parts of a schedule, with which status it ends, and what is written on standard output and error.
-const REPLAYS: [(&str, &str, &str, u8, &str, &str); 11] = [
+static REPLAYS: [(&str, &str, &str, u8, &str, &str); 11] = [
     (IN_THREE, EVENTS, "advance 2 1", 0, DUMP, ""),
     (IN_THREE, EVENTS, "", 3, "", "unfinished at 2\n"),
     (IN_THREE, "", "", 3, "", "unfinished at 0\n"),
@@ -55,21 +59,36 @@ const REPLAYS: [(&str, &str, &str, u8, &str, &str); 11] = [
     (IN_ONE, "advance 1 1", "", 3, "", "event 1: NoSuchBlock\n"),
 ];
 
+fn assert_played<R: Abort + Threads + Wait + Sync>(
+    rt: &R,
+    alloc: Global,
+    line: &str,
+    schedule: &str,
+    answer: Answer<'_>,
+) -> Result<(), Fail> {
+    let texts = [
+        ("b", PAIR.as_bytes()),
+        ("s", CUT.as_bytes()),
+        ("v", BOTH_ONE.as_bytes()),
+        ("c", schedule.as_bytes()),
+    ];
+    let told = tell(rt, alloc, line, &texts)?;
+    told.assert_is(rt, schedule, answer);
+    assert_eq!(rt; told.asked.as_str(), "s b v c ", "{schedule}");
+    Ok(())
+}
+
 #[test]
 fn schedules_are_played(rt: HostRuntime) -> Result<(), Fail> {
-    for (line, events, last, status, out, err) in REPLAYS {
-        let schedule = format!(in rt.alloc(); "{events}{last}")?;
-        let texts = [
-            ("b", PAIR.as_bytes()),
-            ("s", CUT.as_bytes()),
-            ("v", BOTH_ONE.as_bytes()),
-            ("c", schedule.as_bytes()),
-        ];
-        let told = tell(&rt, rt.alloc(), line, &texts)?;
-        assert_eq!(rt; told.out.as_slice(), out.as_bytes(), "{events}{last}");
-        assert_eq!(rt; told.err.as_slice(), err.as_bytes(), "{events}{last}");
-        assert_eq!(rt; told.status, status, "{events}{last}");
-        assert_eq!(rt; told.asked.as_str(), "s b v c ", "{events}{last}");
+    let alloc = rt.alloc();
+    for (line, events, last, status, out, err) in &REPLAYS {
+        let schedule = format!(in alloc; "{events}{last}")?;
+        let answer = Answer {
+            status: *status,
+            out,
+            err,
+        };
+        assert_played(&rt, alloc, line, schedule.as_str(), answer)?;
     }
     Ok(())
 }

@@ -1,10 +1,14 @@
 use crate::plain;
-use crate::program_tests::tell;
 use crate::s27_tests::{S27, STIMULUS};
+use crate::told::{assert_dumped, named};
+use std::alloc::Global;
+use std::process::Abort;
+use std::sync::Wait;
 use std::test::Fail;
+use std::thread::Threads;
 
 /// A circuit, its settings, its stimulus, and how far it runs.
-const CIRCUITS: [(&str, &str, &str, u64); 6] = [
+static CIRCUITS: [(&str, &str, &str, u64); 6] = [
     // A ring, stopped at first.
     (
         "INPUT(EN)\nY = NAND(EN, Y)\n",
@@ -43,30 +47,32 @@ const CIRCUITS: [(&str, &str, &str, u64); 6] = [
 ];
 
 /// Blocks, workers and the event times of a turn.
-const WAYS: [(u32, u32, u32); 5] = [(1, 1, 1000), (2, 1, 1), (3, 2, 1), (4, 3, 2), (7, 2, 1000)];
+static WAYS: [(u32, u32, u32); 5] = [(1, 1, 1000), (2, 1, 1), (3, 2, 1), (4, 3, 2), (7, 2, 1000)];
+
+/// Each way of running writes a dump that ends so.
+fn assert_ways<R: Abort + Threads + Wait + Sync>(
+    rt: &R,
+    alloc: Global,
+    texts: &[(&str, &[u8])],
+    until: u64,
+    dump: &[u8],
+) -> Result<(), Fail> {
+    for (blocks, workers, window) in &WAYS {
+        let line = format!(in alloc;
+            "warp_sim run --until {until} --blocks {blocks} --workers {workers} --window {window} --settings s b v"
+        )?;
+        assert_dumped(rt, alloc, line.as_str(), texts, dump)?;
+    }
+    Ok(())
+}
 
 #[test]
 fn runs_dump_the_values_of_the_definition(rt: HostRuntime) -> Result<(), Fail> {
     let alloc = rt.alloc();
-    for (bench, settings, stimulus, until) in CIRCUITS {
-        let texts = [
-            ("b", bench.as_bytes()),
-            ("s", settings.as_bytes()),
-            ("v", stimulus.as_bytes()),
-        ];
-        let dump = plain::dump_of(alloc, bench, settings, stimulus, until)?;
-        for (blocks, workers, window) in WAYS {
-            let line = format!(in alloc;
-                "warp_sim run --until {until} --blocks {blocks} --workers {workers} --window {window} --settings s b v"
-            )?;
-            let told = tell(&rt, alloc, line.as_str(), &texts)?;
-            assert_eq!(rt; told.err.as_slice(), b"".as_slice(), "{line}");
-            assert!(rt;
-                told.out.as_slice().ends_with(dump.as_slice()),
-                "{line} {bench}"
-            );
-            assert_eq!(rt; told.status, 0, "{line}");
-        }
+    for (bench, settings, stimulus, until) in &CIRCUITS {
+        let dump = plain::dump_of(alloc, bench, settings, stimulus, *until)?;
+        let texts = named(bench, settings, stimulus);
+        assert_ways(&rt, alloc, &texts, *until, dump.as_slice())?;
     }
     Ok(())
 }

@@ -1,4 +1,4 @@
-use crate::program_tests::tell;
+use crate::told::{Answer, assert_told};
 use std::test::Fail;
 
 pub const S27: &str = "INPUT(G0)
@@ -129,16 +129,19 @@ $end
 
 #[test]
 fn s27_is_dumped_exactly(rt: HostRuntime) -> Result<(), Fail> {
+    let alloc = rt.alloc();
     let texts = [("s27", S27.as_bytes()), ("v", STIMULUS.as_bytes())];
+    let answer = Answer {
+        status: 0,
+        out: DUMP,
+        err: "",
+    };
     for blocks in [1, 3, 13] {
         for workers in [1, 2, 4] {
-            let line = format!(in rt.alloc();
+            let line = format!(in alloc;
                 "warp_sim run --until 20 --blocks {blocks} --workers {workers} s27 v"
             )?;
-            let told = tell(&rt, rt.alloc(), line.as_str(), &texts)?;
-            assert_eq!(rt; told.err.as_slice(), b"".as_slice(), "{line}");
-            assert_eq!(rt; told.out.as_slice(), DUMP.as_bytes(), "{line}");
-            assert_eq!(rt; told.status, 0, "{line}");
+            assert_told(&rt, alloc, line.as_str(), &texts, answer)?;
         }
     }
     Ok(())
@@ -146,14 +149,11 @@ fn s27_is_dumped_exactly(rt: HostRuntime) -> Result<(), Fail> {
 
 #[test]
 fn s27_is_counted(rt: HostRuntime) -> Result<(), Fail> {
-    let told = tell(
-        &rt,
-        rt.alloc(),
-        "warp_sim check s27",
-        &[("s27", S27.as_bytes())],
-    )?;
-    let want = "nets 18\ninputs 5\ngates 10\nflip-flops 3\noutputs 1\nblocks 1\n";
-    assert_eq!(rt; told.out.as_slice(), want.as_bytes());
-    assert_eq!(rt; told.status, 0);
-    Ok(())
+    let answer = Answer {
+        status: 0,
+        out: "nets 18\ninputs 5\ngates 10\nflip-flops 3\noutputs 1\nblocks 1\n",
+        err: "",
+    };
+    let texts = [("s27", S27.as_bytes())];
+    assert_told(&rt, rt.alloc(), "warp_sim check s27", &texts, answer)
 }
