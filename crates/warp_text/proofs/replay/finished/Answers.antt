@@ -1,4 +1,5 @@
-use Rattle.std.proofs.Common.{arith}
+use Rattle.std.proofs.Common.{◌≡◌, ◌+◌, ℕ, subst, arith}
+use Rattle.warp_core.specs.World.{IsLeastTime}
 use Rattle.warp_text.proofs.Replaying.{nothing_played}
 use Rattle.warp_text.proofs.replay.finished.Goals as goal
 
@@ -9,3 +10,8 @@ returns-then-time-until-clause-stopped c = record {
   least = c.least-time.ensures;
   within = omega (arith, c.if-time-until.true, c.requires);
 }
+
+pub returns-in-Ok-clause-least : goal.returns-in-Ok-clause-least
+returns-in-Ok-clause-least c =
+    let past : c.least-time.result ≡ c.args.until + 1 = omega (arith, c.least-time.ensures.before.end, c.if-time-until.false, c.requires) in
+    subst (λ (t : ℕ). IsLeastTime c.args.world t) past c.least-time.ensures
