@@ -14,6 +14,10 @@ passes_then {a} {b} {c} {l} {m} {n} {s} {t} x y = record {
   whole = append_assoc x.sent y.sent n.waiting ∙ ap (λ r. x.sent ++ r) y.whole ∙ sym (append_assoc x.sent m.waiting t) ∙ ap (λ r. r ++ t) x.whole ∙ append_assoc l.waiting s t;
 }
 
+-- the same text, put in another way
+pub passes_as : {a b : Held} {l m : Lot} {s t : List ℕ} → s ≡ t → Passes a b l s m → Passes a b l t m
+passes_as {a} {b} {l} {m} {s} {t} e x = subst (λ (text : List ℕ). Passes a b l text m) e x
+
 -- nothing passed
 pub passes_none : (a : Held) (l : Lot) → Passes a a l [] l
 passes_none a l = record { sent = []; went = writes_none a l.written; whole = sym (append-nil l.waiting) }

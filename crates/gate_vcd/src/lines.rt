@@ -1,6 +1,7 @@
 //! The lines of a dump, one at a time.
 
-ghost use Rattle.std.specs.Prelude.{◌≡◌, ◌<◌, ◌≤◌, take, drop};
+ghost use Rattle.std.specs.Prelude.{◌≡◌, ◌<◌, ◌≤◌, ◌∷◌, ◌++◌, [], take, drop};
+ghost use Rattle.gate_vcd.specs.Codes.{code_of};
 ghost use Rattle.gate_vcd.specs.Inner.Lots.{Passes};
 ghost use Rattle.gate_vcd.specs.Dump.{letter, stamp, value_line, var_line, timescale_line, scope_line};
 
@@ -22,16 +23,30 @@ fn letter(value: Logic) -> u8
     }
 }
 
-/// The line of a net's value, and how many bytes it has.
-fn value_line(value: Logic, net: u32) -> ([u8; 6], usize)
+/// The code of a net between two bytes, and how many bytes that are.
+#[inline(always)]
+fn framed(first: u8, net: u32, last: u8) -> ([u8; 8], usize)
     requires { net < 1000000 }
-    ensures bytes { take result.1 result.0 ≡ value_line value net }
-    ensures within { result.1 ≤ 6 }
+    ensures bytes { take result.1 result.0 ≡ first ∷ (code_of net ++ last ∷ []) }
+    ensures within { result.1 ≤ 8 }
 {
     let (code, count) = code(net);
-    let mut line = [letter(value), code[0], code[1], code[2], code[3], b'\n'];
-    line[count + 1] = b'\n';
-    (line, count + 2)
+    match count {
+        1 => ([first, code[0], last, 0, 0, 0, 0, 0], 3),
+        2 => ([first, code[0], code[1], last, 0, 0, 0, 0], 4),
+        3 => ([first, code[0], code[1], code[2], last, 0, 0, 0], 5),
+        _ => ([first, code[0], code[1], code[2], code[3], last, 0, 0], 6),
+    }
+}
+
+/// Puts the code of a net between two bytes.
+#[inline(always)]
+fn put_framed<S: Sink>(sink: &mut S, lot: &mut Lot, first: u8, net: u32, last: u8)
+    requires { net < 1000000 }
+    ensures { Passes (S.held sink.old) (S.held sink.new) lot.old (first ∷ (code_of net ++ last ∷ [])) lot.new }
+{
+    let (bytes, count) = framed(first, net, last);
+    lot.put_short(sink, bytes, count);
 }
 
 /// Puts the line of a net's value.
@@ -39,8 +54,7 @@ pub fn put_value<S: Sink>(sink: &mut S, lot: &mut Lot, value: Logic, net: u32)
     requires { net < 1000000 }
     ensures { Passes (S.held sink.old) (S.held sink.new) lot.old (value_line value net) lot.new }
 {
-    let (line, count) = value_line(value, net);
-    lot.put(sink, &line[..count]);
+    put_framed(sink, lot, letter(value), net, b'\n');
 }
 
 /// The line of a time: the bytes from an index on.
@@ -67,10 +81,8 @@ pub fn put_var<S: Sink>(sink: &mut S, lot: &mut Lot, net: u32, name: &str)
     requires { net < 1000000 }
     ensures { Passes (S.held sink.old) (S.held sink.new) lot.old (var_line net name.now) lot.new }
 {
-    let (code, count) = code(net);
-    lot.put_text(sink, "$var wire 1 ");
-    lot.put(sink, &code[..count]);
-    lot.put_text(sink, " ");
+    lot.put_text(sink, "$var wire 1");
+    put_framed(sink, lot, b' ', net, b' ');
     lot.put_text(sink, name);
     lot.put_text(sink, " $end\n");
 }

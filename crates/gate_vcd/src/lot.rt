@@ -12,6 +12,9 @@ use std::marker::Model;
 /// How many bytes wait at most.
 const ROOM: usize = 4096;
 
+/// How many bytes a short piece has room for.
+const SHORT: usize = 8;
+
 /// The bytes that wait, and how many the sink has taken.
 #[derive(Drop)]
 pub struct Lot {
@@ -31,6 +34,7 @@ impl Model for Lot {
 }
 
 /// Writes the bytes into a buffer, from a place on.
+#[inline(always)]
 fn lay(buffer: &mut [u8], at: usize, bytes: &[u8])
     requires { at + length bytes.now ≤ length buffer.old }
     ensures bytes { take (at + length bytes.now) buffer.new ≡ take at buffer.old ++ bytes.now }
@@ -70,6 +74,7 @@ impl Lot {
     }
 
     /// Whether so many bytes more can wait.
+    #[inline(always)]
     fn has_room(&self, bytes: usize) -> bool
         ensures { IsTrue result ↔ (length self.now.waiting + bytes ≤ 4096) }
     {
@@ -77,6 +82,7 @@ impl Lot {
     }
 
     /// Has the bytes wait behind the others.
+    #[inline(always)]
     fn add(&mut self, bytes: &[u8])
         requires { length self.old.waiting + length bytes.now ≤ 4096 }
         ensures waiting { self.new.waiting ≡ self.old.waiting ++ bytes.now }
@@ -94,14 +100,11 @@ impl Lot {
         self.written = put_all(sink, self.written, bytes);
     }
 
-    /// Puts the bytes.
-    pub fn put<S: Sink>(&mut self, sink: &mut S, bytes: &[u8])
+    /// Puts the bytes, of which some are sent.
+    #[inline(never)]
+    fn put_past<S: Sink>(&mut self, sink: &mut S, bytes: &[u8])
         ensures { Passes (S.held sink.old) (S.held sink.new) self.old bytes.now self.new }
     {
-        if self.has_room(bytes.len()) {
-            self.add(bytes);
-            return;
-        }
         self.flush(sink);
         if self.has_room(bytes.len()) {
             self.add(bytes);
@@ -110,7 +113,45 @@ impl Lot {
         self.send(sink, bytes);
     }
 
+    /// Puts the bytes. It is part of each caller, so that bytes of a known length are moved at once.
+    #[inline(always)]
+    pub fn put<S: Sink>(&mut self, sink: &mut S, bytes: &[u8])
+        ensures { Passes (S.held sink.old) (S.held sink.new) self.old bytes.now self.new }
+    {
+        if self.has_room(bytes.len()) {
+            self.add(bytes);
+            return;
+        }
+        self.put_past(sink, bytes);
+    }
+
+    /// Has the first so many of eight bytes wait behind the others: all eight are moved at once.
+    #[inline(always)]
+    fn add_short(&mut self, bytes: [u8; 8], count: usize)
+        requires room { length self.old.waiting + 8 ≤ 4096 }
+        requires short { count ≤ 8 }
+        ensures waiting { self.new.waiting ≡ self.old.waiting ++ take count bytes }
+        ensures written { self.new.written ≡ self.old.written }
+    {
+        lay(&mut self.bytes, self.count, &bytes);
+        self.count += count;
+    }
+
+    /// Puts the first so many of eight bytes.
+    #[inline(always)]
+    pub fn put_short<S: Sink>(&mut self, sink: &mut S, bytes: [u8; 8], count: usize)
+        requires { count ≤ 8 }
+        ensures { Passes (S.held sink.old) (S.held sink.new) self.old (take count bytes) self.new }
+    {
+        if self.has_room(SHORT) {
+            self.add_short(bytes, count);
+            return;
+        }
+        self.put_past(sink, &bytes[..count]);
+    }
+
     /// Puts the text.
+    #[inline(always)]
     pub fn put_text<S: Sink>(&mut self, sink: &mut S, text: &str)
         ensures { Passes (S.held sink.old) (S.held sink.new) self.old text.now self.new }
     {

@@ -1,6 +1,13 @@
-use Rattle.gate_vcd.proofs.Passing.{passes_then}
+use Rattle.std.proofs.Common.{◌≡◌, ℕ, List, [], ◌∷◌, ◌++◌, ap, append_assoc}
+use Rattle.std.specs.Prelude.{codes}
+use Rattle.gate_vcd.specs.Codes.{code_of}
+use Rattle.gate_vcd.specs.Dump.{var_line}
+use Rattle.gate_vcd.proofs.Passing.{passes_then, passes_as}
 use Rattle.gate_vcd.proofs.lines.put_var.Goals as goal
 
+-- the pieces of the line
+pieces : (n : ℕ) (name : List ℕ) → codes "$var wire 1" ++ ((32 ∷ (code_of n ++ 32 ∷ [])) ++ (name ++ codes " $end\n")) ≡ var_line n name
+pieces n name = ap (λ (rest : List ℕ). codes "$var wire 1 " ++ rest) (append_assoc (code_of n) (32 ∷ []) (name ++ codes " $end\n"))
+
 pub returns : goal.returns
-returns g c =
-    rw (← c.code-count.ensures.bytes) (passes_then c.put_text.ensures (passes_then c.put.ensures (passes_then c.put_text-2.ensures (passes_then c.put_text-3.ensures c.put_text-4.ensures))))
+returns g c = passes_as (pieces c.args.net c.args.name.now) (passes_then c.put_text.ensures (passes_then c.put_framed.ensures (passes_then c.put_text-2.ensures c.put_text-3.ensures)))
