@@ -2,8 +2,9 @@ use Logic::{One, X, Z, Zero};
 use Sign::{Minus, Plus};
 use gate_netlist::{Circuit, Cut, read_bench};
 use gate_values::{Change, Logic};
-use gate_vcd::read_stimulus;
+use gate_vcd::{Stimulus, read_stimulus};
 use std::alloc::Global;
+use std::process::Abort;
 use std::test::Fail;
 use warp_block::{Block, BlockFault, Entry, Look, MOST_HORIZON, Message, Part, Sign};
 
@@ -53,7 +54,39 @@ pub(crate) fn part_of(
     block: u32,
 ) -> Result<Part, Fail> {
     let circuit = circuit_of(alloc, bench, settings)?;
-    cut_out(alloc, &circuit, block)
+    let part = cut_out(alloc, &circuit, block);
+    drop(circuit);
+    part
+}
+
+/// A new block of a circuit, with a horizon.
+fn stimulated(
+    alloc: Global,
+    circuit: &Circuit,
+    stimulus: &Stimulus,
+    block: u32,
+    horizon: u64,
+    out: &mut Vec<Message>,
+) -> Result<Block, Fail> {
+    if horizon > MOST_HORIZON {
+        return Err(Fail::from("a horizon past the limit"));
+    }
+    let part = cut_out(alloc, circuit, block)?;
+    Ok(Block::new(alloc, part, stimulus, horizon, out)?)
+}
+
+fn block_in(
+    alloc: Global,
+    circuit: &Circuit,
+    stimulus: &str,
+    block: u32,
+    horizon: u64,
+    out: &mut Vec<Message>,
+) -> Result<Block, Fail> {
+    let stimulus = read_stimulus(alloc, stimulus.as_bytes(), circuit)?;
+    let made = stimulated(alloc, circuit, &stimulus, block, horizon, out);
+    drop(stimulus);
+    made
 }
 
 /// A new block of a circuit that three texts give, with a horizon.
@@ -64,13 +97,10 @@ fn block_until(
     horizon: u64,
     out: &mut Vec<Message>,
 ) -> Result<Block, Fail> {
-    if horizon > MOST_HORIZON {
-        return Err(Fail::from("a horizon past the limit"));
-    }
     let circuit = circuit_of(alloc, bench, settings)?;
-    let part = cut_out(alloc, &circuit, block)?;
-    let stimulus = read_stimulus(alloc, stimulus.as_bytes(), &circuit)?;
-    Ok(Block::new(alloc, part, &stimulus, horizon, out)?)
+    let made = block_in(alloc, &circuit, stimulus, block, horizon, out);
+    drop(circuit);
+    made
 }
 
 /// The same with horizon 10.
@@ -162,12 +192,19 @@ fn straggler() -> [Call; 3] {
     [Receive(told(B, 1, Zero)), Advance(2, 2), Advance(1, 0)]
 }
 
+/// Makes the first calls of block 1, and some more.
+fn make_both_one(more: &[Call], block: &mut Block, out: &mut Vec<Message>) -> Result<(), Fail> {
+    make_all(both_one().as_slice(), block, out)?;
+    make_all(more, block, out)
+}
+
 #[test]
 fn a_straggler_is_rolled_back(rt: HostRuntime) -> Result<(), Fail> {
     let mut out = Vec::new(rt.alloc());
     let mut block = pair(rt.alloc(), &mut out)?;
-    make_all(both_one().as_slice(), &mut block, &mut out)?;
-    make_all(straggler().as_slice(), &mut block, &mut out)?;
+    let made = make_both_one(straggler().as_slice(), &mut block, &mut out);
+    drop(block);
+    made?;
     let want = [
         to(2, Plus, Y, 3, One),
         to(2, Minus, Y, 3, One),
@@ -182,18 +219,27 @@ fn a_straggler_is_rolled_back(rt: HostRuntime) -> Result<(), Fail> {
 fn a_straggler_moves_the_mark_back(rt: HostRuntime) -> Result<(), Fail> {
     let mut out = Vec::new(rt.alloc());
     let mut block = pair(rt.alloc(), &mut out)?;
-    make_all(both_one().as_slice(), &mut block, &mut out)?;
-    make(straggler()[0], &mut block, &mut out)?;
-    assert_eq!(rt; (block.next_time(), block.mark()), (Some(1), 1));
+    let calls = straggler();
+    let made = make_both_one(&calls[..1], &mut block, &mut out);
+    let times = (block.next_time(), block.mark());
+    drop(block);
+    made?;
+    assert_eq!(rt; times, (Some(1), 1));
     Ok(())
+}
+
+fn look_after_both(block: &mut Block, out: &mut Vec<Message>) -> Result<Look, Fail> {
+    make_both_one(&[], block, out)?;
+    Ok(block.look()?)
 }
 
 /// A look at block 1 after its first calls.
 fn look_at_both(alloc: Global) -> Result<Look, Fail> {
     let mut out = Vec::new(alloc);
     let mut block = pair(alloc, &mut out)?;
-    make_all(both_one().as_slice(), &mut block, &mut out)?;
-    Ok(block.look()?)
+    let look = look_after_both(&mut block, &mut out);
+    drop(block);
+    look
 }
 
 #[test]
@@ -202,6 +248,7 @@ fn a_look_shows_times(rt: HostRuntime) -> Result<(), Fail> {
     assert!(rt; look.mark() == 3 && look.floor() == 0 && look.horizon() == 10);
     assert!(rt; look.next_time() == None && look.done());
     assert!(rt; look.next_entry(A, 0) == Some(1) && look.next_entry(A, 2) == None);
+    drop(look);
     Ok(())
 }
 
@@ -218,6 +265,7 @@ fn a_look_shows_entries_and_logs(rt: HostRuntime) -> Result<(), Fail> {
     );
     assert_eq!(rt; look.entry(A, 1), numbers(0, 1, 0, 0));
     assert_eq!(rt; look.entry(0, 0), numbers(0, 0, 0, 0));
+    drop(look);
     Ok(())
 }
 
@@ -225,18 +273,24 @@ pub(crate) fn numbers(zero: i128, one: i128, x: i128, z: i128) -> Entry {
     Entry { zero, one, x, z }
 }
 
+fn assert_waits(rt: &impl Abort, block: &mut Block, out: &mut Vec<Message>) -> Result<(), Fail> {
+    make(Receive(to(1, Minus, A, 4, One)), block, out)?;
+    let waiting = block.entry(A, 4);
+    assert_eq!(rt; waiting, numbers(0, -1, 0, 0));
+    assert_eq!(rt; (waiting.effective(), block.mark()), (None, 0));
+    make(Receive(told(A, 4, One)), block, out)?;
+    assert_eq!(rt; block.entry(A, 4), numbers(0, 0, 0, 0));
+    Ok(())
+}
+
 #[test]
 fn an_antimessage_waits_for_its_message(rt: HostRuntime) -> Result<(), Fail> {
     let mut out = Vec::new(rt.alloc());
     let mut block = pair(rt.alloc(), &mut out)?;
-    make(Receive(to(1, Minus, A, 4, One)), &mut block, &mut out)?;
-    let waiting = block.entry(A, 4);
-    assert_eq!(rt;
-        (waiting, waiting.effective(), block.mark()),
-        (numbers(0, -1, 0, 0), None, 0)
-    );
-    make(Receive(told(A, 4, One)), &mut block, &mut out)?;
-    assert_eq!(rt; (block.entry(A, 4), out.len()), (numbers(0, 0, 0, 0), 0));
+    let waited = assert_waits(&rt, &mut block, &mut out);
+    drop(block);
+    waited?;
+    assert!(rt; out.is_empty());
     Ok(())
 }
 
@@ -256,20 +310,34 @@ fn the_first_value_of_which_a_message_stands(rt: HostRuntime) {
     assert_eq!(rt; numbers(-1, 0, 0, 1).effective(), Some(Z));
 }
 
+/// The block answers so to these messages.
+pub(crate) fn assert_answers(
+    rt: &impl Abort,
+    block: &mut Block,
+    out: &mut Vec<Message>,
+    rows: &[(Message, Result<(), BlockFault>)],
+) {
+    for (message, answer) in rows {
+        assert_eq!(rt; block.receive(*message, out), *answer, "{message:?}");
+    }
+}
+
 #[test]
 fn what_a_block_refuses(rt: HostRuntime) -> Result<(), Fail> {
     let mut out = Vec::new(rt.alloc());
     let mut block = pair(rt.alloc(), &mut out)?;
-    for (message, fault) in [
-        (told(A, 11, One), BlockFault::PastHorizon),
-        (told(P, 1, One), BlockFault::WrongNet),
-        (told(Y, 1, One), BlockFault::WrongNet),
-        (to(2, Plus, A, 1, One), BlockFault::WrongNet),
-    ] {
-        assert_eq!(rt; block.receive(message, &mut out), Err(fault), "{message:?}");
-    }
-    make(Receive(told(A, 10, One)), &mut block, &mut out)?;
-    assert_eq!(rt; (block.next_time(), out.len()), (Some(10), 0));
+    let rows = [
+        (told(A, 11, One), Err(BlockFault::PastHorizon)),
+        (told(P, 1, One), Err(BlockFault::WrongNet)),
+        (told(Y, 1, One), Err(BlockFault::WrongNet)),
+        (to(2, Plus, A, 1, One), Err(BlockFault::WrongNet)),
+    ];
+    assert_answers(&rt, &mut block, &mut out, rows.as_slice());
+    let made = make(Receive(told(A, 10, One)), &mut block, &mut out);
+    let next = block.next_time();
+    drop(block);
+    made?;
+    assert_eq!(rt; (next, out.len()), (Some(10), 0));
     Ok(())
 }
 
@@ -282,13 +350,35 @@ fn edges() -> [Call; 3] {
     ]
 }
 
+fn log_after(
+    alloc: Global,
+    more: &[Call],
+    block: &mut Block,
+    out: &mut Vec<Message>,
+) -> Result<Vec<Change>, Fail> {
+    make_all(edges().as_slice(), block, out)?;
+    make_all(more, block, out)?;
+    Ok(Vec::from_slice(alloc, block.log(2))?)
+}
+
 /// The log of the flip-flop, after some calls.
 fn flop_log(alloc: Global, more: &[Call]) -> Result<Vec<Change>, Fail> {
     let mut out = Vec::new(alloc);
     let mut block = block_of(alloc, SAMPLED, SAMPLED_CUT, SAMPLED_CLOCK, 1, &mut out)?;
-    make_all(edges().as_slice(), &mut block, &mut out)?;
-    make_all(more, &mut block, &mut out)?;
-    Ok(Vec::from_slice(alloc, block.log(2))?)
+    let log = log_after(alloc, more, &mut block, &mut out);
+    drop(block);
+    log
+}
+
+fn assert_flop_log(
+    rt: &impl Abort,
+    alloc: Global,
+    more: &[Call],
+    want: &[Change],
+) -> Result<(), Fail> {
+    let log = flop_log(alloc, more)?;
+    assert_eq!(rt; log.as_slice(), want);
+    Ok(())
 }
 
 #[test]
@@ -299,30 +389,24 @@ fn a_rollback_restores_contents(rt: HostRuntime) -> Result<(), Fail> {
     };
     let unsure = Change { time: 7, value: X };
     let more = [Receive(told(1, 5, One)), Advance(9, 2)];
-    assert_eq!(rt;
-        flop_log(rt.alloc(), &[])?.as_slice(),
-        [loaded, unsure].as_slice()
-    );
-    assert_eq!(rt;
-        flop_log(rt.alloc(), &more[..1])?.as_slice(),
-        [loaded].as_slice()
-    );
-    assert_eq!(rt;
-        flop_log(rt.alloc(), more.as_slice())?.as_slice(),
-        [loaded].as_slice()
-    );
-    Ok(())
+    assert_flop_log(&rt, rt.alloc(), &[], &[loaded, unsure])?;
+    assert_flop_log(&rt, rt.alloc(), &more[..1], &[loaded])?;
+    assert_flop_log(&rt, rt.alloc(), more.as_slice(), &[loaded])
+}
+
+fn assert_local(rt: &impl Abort, part: &Part) {
+    assert_eq!(rt; part.block(), 1);
+    for net in 0..8 {
+        assert_eq!(rt; part.owns(net), net == Y, "{net}");
+        assert_eq!(rt; part.reads(net), net == A || net == B, "{net}");
+    }
 }
 
 #[test]
 fn a_part_is_local(rt: HostRuntime) -> Result<(), Fail> {
     let mut out = Vec::new(rt.alloc());
     let block = pair(rt.alloc(), &mut out)?;
-    let part = block.part();
-    assert_eq!(rt; part.block(), 1);
-    for net in 0..8 {
-        assert_eq!(rt; part.owns(net), net == Y, "{net}");
-        assert_eq!(rt; part.reads(net), net == A || net == B, "{net}");
-    }
+    assert_local(&rt, block.part());
+    drop(block);
     Ok(())
 }

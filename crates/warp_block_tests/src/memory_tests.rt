@@ -24,9 +24,28 @@ fn are_alike(before: &Look, after: &Look) -> bool {
 /// Receives a message. Where memory ends, the block and `out` are as before, and that is the end.
 fn receive(message: Message, block: &mut Block, out: &mut Vec<Message>) -> Result<(), Fail> {
     let before = block.look()?;
+    let received = receive_after(&before, message, block, out);
+    drop(before);
+    received
+}
+
+/// Whether a block shows what it showed before.
+fn shows(block: &Block, before: &Look) -> Result<bool, Fail> {
+    let after = block.look()?;
+    let is_alike = are_alike(before, &after);
+    drop(after);
+    Ok(is_alike)
+}
+
+fn receive_after(
+    before: &Look,
+    message: Message,
+    block: &mut Block,
+    out: &mut Vec<Message>,
+) -> Result<(), Fail> {
     let sent = out.len();
     if let Err(fault) = block.receive(message, out) {
-        if out.len() != sent || !are_alike(&before, &block.look()?) {
+        if out.len() != sent || !shows(block, before)? {
             return Err(Fail::from("a refused message has changed something"));
         }
         return Err(fault.into());
@@ -48,16 +67,23 @@ fn finish(block: &mut Block, out: &mut Vec<Message>) -> Result<(), Fail> {
     Ok(())
 }
 
+/// Rolls a block back, and finishes all of it: how many steps are left then.
+fn roll_back(block: &mut Block, out: &mut Vec<Message>) -> Result<u32, Fail> {
+    receive(told(A, 1, One), block, out)?;
+    receive(told(B, 2, One), block, out)?;
+    finish(block, out)?;
+    receive(told(B, 1, Zero), block, out)?;
+    finish(block, out)?;
+    Ok(block.advance(1, out)?)
+}
+
 #[test]
 fn a_rollback_or_no_memory(rt: HostRuntime) -> Result<(), Fail> {
     let mut out = Vec::new(rt.alloc());
     let mut block = pair(rt.alloc(), &mut out)?;
-    receive(told(A, 1, One), &mut block, &mut out)?;
-    receive(told(B, 2, One), &mut block, &mut out)?;
-    finish(&mut block, &mut out)?;
-    receive(told(B, 1, Zero), &mut block, &mut out)?;
-    finish(&mut block, &mut out)?;
-    assert_eq!(rt; block.advance(1, &mut out)?, 0);
+    let left = roll_back(&mut block, &mut out);
+    drop(block);
+    assert_eq!(rt; left?, 0);
     let want = [
         to(2, Plus, Y, 3, One),
         to(2, Minus, Y, 3, One),

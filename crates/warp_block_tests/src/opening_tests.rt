@@ -4,8 +4,9 @@ use Logic::{One, X, Zero};
 use Sign::{Minus, Plus};
 use gate_values::{Change, Logic};
 use std::alloc::Global;
+use std::process::Abort;
 use std::test::Fail;
-use warp_block::{Message, Sign};
+use warp_block::{Block, Message, Sign};
 
 /// An inverter in block 0, and a flip-flop over it in block 1; nets N, Q, CK.
 const TOGGLE: &str = "N = NOT(Q)\nQ = DFF(N)\n";
@@ -44,15 +45,40 @@ fn a_new_block_tells_what_its_flip_flops_begin_with(rt: HostRuntime) -> Result<(
     assert_eq!(rt; block.log(0), [begins].as_slice());
     assert_eq!(rt; block.log(2), [].as_slice());
     assert_eq!(rt; (block.mark(), block.done()), (0, true));
+    drop(block);
     Ok(())
 }
 
-/// The flip-flop's log and what its block told, after some calls.
-fn toggle(alloc: Global, calls: &[Call]) -> Result<(Vec<Change>, Vec<Message>), Fail> {
+fn log_after(
+    alloc: Global,
+    calls: &[Call],
+    block: &mut Block,
+    out: &mut Vec<Message>,
+) -> Result<Vec<Change>, Fail> {
+    make_all(calls, block, out)?;
+    Ok(Vec::from_slice(alloc, block.log(Q))?)
+}
+
+/// The flip-flop's log, after some calls, and what its block told.
+fn toggle(alloc: Global, calls: &[Call], out: &mut Vec<Message>) -> Result<Vec<Change>, Fail> {
+    let mut block = block_of(alloc, TOGGLE, TOGGLE_SETTINGS, TOGGLE_CLOCK, 1, out)?;
+    let log = log_after(alloc, calls, &mut block, out);
+    drop(block);
+    log
+}
+
+fn assert_toggles(
+    rt: &impl Abort,
+    alloc: Global,
+    calls: &[Call],
+    told: &[Message],
+    log: &[Change],
+) -> Result<(), Fail> {
     let mut out = Vec::new(alloc);
-    let mut block = block_of(alloc, TOGGLE, TOGGLE_SETTINGS, TOGGLE_CLOCK, 1, &mut out)?;
-    make_all(calls, &mut block, &mut out)?;
-    Ok((Vec::from_slice(alloc, block.log(Q))?, out))
+    let logged = toggle(alloc, calls, &mut out)?;
+    assert_eq!(rt; logged.as_slice(), log);
+    assert_eq!(rt; out.as_slice(), told);
+    Ok(())
 }
 
 /// The flip-flop loads X at 3, and after a message on its data at 0 One.
@@ -84,9 +110,7 @@ fn a_rollback_to_0_keeps_what_a_flip_flop_begins_with(rt: HostRuntime) -> Result
             [pair(0, Zero), pair(4, One)].as_slice(),
         ),
     ] {
-        let (logged, out) = toggle(rt.alloc(), made)?;
-        assert_eq!(rt; logged.as_slice(), log);
-        assert_eq!(rt; out.as_slice(), told);
+        assert_toggles(&rt, rt.alloc(), made, told, log)?;
     }
     Ok(())
 }
