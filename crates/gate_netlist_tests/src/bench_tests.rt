@@ -1,9 +1,10 @@
 use gate_netlist::{BenchCause, BenchFault, Circuit, Driver, read_bench};
 use std::alloc::{AllocError, Global};
+use std::process::Abort;
 use std::test::Fail;
 
 /// Texts that are refused, with the line and the cause.
-const REFUSED: [(&str, u64, BenchCause); 31] = [
+static REFUSED: [(&str, u64, BenchCause); 31] = [
     ("INPUT(a)\noutput(y)\ny = and(a,)\n", 3, BenchCause::BadLine),
     ("INPUT(a, b)", 1, BenchCause::BadLine),
     ("INPUT()", 1, BenchCause::BadLine),
@@ -45,23 +46,32 @@ const REFUSED: [(&str, u64, BenchCause); 31] = [
     ("y = NOT(b)\nINPUT", 2, BenchCause::BadLine),
 ];
 
+fn fault_of(alloc: Global, text: &str) -> Option<BenchFault> {
+    read_bench(alloc, text.as_bytes()).err()
+}
+
 #[test]
 fn refuses_the_first_fault(rt: HostRuntime) {
-    for (text, line, cause) in REFUSED {
-        let fault = BenchFault { line, cause };
-        assert_eq!(rt;
-            read_bench(rt.alloc(), text.as_bytes()).err(),
-            Some(fault),
-            "{text}"
-        );
+    for (text, line, cause) in &REFUSED {
+        let fault = BenchFault {
+            line: *line,
+            cause: *cause,
+        };
+        assert_eq!(rt; fault_of(rt.alloc(), text), Some(fault), "{text}");
     }
+}
+
+fn circuit_of(alloc: Global, text: &[u8]) -> Result<Circuit, Fail> {
+    let bench = read_bench(alloc, text)?;
+    Ok(Circuit::of(alloc, bench, b"")?)
 }
 
 /// The nets of the circuit of a bench text, a line each, and its outputs on a last line.
 fn shown(alloc: Global, text: &[u8]) -> Result<String, Fail> {
-    let bench = read_bench(alloc, text)?;
-    let circuit = Circuit::of(alloc, bench, b"")?;
-    Ok(listed(alloc, &circuit)?)
+    let circuit = circuit_of(alloc, text)?;
+    let listed = listed(alloc, &circuit);
+    drop(circuit);
+    Ok(listed?)
 }
 
 fn listed(alloc: Global, circuit: &Circuit) -> Result<String, AllocError> {
@@ -112,7 +122,7 @@ fn push_name(text: &mut String, circuit: &Circuit, net: u32) -> Result<(), Alloc
 }
 
 /// Texts that are read, with their nets and outputs.
-const READ: [(&str, &str); 9] = [
+static READ: [(&str, &str); 9] = [
     ("", ""),
     ("\n # INPUT(a) $end\n\t\r\n", ""),
     (
@@ -139,14 +149,16 @@ const READ: [(&str, &str); 9] = [
     ("INPUT($End)\nINPUT(\"\\~)", "$End = Input\n\"\\~ = Input\n"),
 ];
 
+fn assert_shown(rt: &impl Abort, alloc: Global, text: &[u8], nets: &str) -> Result<(), Fail> {
+    let shown = shown(alloc, text)?;
+    assert_eq!(rt; shown.as_str(), nets);
+    Ok(())
+}
+
 #[test]
 fn reads_what_the_lines_say(rt: HostRuntime) -> Result<(), Fail> {
-    for (text, nets) in READ {
-        assert_eq!(rt;
-            shown(rt.alloc(), text.as_bytes())?.as_str(),
-            nets,
-            "{text}"
-        );
+    for (text, nets) in &READ {
+        assert_shown(&rt, rt.alloc(), text.as_bytes(), nets)?;
     }
     Ok(())
 }
@@ -154,8 +166,7 @@ fn reads_what_the_lines_say(rt: HostRuntime) -> Result<(), Fail> {
 #[test]
 fn takes_any_byte_in_a_comment(rt: HostRuntime) -> Result<(), Fail> {
     let text = b"INPUT(a) # \x00\x80\xff\r\x7f#($end\n#\xc3\r\n";
-    assert_eq!(rt; shown(rt.alloc(), text)?.as_str(), "a = Input\n");
-    Ok(())
+    assert_shown(&rt, rt.alloc(), text, "a = Input\n")
 }
 
 const S27: &str = "INPUT(G0)
@@ -202,8 +213,7 @@ CK = Input
 
 #[test]
 fn reads_s27(rt: HostRuntime) -> Result<(), Fail> {
-    assert_eq!(rt; shown(rt.alloc(), S27.as_bytes())?.as_str(), S27_NETS);
-    Ok(())
+    assert_shown(&rt, rt.alloc(), S27.as_bytes(), S27_NETS)
 }
 
 /// The next number, in decimal digits.
@@ -217,9 +227,8 @@ fn count(digits: &mut [u8; 6]) {
     }
 }
 
-#[test]
-fn reads_at_most_999_999_nets(rt: HostRuntime) -> Result<(), Fail> {
-    let mut text = Vec::with_capacity(rt.alloc(), 14_000_000)?;
+/// Appends a line for each of a million inputs.
+fn push_million(text: &mut Vec<u8>) -> Result<(), AllocError> {
     let mut digits = *b"000000";
     for _ in 0..1_000_000 {
         text.extend_from_slice(b"INPUT(")?;
@@ -227,6 +236,13 @@ fn reads_at_most_999_999_nets(rt: HostRuntime) -> Result<(), Fail> {
         text.extend_from_slice(b")\n")?;
         count(&mut digits);
     }
+    Ok(())
+}
+
+#[test]
+fn reads_at_most_999_999_nets(rt: HostRuntime) -> Result<(), Fail> {
+    let mut text = Vec::with_capacity(rt.alloc(), 14_000_000)?;
+    push_million(&mut text)?;
     let fault = BenchFault {
         line: 1_000_000,
         cause: BenchCause::TooManyNets,
