@@ -2,8 +2,9 @@ ghost use Rattle.std.specs.Prelude.{◌≡◌, ℕ, IfOk, length};
 ghost use Rattle.gate_vcd.specs.Waves.{wave_of, IsUntil};
 
 use crate::rows::{circuit, stimulus};
+use gate_netlist::Circuit;
 use gate_values::{Change, Logic};
-use gate_vcd::{Grow, Sink, Waves, WriteFault, code, write_vcd};
+use gate_vcd::{Grow, Sink, Stimulus, Waves, WriteFault, code, write_vcd};
 use std::alloc::Global;
 use std::test::Fail;
 
@@ -38,15 +39,36 @@ fn by_net(alloc: Global) -> Result<Waves, Fail>
     Ok(waves)
 }
 
-/// What the writer answers to the inverter's dump until 10, of a sink that hasn't failed.
-pub fn write<S: Sink>(alloc: Global, sink: &mut S) -> Result<Result<(), WriteFault>, Fail> {
-    let circuit = circuit(alloc, BENCH, "")?;
-    let stimulus = stimulus(alloc, BENCH, "", STIMULUS)?;
-    let waves = by_net(alloc)?;
+type Answer = Result<Result<(), WriteFault>, Fail>;
+
+fn write_waves<S: Sink>(
+    alloc: Global,
+    sink: &mut S,
+    circuit: &Circuit,
+    stimulus: &Stimulus,
+) -> Answer {
     if sink.failed() || circuit.nets() != 2 {
         return Err(Fail::from("a sink that has failed, or another circuit"));
     }
-    Ok(write_vcd(sink, "top", &circuit, &stimulus, &waves, 10))
+    let waves = by_net(alloc)?;
+    let answer = write_vcd(sink, "top", circuit, stimulus, &waves, 10);
+    drop(waves);
+    Ok(answer)
+}
+
+fn write_circuit<S: Sink>(alloc: Global, sink: &mut S, circuit: &Circuit) -> Answer {
+    let stimulus = stimulus(alloc, BENCH, "", STIMULUS)?;
+    let answer = write_waves(alloc, sink, circuit, &stimulus);
+    drop(stimulus);
+    answer
+}
+
+/// What the writer answers to the inverter's dump until 10, of a sink that hasn't failed.
+pub fn write<S: Sink>(alloc: Global, sink: &mut S) -> Answer {
+    let circuit = circuit(alloc, BENCH, "")?;
+    let answer = write_circuit(alloc, sink, &circuit);
+    drop(circuit);
+    answer
 }
 
 #[test]
@@ -57,29 +79,58 @@ fn a_growing_sink_takes_the_dump(rt: HostRuntime) -> Result<(), Fail> {
     Ok(())
 }
 
+fn write_no_waves(
+    alloc: Global,
+    sink: &mut Grow,
+    circuit: &Circuit,
+    stimulus: &Stimulus,
+) -> Answer {
+    if sink.failed() || circuit.nets() != 0 {
+        return Err(Fail::from("a sink that has failed, or another circuit"));
+    }
+    let waves = Waves::new(alloc, 0)?;
+    let answer = write_vcd(sink, "top", circuit, stimulus, &waves, 3);
+    drop(waves);
+    Ok(answer)
+}
+
+/// What the writer answers to the dump of no net until 3.
+fn write_nothing(alloc: Global, sink: &mut Grow) -> Answer {
+    let circuit = circuit(alloc, "", "")?;
+    let answer = write_no_inputs(alloc, sink, &circuit);
+    drop(circuit);
+    answer
+}
+
+fn write_no_inputs(alloc: Global, sink: &mut Grow, circuit: &Circuit) -> Answer {
+    let stimulus = stimulus(alloc, "", "", "")?;
+    let answer = write_no_waves(alloc, sink, circuit, &stimulus);
+    drop(stimulus);
+    answer
+}
+
 #[test]
 fn no_net_until_3(rt: HostRuntime) -> Result<(), Fail> {
-    let circuit = circuit(rt.alloc(), "", "")?;
-    let stimulus = stimulus(rt.alloc(), "", "", "")?;
-    let waves = Waves::new(rt.alloc(), 0)?;
-    assert!(rt; circuit.nets() == 0);
     let mut sink = Grow::new(rt.alloc());
-    assert!(rt; write_vcd(&mut sink, "top", &circuit, &stimulus, &waves, 3) == Ok(()));
+    assert!(rt; write_nothing(rt.alloc(), &mut sink)? == Ok(()));
     assert!(rt; sink.into_vec().as_slice() == EMPTY_DUMP.as_bytes());
     Ok(())
 }
 
+/// Nets, and their codes.
+static CODES: [(u32, &str); 5] = [
+    (0, "!"),
+    (93, "~"),
+    (94, "!!"),
+    (95, "\"!"),
+    (999_999, "<03!"),
+];
+
 #[test]
 fn codes_of_nets(rt: HostRuntime) {
-    for (net, want) in [
-        (0, "!"),
-        (93, "~"),
-        (94, "!!"),
-        (95, "\"!"),
-        (999_999, "<03!"),
-    ] {
-        assert!(rt; net < 1_000_000);
-        let (bytes, count) = code(net);
+    for (net, want) in &CODES {
+        assert!(rt; *net < 1_000_000);
+        let (bytes, count) = code(*net);
         assert!(rt; &bytes[..count] == want.as_bytes(), "net {net}");
     }
 }

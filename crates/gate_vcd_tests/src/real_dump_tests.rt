@@ -3,7 +3,8 @@
 //! off, from 10 to 20, it says x.
 
 use crate::rows::{Row, assert_rows, stimulus};
-use gate_vcd::Unit;
+use gate_vcd::{Timescale, Unit};
+use std::alloc::Global;
 use std::test::Fail;
 
 const ICARUS: &str = "$date
@@ -227,10 +228,17 @@ fn reads_dumps_of_simulators(rt: HostRuntime) -> Result<(), Fail> {
     assert_rows(&rt, rt.alloc(), &OF_VERILATOR)
 }
 
+fn timescale_of(alloc: Global, text: &str) -> Result<Timescale, Fail> {
+    let stimulus = stimulus(alloc, "", "", text)?;
+    let timescale = stimulus.timescale();
+    drop(stimulus);
+    Ok(timescale)
+}
+
 #[test]
 fn reads_their_timescales(rt: HostRuntime) -> Result<(), Fail> {
     for text in [ICARUS, VERILATOR] {
-        let timescale = stimulus(rt.alloc(), "", "", text)?.timescale();
+        let timescale = timescale_of(rt.alloc(), text)?;
         assert!(rt; timescale.number == 1 && timescale.unit == Unit::Ns);
     }
     Ok(())

@@ -34,7 +34,9 @@ pub fn circuit(alloc: Global, bench: &str, settings: &str) -> Result<Circuit, Fa
 /// The stimulus of a text.
 pub fn stimulus(alloc: Global, bench: &str, settings: &str, text: &str) -> Result<Stimulus, Fail> {
     let circuit = circuit(alloc, bench, settings)?;
-    Ok(read_stimulus(alloc, text.as_bytes(), &circuit)?)
+    let stimulus = read_stimulus(alloc, text.as_bytes(), &circuit);
+    drop(circuit);
+    Ok(stimulus?)
 }
 
 fn letter(value: Logic) -> char {
@@ -46,14 +48,31 @@ fn letter(value: Logic) -> char {
     }
 }
 
+fn push_change(alloc: Global, text: &mut String, change: &Change) -> Result<(), Fail> {
+    let next = format!(in alloc; "{}{} ", change.time, letter(change.value))?;
+    text.push_str(next.as_str())?;
+    Ok(())
+}
+
 /// The times of changes, each with its value.
 fn shown(alloc: Global, changes: &[Change]) -> Result<String, Fail> {
     let mut text = String::new(alloc);
     for change in changes {
-        let next = format!(in alloc; "{}{} ", change.time, letter(change.value))?;
-        text.push_str(next.as_str())?;
+        push_change(alloc, &mut text, change)?;
     }
     Ok(text)
+}
+
+fn assert_net(
+    rt: &impl Abort,
+    alloc: Global,
+    stimulus: &Stimulus,
+    net: u32,
+    line: &str,
+) -> Result<(), Fail> {
+    let shown = shown(alloc, stimulus.changes(net))?;
+    assert_eq!(rt; shown.as_str(), line, "net {net}");
+    Ok(())
 }
 
 /// The first nets have these changes.
@@ -64,8 +83,7 @@ pub fn assert_changes(
     nets: &[&str],
 ) -> Result<(), Fail> {
     for (net, line) in (0..u32::MAX).zip(nets) {
-        let shown = shown(alloc, stimulus.changes(net))?;
-        assert_eq!(rt; shown.as_str(), *line, "net {net}");
+        assert_net(rt, alloc, stimulus, net, line)?;
     }
     Ok(())
 }
@@ -74,15 +92,24 @@ pub fn assert_changes(
 pub fn assert_rows(rt: &impl Abort, alloc: Global, rows: &[Row]) -> Result<(), Fail> {
     for row in rows {
         let stimulus = stimulus(alloc, row.bench, row.settings, row.text)?;
-        assert_changes(rt, alloc, &stimulus, row.nets)?;
+        let told = assert_changes(rt, alloc, &stimulus, row.nets);
+        drop(stimulus);
+        told?;
     }
     Ok(())
 }
 
 /// The fault of a text, if it has one.
-fn fault_of(alloc: Global, row: &Refusal) -> Result<Option<StimFault>, Fail> {
-    let circuit = circuit(alloc, row.bench, "")?;
-    Ok(read_stimulus(alloc, row.text.as_bytes(), &circuit).err())
+pub fn fault_of(
+    alloc: Global,
+    bench: &str,
+    settings: &str,
+    text: &str,
+) -> Result<Option<StimFault>, Fail> {
+    let circuit = circuit(alloc, bench, settings)?;
+    let fault = read_stimulus(alloc, text.as_bytes(), &circuit).err();
+    drop(circuit);
+    Ok(fault)
 }
 
 /// Each text is refused so.
@@ -92,7 +119,8 @@ pub fn assert_refusals(rt: &impl Abort, alloc: Global, rows: &[Refusal]) -> Resu
             at: row.at,
             cause: row.cause,
         };
-        assert_eq!(rt; fault_of(alloc, row)?, Some(wanted));
+        let fault = fault_of(alloc, row.bench, "", row.text)?;
+        assert_eq!(rt; fault, Some(wanted));
     }
     Ok(())
 }

@@ -1,6 +1,9 @@
-use crate::rows::{Refusal, Row, assert_changes, assert_refusals, assert_rows, circuit, stimulus};
+use crate::rows::{
+    Refusal, Row, assert_changes, assert_refusals, assert_rows, circuit, fault_of, stimulus,
+};
 use gate_values::Logic;
-use gate_vcd::{StimCause, StimFault, Timescale, Unit, read_stimulus};
+use gate_vcd::{StimCause, StimFault, Stimulus, Timescale, Unit};
+use std::alloc::Global;
 use std::test::Fail;
 
 const ONE: &str = "INPUT(A)\n";
@@ -12,10 +15,9 @@ fn accepts_a_whole_text(rt: HostRuntime) -> Result<(), Fail> {
     let text =
         "$timescale 10 us $end $scope module top $end $var wire 1 ! A $end $var wire 1 ! B $end $var real 64 r f $end $upscope $end $enddefinitions $end 1! #5 $dumpall 0! r1.5 r $end #5 z!";
     let stimulus = stimulus(rt.alloc(), TWO, "", text)?;
-    assert_changes(&rt, rt.alloc(), &stimulus, &["01 5z ", "01 5z ", ""])?;
     assert!(rt; stimulus.at(1, 4) == Logic::One && stimulus.at(1, 6) == Logic::Z);
     assert!(rt; stimulus.timescale() == MICROSECONDS);
-    Ok(())
+    assert_changes(&rt, rt.alloc(), &stimulus, &["01 5z ", "01 5z ", ""])
 }
 
 const MICROSECONDS: Timescale = Timescale {
@@ -23,21 +25,31 @@ const MICROSECONDS: Timescale = Timescale {
     unit: Unit::Us,
 };
 
+fn fits(alloc: Global, stimulus: &Stimulus, bench: &str) -> Result<bool, Fail> {
+    let circuit = circuit(alloc, bench, "")?;
+    let fits = stimulus.fits(&circuit);
+    drop(circuit);
+    Ok(fits)
+}
+
+/// Benches, and whether a stimulus of one input fits them.
+static FITTING: [(&str, bool); 3] = [
+    ("INPUT(N)\n", true),
+    ("INPUT(A)\nY = NOT(A)\n", false),
+    ("Y = NOT(Y)\n", false),
+];
+
 #[test]
 fn tells_whether_it_fits(rt: HostRuntime) -> Result<(), Fail> {
     let stimulus = stimulus(rt.alloc(), ONE, "", "$var wire 1 ! A $end")?;
-    for (bench, fits) in [
-        ("INPUT(N)\n", true),
-        ("INPUT(A)\nY = NOT(A)\n", false),
-        ("Y = NOT(Y)\n", false),
-    ] {
-        let circuit = circuit(rt.alloc(), bench, "")?;
-        assert!(rt; stimulus.fits(&circuit) == fits, "{bench}");
+    for (bench, want) in &FITTING {
+        let fits = fits(rt.alloc(), &stimulus, bench)?;
+        assert!(rt; fits == *want, "{bench}");
     }
     Ok(())
 }
 
-const REFUSALS: [Refusal; 16] = [
+static REFUSALS: [Refusal; 16] = [
     Refusal {
         bench: ONE,
         text: "$var wire 1 ! A $end $enddefinitions $end #5 0! #4 1!",
@@ -141,7 +153,7 @@ fn refuses_the_first_fault(rt: HostRuntime) -> Result<(), Fail> {
     assert_refusals(&rt, rt.alloc(), &REFUSALS)
 }
 
-const NAMES: [Row; 5] = [
+static NAMES: [Row; 5] = [
     Row {
         bench: ONE,
         settings: "",
@@ -187,7 +199,7 @@ const MISSING: StimFault = StimFault {
 const SCOPES: &str =
     "$scope module top $end $var wire 1 ! A $end $scope module dut $end $var wire 1 # A $end $upscope $end $upscope $end $scope module top $end $scope module dut $end $upscope $end $upscope $end $var wire 1 & A $end $enddefinitions $end 0! 1# z&";
 
-const COUNTED: [Row; 4] = [
+static COUNTED: [Row; 4] = [
     Row {
         bench: ONE,
         settings: "",
@@ -217,8 +229,7 @@ const COUNTED: [Row; 4] = [
 #[test]
 fn counts_the_scope_that_is_asked_for(rt: HostRuntime) -> Result<(), Fail> {
     assert_rows(&rt, rt.alloc(), &COUNTED)?;
-    let other = circuit(rt.alloc(), ONE, "scope = \"top.du\"")?;
-    let fault = read_stimulus(rt.alloc(), SCOPES.as_bytes(), &other).err();
+    let fault = fault_of(rt.alloc(), ONE, "scope = \"top.du\"", SCOPES)?;
     assert_eq!(rt; fault, Some(MISSING));
     Ok(())
 }

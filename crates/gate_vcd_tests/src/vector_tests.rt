@@ -85,7 +85,7 @@ fn gives_each_bit_its_digit(rt: HostRuntime) -> Result<(), Fail> {
     assert_rows(&rt, rt.alloc(), &DIGITS)
 }
 
-const NO_BITS: [Refusal; 7] = [
+static NO_BITS: [Refusal; 7] = [
     Refusal {
         bench: BITS,
         text: "$var wire 4 v A [2:0] $end",
@@ -138,7 +138,7 @@ fn refuses_what_is_no_bit(rt: HostRuntime) -> Result<(), Fail> {
 const SCOPES: &str =
     "$scope module tb $end $var reg 3 u A [2:0] $end $scope module dut $end $var wire 3 v A [0:2] $end $upscope $end $upscope $end $enddefinitions $end b100 u b100 v";
 
-const COUNTED: [Row; 3] = [
+static COUNTED: [Row; 3] = [
     Row {
         bench: BITS,
         settings: "",
