@@ -1,4 +1,5 @@
 ghost use Rattle.std.specs.Prelude.{◌≤◌};
+ghost use Rattle.gate_netlist.specs.Circuit.{CutFits};
 
 use Logic::{One, Zero};
 use gate_netlist::{Circuit, Cut, read_bench};
@@ -19,7 +20,7 @@ const BENCH: &str = "INPUT(P)\nINPUT(Q)\nA = BUFF(P)\nB = BUFF(Q)\nY = AND(A, B)
 const STIMULUS: &str = "$var wire 1 p P $end $var wire 1 q Q $end $enddefinitions $end #0 1p 1q";
 
 /// Each net's one change up to time 10, with delays of 1.
-const WAVES: [(u32, u64, Logic); 6] = [
+static WAVES: [(u32, u64, Logic); 6] = [
     (0, 0, One),
     (1, 0, One),
     (2, 1, One),
@@ -109,9 +110,14 @@ fn store(flags: &[AtomicBool; 3], at: usize, value: bool) {
     }
 }
 
+/// Whether a net's only change is to a value at a time.
+fn is_one_change(changes: &[Change], time: u64, value: Logic) -> bool {
+    changes == [Change { time, value }].as_slice()
+}
+
 fn logs_are_right(block: &Block) -> bool {
-    for (net, time, value) in WAVES {
-        if block.part().owns(net) && block.log(net) != [Change { time, value }].as_slice() {
+    for (net, time, value) in &WAVES {
+        if block.part().owns(*net) && !is_one_change(block.log(*net), *time, *value) {
             return false;
         }
     }
@@ -119,12 +125,56 @@ fn logs_are_right(block: &Block) -> bool {
 }
 
 fn waves_are_right(waves: &Waves) -> bool {
-    for (net, time, value) in WAVES {
-        if net >= waves.nets() || waves.changes(net) != [Change { time, value }].as_slice() {
+    for (net, time, value) in &WAVES {
+        if *net >= waves.nets() || !is_one_change(waves.changes(*net), *time, *value) {
             return false;
         }
     }
     waves.nets() == 6
+}
+
+/// Runs a circuit that is cut, and answers whether the waves are right.
+fn runs_cut<R: Threads + Wait + Sync>(
+    rt: &R,
+    alloc: Global,
+    circuit: &Circuit,
+    cut: &Cut,
+    workers: u32,
+    gate: &Meeting,
+) -> Result<bool, Fail>
+    requires cut { CutFits circuit.now cut.now }
+    requires workers { (1 ≤ workers) × (workers ≤ 64) }
+{
+    let stimulus = read_stimulus(alloc, STIMULUS.as_bytes(), circuit)?;
+    let waves = run(rt, alloc, circuit, cut, &stimulus, 10, workers, 5, gate);
+    drop(stimulus);
+    let waves = waves?;
+    let are_right = waves_are_right(&waves);
+    drop(waves);
+    Ok(are_right)
+}
+
+/// The same of a circuit cut evenly into so many blocks.
+fn runs_even<R: Threads + Wait + Sync>(
+    rt: &R,
+    alloc: Global,
+    circuit: &Circuit,
+    blocks: u32,
+    workers: u32,
+    gate: &Meeting,
+) -> Result<bool, Fail>
+    requires blocks { (1 ≤ blocks) × (blocks ≤ 1024) }
+    requires workers { (1 ≤ workers) × (workers ≤ 64) }
+{
+    let cut = Cut::even(alloc, circuit, blocks)?;
+    let are_right = runs_cut(rt, alloc, circuit, &cut, workers, gate);
+    drop(cut);
+    are_right
+}
+
+fn circuit_of(alloc: Global, bench: &str, settings: &str) -> Result<Circuit, Fail> {
+    let bench = read_bench(alloc, bench.as_bytes())?;
+    Ok(Circuit::of(alloc, bench, settings.as_bytes())?)
 }
 
 /// Runs the circuit cut evenly into so many blocks, and answers whether the waves are right.
@@ -138,12 +188,10 @@ fn runs<R: Threads + Wait + Sync>(
     requires blocks { (1 ≤ blocks) × (blocks ≤ 1024) }
     requires workers { (1 ≤ workers) × (workers ≤ 64) }
 {
-    let bench = read_bench(alloc, BENCH.as_bytes())?;
-    let circuit = Circuit::of(alloc, bench, b"")?;
-    let stimulus = read_stimulus(alloc, STIMULUS.as_bytes(), &circuit)?;
-    let cut = Cut::even(alloc, &circuit, blocks)?;
-    let waves = run(rt, alloc, &circuit, &cut, &stimulus, 10, workers, 5, gate)?;
-    Ok(waves_are_right(&waves))
+    let circuit = circuit_of(alloc, BENCH, "")?;
+    let are_right = runs_even(rt, alloc, &circuit, blocks, workers, gate);
+    drop(circuit);
+    are_right
 }
 
 #[test]
@@ -179,22 +227,33 @@ const TOGGLE_SETTINGS: &str = "[init]\nQ = \"0\"\n[block]\nN = 0\nQ = 1\n";
 
 const TOGGLE_STIMULUS: &str = "$var wire 1 c CK $end $enddefinitions $end #0 0c #3 1c #5 0c #7 1c";
 
+/// The waves of a circuit that its settings cut, up to 10.
+fn toggled_of<R: Threads + Wait + Sync>(
+    rt: &R,
+    alloc: Global,
+    circuit: &Circuit,
+    workers: u32,
+) -> Result<Waves, Fail>
+    requires { (1 ≤ workers) × (workers ≤ 64) }
+{
+    let cut = circuit.cut().ok_or("a cut")?;
+    if !cut.fits(circuit) {
+        return Err(Fail::from("a cut of another circuit"));
+    }
+    let stimulus = read_stimulus(alloc, TOGGLE_STIMULUS.as_bytes(), circuit)?;
+    let waves = run(rt, alloc, circuit, cut, &stimulus, 10, workers, 5, &NoGate);
+    drop(stimulus);
+    Ok(waves?)
+}
+
 /// The toggle's waves up to 10.
 fn toggled<R: Threads + Wait + Sync>(rt: &R, alloc: Global, workers: u32) -> Result<Waves, Fail>
     requires { (1 ≤ workers) × (workers ≤ 64) }
 {
-    let circuit = toggle(alloc)?;
-    let stimulus = read_stimulus(alloc, TOGGLE_STIMULUS.as_bytes(), &circuit)?;
-    let cut = circuit.cut().ok_or("a cut")?;
-    if !cut.fits(&circuit) {
-        return Err(Fail::from("a cut of another circuit"));
-    }
-    Ok(run(rt, alloc, &circuit, cut, &stimulus, 10, workers, 5, &NoGate)?)
-}
-
-fn toggle(alloc: Global) -> Result<Circuit, Fail> {
-    let bench = read_bench(alloc, TOGGLE.as_bytes())?;
-    Ok(Circuit::of(alloc, bench, TOGGLE_SETTINGS.as_bytes())?)
+    let circuit = circuit_of(alloc, TOGGLE, TOGGLE_SETTINGS)?;
+    let waves = toggled_of(rt, alloc, &circuit, workers);
+    drop(circuit);
+    waves
 }
 
 #[test]
@@ -204,11 +263,10 @@ fn initial_contents_are_told_before_the_first_round(rt: HostRuntime) -> Result<(
     let contents = [pair(0, Zero), pair(4, One), pair(8, Zero)];
     for workers in [1, 2] {
         let waves = toggled(&rt, rt.alloc(), workers)?;
-        if waves.nets() != 3 {
-            return Err(Fail::from("other waves"));
-        }
+        assert!(rt; waves.nets() == 3, "{workers}");
         assert_eq!(rt; waves.changes(0), inverses.as_slice(), "{workers}");
         assert_eq!(rt; waves.changes(1), contents.as_slice(), "{workers}");
+        drop(waves);
     }
     Ok(())
 }

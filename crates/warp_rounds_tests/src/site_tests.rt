@@ -2,8 +2,10 @@ use Logic::One;
 use Sign::Plus;
 use gate_netlist::{Circuit, read_bench};
 use gate_values::Logic;
-use gate_vcd::read_stimulus;
+use gate_vcd::{Stimulus, read_stimulus};
 use std::alloc::Global;
+use std::process::Abort;
+use std::sync::Wait;
 use std::test::Fail;
 use warp_block::{Block, BlockFault, Entry, Message, Part, Sign};
 use warp_rounds::{NoGate, Site, TurnReport, turn};
@@ -39,9 +41,27 @@ fn part_of_and(alloc: Global, circuit: &Circuit) -> Result<Part, Fail> {
 /// The block of the AND, new, with horizon 10.
 fn block_of_and(alloc: Global) -> Result<Block, Fail> {
     let circuit = pair(alloc)?;
-    let part = part_of_and(alloc, &circuit)?;
-    let stimulus = read_stimulus(alloc, PAIR_UNSET.as_bytes(), &circuit)?;
-    Ok(Block::new(alloc, part, &stimulus, 10, &mut Vec::new(alloc))?)
+    let block = block_in(alloc, &circuit);
+    drop(circuit);
+    block
+}
+
+fn block_in(alloc: Global, circuit: &Circuit) -> Result<Block, Fail> {
+    let stimulus = read_stimulus(alloc, PAIR_UNSET.as_bytes(), circuit)?;
+    let block = stimulated(alloc, circuit, &stimulus);
+    drop(stimulus);
+    block
+}
+
+fn stimulated(alloc: Global, circuit: &Circuit, stimulus: &Stimulus) -> Result<Block, Fail> {
+    let part = part_of_and(alloc, circuit)?;
+    Ok(Block::new(alloc, part, stimulus, 10, &mut Vec::new(alloc))?)
+}
+
+/// The site of that block.
+fn site_of_and(alloc: Global) -> Result<Site, Fail> {
+    let block = block_of_and(alloc)?;
+    Ok(Site::new(alloc, block))
 }
 
 /// A net becomes One at a time, as a block is told.
@@ -71,60 +91,96 @@ fn a_turn_reports_what_it_sends(rt: HostRuntime) -> Result<(), Fail> {
     let mut out = Vec::new(rt.alloc());
     let messages = [rises(1, A, 1), rises(1, B, 2)];
     let report = turn(&mut block, messages.as_slice(), 0, 5, &mut out);
+    drop(block);
     assert_eq!(rt; report, Ok(TurnReport { least: 3 }));
     assert_eq!(rt; out.as_slice(), [rises(2, Y, 3)].as_slice());
     Ok(())
 }
 
+/// The mark, what is known of A at 1, and whether the block is done.
+fn shown<R: Wait>(rt: &R, site: &Site) -> Result<(u64, Entry, bool), Fail> {
+    let look = site.look(rt)?;
+    let shown = (look.mark(), look.entry(A, 1), look.done());
+    drop(look);
+    Ok(shown)
+}
+
+fn assert_waits<R: Abort + Wait>(rt: &R, site: &Site, out: &mut Vec<Message>) -> Result<(), Fail> {
+    site.put(rt, rises(1, A, 1))?;
+    let (mark, entry, _) = shown(rt, site)?;
+    assert!(rt; mark == 0 && entry == ones(0));
+    let report = site.visit(rt, 0, 5, &NoGate, out);
+    assert_eq!(rt; report, Ok(TurnReport { least: 11 }));
+    let (mark, entry, done) = shown(rt, site)?;
+    assert!(rt; mark == 2 && entry == ones(1) && done);
+    Ok(())
+}
+
 #[test]
 fn a_message_waits_in_the_inbox(rt: HostRuntime) -> Result<(), Fail> {
-    let site = Site::new(rt.alloc(), block_of_and(rt.alloc())?);
+    let site = site_of_and(rt.alloc())?;
     let mut out = Vec::new(rt.alloc());
-    site.put(&rt, rises(1, A, 1))?;
-    let before = site.look(&rt)?;
-    assert!(rt; before.mark() == 0 && before.entry(A, 1) == ones(0));
-    let report = site.visit(&rt, 0, 5, &NoGate, &mut out);
+    let waited = assert_waits(&rt, &site, &mut out);
+    let block = site.into_block();
+    let mark = block.mark();
+    drop(block);
+    waited?;
+    assert_eq!(rt; mark, 2);
+    Ok(())
+}
+
+fn assert_refused<R: Abort + Wait>(
+    rt: &R,
+    site: &Site,
+    out: &mut Vec<Message>,
+) -> Result<(), Fail> {
+    site.put(rt, rises(1, A, 11))?;
+    site.put(rt, rises(1, A, 1))?;
+    let report = site.visit(rt, 0, 5, &NoGate, out);
+    assert_eq!(rt; report, Err(BlockFault::PastHorizon));
+    let (mark, entry, _) = shown(rt, site)?;
+    assert!(rt; mark == 0 && entry == ones(0));
+    let report = site.visit(rt, 0, 5, &NoGate, out);
     assert_eq!(rt; report, Ok(TurnReport { least: 11 }));
-    let after = site.look(&rt)?;
-    assert!(rt; after.mark() == 2 && after.entry(A, 1) == ones(1) && after.done());
-    assert_eq!(rt; site.into_block().mark(), 2);
     Ok(())
 }
 
 #[test]
 fn a_refused_message_ends_the_visit(rt: HostRuntime) -> Result<(), Fail> {
-    let site = Site::new(rt.alloc(), block_of_and(rt.alloc())?);
+    let site = site_of_and(rt.alloc())?;
     let mut out = Vec::new(rt.alloc());
-    site.put(&rt, rises(1, A, 11))?;
-    site.put(&rt, rises(1, A, 1))?;
-    let report = site.visit(&rt, 0, 5, &NoGate, &mut out);
-    assert_eq!(rt; report, Err(BlockFault::PastHorizon));
-    let look = site.look(&rt)?;
-    assert!(rt; look.mark() == 0 && look.entry(A, 1) == ones(0));
-    let report = site.visit(&rt, 0, 5, &NoGate, &mut out);
-    assert_eq!(rt; report, Ok(TurnReport { least: 11 }));
+    let told = assert_refused(&rt, &site, &mut out);
+    drop(site);
+    told
+}
+
+/// What a visit of up to four event times takes, and the mark after it: by windows of 4, 4, 2, 1, 1 and 2.
+static VISITS: [(Option<(u32, u64)>, u64); 6] = [
+    (Some((A, 5)), 6),
+    (Some((B, 4)), 6),
+    (Some((B, 3)), 5),
+    (Some((B, 2)), 3),
+    (None, 4),
+    (None, 6),
+];
+
+fn assert_visits<R: Abort + Wait>(rt: &R, site: &Site, out: &mut Vec<Message>) -> Result<(), Fail> {
+    for (told, after) in &VISITS {
+        if let Some((net, time)) = told {
+            site.put(rt, rises(1, *net, *time))?;
+        }
+        assert!(rt; site.visit(rt, 0, 4, &NoGate, out).is_ok());
+        let (mark, _, _) = shown(rt, site)?;
+        assert_eq!(rt; mark, *after);
+    }
     Ok(())
 }
 
 #[test]
 fn a_window_fits_what_was_taken_back(rt: HostRuntime) -> Result<(), Fail> {
-    let site = Site::new(rt.alloc(), block_of_and(rt.alloc())?);
+    let site = site_of_and(rt.alloc())?;
     let mut out = Vec::new(rt.alloc());
-    // What a visit of up to four event times takes, and the mark after it: by windows of 4, 4, 2, 1, 1 and 2.
-    let visits = [
-        (Some((A, 5)), 6),
-        (Some((B, 4)), 6),
-        (Some((B, 3)), 5),
-        (Some((B, 2)), 3),
-        (None, 4),
-        (None, 6),
-    ];
-    for (told, mark) in visits {
-        if let Some((net, time)) = told {
-            site.put(&rt, rises(1, net, time))?;
-        }
-        assert!(rt; site.visit(&rt, 0, 4, &NoGate, &mut out).is_ok());
-        assert_eq!(rt; site.look(&rt)?.mark(), mark);
-    }
-    Ok(())
+    let visited = assert_visits(&rt, &site, &mut out);
+    drop(site);
+    visited
 }
