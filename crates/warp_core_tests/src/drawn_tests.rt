@@ -156,7 +156,9 @@ fn outcome_of(alloc: Global, given: &Given) -> Result<(usize, u32), Fail> {
 
 fn outcome(alloc: Global) -> Result<(usize, u32), Fail> {
     let given = Given::of(alloc, RINGS)?;
-    outcome_of(alloc, &given)
+    let outcome = outcome_of(alloc, &given);
+    drop(given);
+    outcome
 }
 
 #[test]

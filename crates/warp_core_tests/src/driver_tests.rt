@@ -49,7 +49,9 @@ fn rounds(
         return Err(Fail::from("a late horizon"));
     }
     let given = Given::of(alloc, texts)?;
-    driven(alloc, &given, horizon, order)
+    let rounds = driven(alloc, &given, horizon, order);
+    drop(given);
+    rounds
 }
 
 fn round_of(
@@ -59,13 +61,17 @@ fn round_of(
 ) -> Result<(Option<DriveFault>, u64), Fail> {
     let mut world = given.world(alloc, 10)?;
     let fault = world.round(order).err();
-    Ok((fault, world.least()))
+    let least = world.least();
+    drop(world);
+    Ok((fault, least))
 }
 
 /// What one round answers, and the least time after it.
 fn one_round(alloc: Global, order: &[u32]) -> Result<(Option<DriveFault>, u64), Fail> {
     let given = Given::of(alloc, PAIR)?;
-    round_of(alloc, &given, order)
+    let answer = round_of(alloc, &given, order);
+    drop(given);
+    answer
 }
 
 /// Circuits, horizons and orders, and how many rounds are played.

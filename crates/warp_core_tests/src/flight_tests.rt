@@ -21,13 +21,17 @@ const REGISTER: Texts = Texts {
 
 fn opening_of(alloc: Global, given: &Given) -> Result<Vec<Message>, Fail> {
     let world = given.world(alloc, 10)?;
-    Ok(Vec::from_slice(alloc, world.flight())?)
+    let flight = Vec::from_slice(alloc, world.flight());
+    drop(world);
+    Ok(flight?)
 }
 
 /// What is in flight in a new world.
 fn opening(alloc: Global, texts: Texts) -> Result<Vec<Message>, Fail> {
     let given = Given::of(alloc, texts)?;
-    opening_of(alloc, &given)
+    let opening = opening_of(alloc, &given);
+    drop(given);
+    opening
 }
 
 /// Circuits, and the nets, blocks and values of the messages that are in flight at first.

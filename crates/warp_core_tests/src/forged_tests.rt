@@ -294,7 +294,9 @@ fn check(alloc: Global, block: &Block, sent: &[i64]) -> Result<(), Fail> {
 /// Block 1, and what it sends.
 fn new_block(alloc: Global, out: &mut Vec<Message>) -> Result<Block, Fail> {
     let given = Given::of(alloc, RING)?;
-    given.block(alloc, 1, HORIZON, out)
+    let block = given.block(alloc, 1, HORIZON, out);
+    drop(given);
+    block
 }
 
 /// Makes so many drawn calls of a block, which is checked after each hundredth: how many were refused, and its floor.
@@ -325,7 +327,9 @@ fn play_on(
 fn play(alloc: Global, seed: u32, calls: u32) -> Result<(u32, u64), Fail> {
     let mut out = Vec::new(alloc);
     let mut block = new_block(alloc, &mut out)?;
-    play_on(alloc, &mut block, &mut out, seed, calls)
+    let played = play_on(alloc, &mut block, &mut out, seed, calls);
+    drop(block);
+    played
 }
 
 #[test]

@@ -25,7 +25,9 @@ const Y: u32 = 4;
 fn block_of(alloc: Global, texts: Texts, block: u32) -> Result<Block, Fail> {
     let given = Given::of(alloc, texts)?;
     let mut out = Vec::new(alloc);
-    given.block(alloc, block, 10, &mut out)
+    let made = given.block(alloc, block, 10, &mut out);
+    drop(given);
+    made
 }
 
 /// A call of the block of a number.
@@ -113,7 +115,9 @@ fn gathered_of(
 /// What is gathered from blocks, for the circuit with an AND.
 fn gathered(alloc: Global, blocks: Vec<Block>) -> Result<Result<Waves, GatherFault>, Fail> {
     let given = Given::of(alloc, PAIR)?;
-    gathered_of(alloc, &given, blocks)
+    let answer = gathered_of(alloc, &given, blocks);
+    drop(given);
+    answer
 }
 
 #[test]

@@ -69,8 +69,13 @@ pub(crate) struct Given {
 impl Given {
     pub(crate) fn of(alloc: Global, texts: Texts) -> Result<Given, Fail> {
         let circuit = circuit_of(alloc, texts)?;
-        let stimulus = read_stimulus(alloc, texts.stimulus.as_bytes(), &circuit)?;
-        Ok(Given { circuit, stimulus })
+        match read_stimulus(alloc, texts.stimulus.as_bytes(), &circuit) {
+            Ok(stimulus) => Ok(Given { circuit, stimulus }),
+            Err(fault) => {
+                drop(circuit);
+                Err(fault.into())
+            }
+        }
     }
 
     pub(crate) fn cut(&self) -> Result<&Cut, Fail>

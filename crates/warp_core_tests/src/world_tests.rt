@@ -35,18 +35,24 @@ fn outcome_of(alloc: Global, given: &Given, events: &[Event]) -> Result<Outcome,
 /// The least time after some events, and what is gathered then.
 fn outcome(alloc: Global, events: &[Event]) -> Result<Outcome, Fail> {
     let given = Given::of(alloc, PAIR)?;
-    outcome_of(alloc, &given, events)
+    let outcome = outcome_of(alloc, &given, events);
+    drop(given);
+    outcome
 }
 
 fn refusal_of(alloc: Global, given: &Given, event: Event) -> Result<Option<PlayFault>, Fail> {
     let mut world = given.world(alloc, 10)?;
-    Ok(world.play(event).err())
+    let fault = world.play(event).err();
+    drop(world);
+    Ok(fault)
 }
 
 /// Why a new world refuses an event.
 fn refusal(alloc: Global, event: Event) -> Result<Option<PlayFault>, Fail> {
     let given = Given::of(alloc, PAIR)?;
-    refusal_of(alloc, &given, event)
+    let refusal = refusal_of(alloc, &given, event);
+    drop(given);
+    refusal
 }
 
 #[test]
