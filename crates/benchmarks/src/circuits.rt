@@ -57,7 +57,12 @@ impl Given {
         ensures { IfOk result (λ given. Fits given.stimulus given.circuit) }
     {
         let text = texts::stimulus(alloc, inputs, changes, is_shared)?;
-        let stimulus = read_stimulus(alloc, text.as_bytes(), &circuit)?;
-        Ok(Given { circuit, stimulus })
+        match read_stimulus(alloc, text.as_bytes(), &circuit) {
+            Ok(stimulus) => Ok(Given { circuit, stimulus }),
+            Err(fault) => {
+                drop(circuit);
+                Err(fault.into())
+            }
+        }
     }
 }

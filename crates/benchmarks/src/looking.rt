@@ -43,7 +43,9 @@ pub fn at<R: Eprint + Clock + AllocGlobal>(rt: &R, size: u32) -> Result<u64>
 {
     let circuit = circuits::inputs(rt.alloc(), 1)?;
     let given = Given::of(rt.alloc(), circuit, 1, size, false)?;
-    at_timed(rt, &given.stimulus, size)
+    let answer = at_timed(rt, &given.stimulus, size);
+    drop(given);
+    answer
 }
 
 /// How many nets are found by their names.
@@ -67,7 +69,9 @@ fn find_timed<R: Eprint + Clock>(rt: &R, circuit: &Circuit, size: u32) -> Result
 /// The nets of a circuit of `size` nets, each looked up by its name; the answer is how many are found.
 pub fn find<R: Eprint + Clock + AllocGlobal>(rt: &R, size: u32) -> Result<u64> {
     let circuit = circuits::chain(rt.alloc(), size)?;
-    find_timed(rt, &circuit, size)
+    let answer = find_timed(rt, &circuit, size);
+    drop(circuit);
+    answer
 }
 
 /// The sum of the numbers of the blocks that own nets.
@@ -94,11 +98,15 @@ fn owners_cut<R: Eprint + Clock + AllocGlobal>(
     size: u32,
 ) -> Result<u64> {
     let cut = cut_timed(rt, circuit, size)?;
-    Ok(owners_in_all(&cut, size))
+    let owners = owners_in_all(&cut, size);
+    drop(cut);
+    Ok(owners)
 }
 
 /// A circuit of `size` nets cut evenly into 16 blocks; the answer is the sum of the owners' numbers.
 pub fn cut_even<R: Eprint + Clock + AllocGlobal>(rt: &R, size: u32) -> Result<u64> {
     let circuit = circuits::chain(rt.alloc(), size)?;
-    owners_cut(rt, &circuit, size)
+    let answer = owners_cut(rt, &circuit, size);
+    drop(circuit);
+    answer
 }

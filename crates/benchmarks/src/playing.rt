@@ -54,7 +54,9 @@ fn play_on<R: Eprint + Clock + AllocGlobal>(
 {
     let horizon = u64::from(size);
     let mut world = World::new(rt.alloc(), &given.circuit, cut, &given.stimulus, horizon)?;
-    play_timed(rt, &mut world, size)
+    let answer = play_timed(rt, &mut world, size);
+    drop(world);
+    answer
 }
 
 /// The same in 16 blocks.
@@ -62,12 +64,16 @@ fn play_cut<R: Eprint + Clock + AllocGlobal>(rt: &R, given: &Given, size: u32) -
     requires { Fits given.now.stimulus given.now.circuit }
 {
     let cut = Cut::even(rt.alloc(), &given.circuit, BLOCKS)?;
-    play_on(rt, given, &cut, size)
+    let answer = play_on(rt, given, &cut, size);
+    drop(cut);
+    answer
 }
 
 /// `size` events on a chain of gates in 16 blocks, all of which change at each time; the answer is the least time.
 pub fn play<R: Eprint + Clock + AllocGlobal>(rt: &R, size: u32) -> Result<u64> {
     let circuit = circuits::chain(rt.alloc(), NETS)?;
     let given = Given::of(rt.alloc(), circuit, 1, size / BLOCKS, false)?;
-    play_cut(rt, &given, size)
+    let answer = play_cut(rt, &given, size);
+    drop(given);
+    answer
 }

@@ -24,7 +24,9 @@ fn read_bench_timed<R: Eprint + Clock + AllocGlobal>(
 /// How many nets the circuit of a bench has.
 fn nets_of(alloc: Global, bench: Bench) -> Result<u64> {
     let circuit = Circuit::of(alloc, bench, b"")?;
-    Ok(circuit.nets() as u64)
+    let nets = circuit.nets();
+    drop(circuit);
+    Ok(nets as u64)
 }
 
 /// A bench text of `size` nets.
@@ -71,7 +73,9 @@ fn build_timed<R: Eprint + Clock + AllocGlobal>(
 ) -> Result<u64> {
     let start = timer::start(rt)?;
     let circuit = Circuit::of(rt.alloc(), bench, settings.as_bytes())?;
-    report_circuit(rt, size, start, &circuit)
+    let answer = report_circuit(rt, size, start, &circuit);
+    drop(circuit);
+    answer
 }
 
 /// A settings text with a delay and a block for each of `size` nets.
@@ -125,7 +129,9 @@ fn read<R: Eprint + Clock + AllocGlobal>(
 ) -> Result<u64> {
     let text = texts::stimulus(rt.alloc(), inputs, size, is_shared)?;
     let circuit = circuits::inputs(rt.alloc(), inputs)?;
-    changes_read(rt, name, size, text.as_str(), &circuit)
+    let answer = changes_read(rt, name, size, text.as_str(), &circuit);
+    drop(circuit);
+    answer
 }
 
 /// A stimulus of ten inputs and `size` changes.
@@ -169,7 +175,9 @@ fn times_read<R: Eprint + Clock + AllocGlobal>(
 pub fn stimulus_unused<R: Eprint + Clock + AllocGlobal>(rt: &R, size: u32) -> Result<u64> {
     let text = texts::stimulus_unused(rt.alloc(), 10, size)?;
     let circuit = circuits::inputs(rt.alloc(), 10)?;
-    times_read(rt, size, text.as_str(), &circuit)
+    let answer = times_read(rt, size, text.as_str(), &circuit);
+    drop(circuit);
+    answer
 }
 
 /// A stimulus of the bits of a 64-bit bus, and of such a text of its changes; the answer is how many changes the
@@ -181,7 +189,9 @@ fn read_bus<R: Eprint + Clock + AllocGlobal>(
     text: &str,
 ) -> Result<u64> {
     let circuit = circuits::bits(rt.alloc(), 64)?;
-    changes_read(rt, name, size, text, &circuit)
+    let answer = changes_read(rt, name, size, text, &circuit);
+    drop(circuit);
+    answer
 }
 
 /// A stimulus of a 64-bit bus that goes from no bit to every fourth and back, `size` times, each time in 64 digits.

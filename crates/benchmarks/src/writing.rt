@@ -107,5 +107,7 @@ pub fn write<R: Eprint + Clock + AllocGlobal>(rt: &R, size: u32) -> Result<u64>
 {
     let circuit = circuits::inputs(rt.alloc(), size)?;
     let given = Given::of(rt.alloc(), circuit, size, 0, true)?;
-    write_sparse(rt, &given, size)
+    let answer = write_sparse(rt, &given, size);
+    drop(given);
+    answer
 }
