@@ -1,10 +1,12 @@
 -- Whether a change follows a wave, by the wave's last change.
-use Rattle.std.proofs.Common.{◌≡◌, ◌≢◌, ℕ, suc, ◌+◌, ◌-◌, ◌<◌, ◌≤◌, ◌∙◌, Bool, IsTrue, ◌↔◌, List, [], ◌∷◌, length, get_or, refl, ap, sym, arith}
+use Rattle.std.proofs.Common.{◌≡◌, ◌≢◌, ℕ, zero, suc, ◌+◌, ◌-◌, ◌<◌, ◌≤◌, ◌∙◌, Bool, IsTrue, ◌↔◌, List, [], ◌∷◌, length, get_or, take, refl, ap, sym, arith}
+use Rattle.std.proofs.lemmas.List.{take_more}
 use Rattle.gate_values.specs.declared.logic.Logic.{Logic}
 use Rattle.gate_values.specs.declared.logic.Logic.TheVariants.{X}
 use Rattle.gate_values.specs.declared.logic.Change.{Change}
 use Rattle.gate_values.specs.Changes.{last_value}
-use Rattle.gate_vcd.specs.Waves.{end_time, Follows}
+use Rattle.gate_vcd.specs.Waves.{end_time, Follows, IsWaveFrom, IsWave}
+use Rattle.gate_vcd.proofs.Waving.{IsWaveFrom-push}
 
 -- the last of some changes
 abbrev pub last_of : List Change → Change → Change
@@ -36,3 +38,16 @@ later cs c d b some h other = (
   λ t. (omega (arith, end_time-last 0 cs d some), rw (last_value-last X cs d some) (other.0 t)),
   λ follows. other.1 (rw (last_value-last X cs d some) at follows.1),
 )
+
+-- each change of a wave follows those before it
+follows-from : (from : ℕ) (before : Logic) (cs : List Change) (i : ℕ) (d : Change) → IsWaveFrom from before cs → i < length cs → (end_time from (take i cs) ≤ (get_or cs i d).time) × ((get_or cs i d).value ≢ last_value before (take i cs))
+follows-from from before [] i d w h = absurd (omega arith)
+follows-from from before (c ∷ cs) zero d w h = (w.0, w.1)
+follows-from from before (c ∷ cs) (suc i) d w h = follows-from (c.time + 1) c.value cs i d w.2 (omega arith)
+
+pub follows-at : (cs : List Change) (i : ℕ) (d : Change) → IsWave cs → i < length cs → Follows (take i cs) (get_or cs i d)
+follows-at cs i d w h = follows-from 0 X cs i d w h
+
+-- a wave and a change that follows it are a wave
+pub wave-more : (cs : List Change) (i : ℕ) (d : Change) → i < length cs → IsWave (take i cs) → Follows (take i cs) (get_or cs i d) → IsWave (take (i + 1) cs)
+wave-more cs i d h w follows = rw (take_more cs i d h) (IsWaveFrom-push 0 X (take i cs) (get_or cs i d) w follows.0 follows.1)

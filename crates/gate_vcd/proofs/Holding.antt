@@ -8,7 +8,7 @@ use Rattle.gate_values.specs.Changes.{changes, latest}
 use Rattle.gate_values.proofs.ChangeLists.{changes-agree}
 use Rattle.gate_vcd.specs.Changes.{Event, Source, changes_with, value_at_place, value_with, last_stamp}
 use Rattle.gate_vcd.specs.Inner.Items.{AreHeld, AreKept, AreSettled, Taken, given_after, last_of, reaches, settled}
-use Rattle.gate_vcd.specs.Inner.Lists.{lists_in}
+use Rattle.gate_vcd.specs.Waves.{lists_in}
 use Rattle.gate_vcd.specs.Inner.Words.{texts}
 use Rattle.gate_vcd.proofs.Keeping.{append-nil, events-none, kept-none, more_changes, one_more, past-more, same_bytes, up_to_with}
 use Rattle.gate_vcd.proofs.Links.{last_below-last, last_below-stands, slice_get-within}

@@ -1,7 +1,7 @@
 -- Laws of waves, and of their stops.
 use Rattle.std.proofs.Common.{◌≡◌, ◌≢◌, ℕ, zero, suc, ◌+◌, ◌<◌, ◌≤◌, ◌^◌, inl, inr, Bool, true, false, cond, ◌&&◌, nat_eq, Some, None, List, [], ◌∷◌, ◌++◌, map, length, get_or, refl, ap, sym, ◌∙◌, subst, arith, replicate, Result, Ok, Err}
 use Rattle.std.proofs.Math.ListN.{set, length-set}
-use Rattle.std.proofs.lemmas.List.{length-map, length-replicate, get_or-map, map-set}
+use Rattle.std.proofs.lemmas.List.{length-map, length-replicate, get_or-map, get_or_past, map-set}
 use Rattle.std.proofs.Math.Seq.{map-set_same}
 use Rattle.std.specs.Result.{OnErr}
 use Rattle.std.proofs.lemmas.Grind.{common_steps}
@@ -12,9 +12,10 @@ use Rattle.gate_values.specs.Changes.{last_value, pair_at}
 use Rattle.gate_vcd.specs.Waves.{wave_of, end_time, Follows, IsWaveFrom, IsWave}
 use Rattle.gate_vcd.specs.declared.timeline.Stop.{Stop}
 use Rattle.gate_vcd.specs.Inner.Timeline.{one, count}
-use Rattle.gate_vcd.specs.Inner.Waves.{marked, AreStopsOf}
+use Rattle.gate_vcd.specs.Inner.Waves.{marked, AreStopsOf, stop_of, stops_of, stops_below}
 use Rattle.gate_vcd.specs.Inner.HeldWaves.{IsInStep}
-use Rattle.gate_vcd.proofs.Compared.{eq_true, eq_false, cases_eq}
+use Rattle.gate_vcd.proofs.Counting.{count-append}
+use Rattle.gate_vcd.proofs.Compared.{eq_true, eq_false, cases_eq, cases_lt, cases_below}
 
 -- times of a wave are at least the one that it is from
 pub from-end_time : (from : ℕ) (before : Logic) (cs : List Change) → IsWaveFrom from before cs → from ≤ end_time from cs
@@ -46,9 +47,19 @@ pub IsWaveFrom-push : (from : ℕ) (before : Logic) (cs : List Change) (c : Chan
 IsWaveFrom-push from before [] c w late new = (late, new, tt)
 IsWaveFrom-push from before (x ∷ cs) c w late new = (w.0, w.1, IsWaveFrom-push (x.time + 1) x.value cs c w.2 late new)
 
--- the stop of a change
-abbrev pub stop_of : ℕ → Change → Stop
-stop_of net c = record { time = c.time; net = net; value = c.value }
+-- how often a stop stands where one of a change stands
+one-here : (net : ℕ) (c : Change) (s : Stop) → s.net ≡ net → s.time ≡ c.time → one s (stop_of net c) ≡ marked s.value (Some c.value)
+one-here net c s a b = rw (eq_true s.time c.time b, eq_true s.net net a) refl
+
+one-late : (net : ℕ) (c : Change) (s : Stop) → s.time ≢ c.time → one s (stop_of net c) ≡ 0
+one-late net c s h = rw (eq_false s.time c.time h) refl
+
+one-apart : (net : ℕ) (c : Change) (s : Stop) → s.net ≢ net → one s (stop_of net c) ≡ 0
+one-apart net c s h = rw (eq_false s.net net h) (go (nat_eq s.time c.time))
+  where
+    go : (b : Bool) → ◌≡◌ {A = ℕ} (cond (b && false) 1 0) 0
+    go true = refl
+    go false = refl
 
 -- the stops with one change more
 module _ (lists : List (List Change)) (old new : List Stop) (net : ℕ) (c : Change) where
@@ -67,26 +78,13 @@ module _ (lists : List (List Change)) (old new : List Stop) (net : ℕ) (c : Cha
       | inl now ↦ (
           let value : pair_at (wave_of pushed s.net) s.time ≡ Some c.value = rw (same_net, now, pushed-same known) (pair_at-push (wave_of lists net) c free) in
           let before : count s old ≡ 0 = was s ∙ rw (same_net, now, free) refl in
-          rw value (omega (arith, more s, before, one-here s same_net now)))
+          rw value (omega (arith, more s, before, one-here net c s same_net now)))
       | inr other ↦ (
           let value : pair_at (wave_of pushed s.net) s.time ≡ pair_at (wave_of lists s.net) s.time = rw (same_net, pushed-same known) (pair_at-push_other (wave_of lists net) c s.time (λ e. other (sym e))) in
-          rw value (omega (arith, more s, was s, one-late s other)))
+          rw value (omega (arith, more s, was s, one-late net c s other)))
     ]
-    | inr apart ↦ (rw (pushed-other s.net apart) (omega (arith, more s, was s, one-apart s apart)))
+    | inr apart ↦ (rw (pushed-other s.net apart) (omega (arith, more s, was s, one-apart net c s apart)))
   ]
-    where
-      one-here : (s : Stop) → s.net ≡ net → s.time ≡ c.time → one s (stop_of net c) ≡ marked s.value (Some c.value)
-      one-here s a b = rw (eq_true s.time c.time b, eq_true s.net net a) refl
-
-      one-late : (s : Stop) → s.time ≢ c.time → one s (stop_of net c) ≡ 0
-      one-late s h = rw (eq_false s.time c.time h) refl
-
-      one-apart : (s : Stop) → s.net ≢ net → one s (stop_of net c) ≡ 0
-      one-apart s h = rw (eq_false s.net net h) (go (nat_eq s.time c.time))
-        where
-          go : (b : Bool) → ◌≡◌ {A = ℕ} (cond (b && false) 1 0) 0
-          go true = refl
-          go false = refl
 
   waves_push : ((n : ℕ) → IsWave (wave_of lists n)) → net < length lists → Follows (wave_of lists net) c → (n : ℕ) → IsWave (wave_of pushed n)
   waves_push was known follows n = elim (cases_eq net n) [
@@ -122,6 +120,60 @@ in_step-none many all stops small e none = rw e (record {
   waves = λ n. rw (wave_of-none many n) tt;
   in_step = λ s. rw (none, wave_of-none many s.net) refl;
 })
+
+-- ---- the stops of lists, net by net
+
+-- no change stands before the first time
+pair_at-before : (from : ℕ) (before : Logic) (cs : List Change) (t : ℕ) → IsWaveFrom from before cs → t < from → pair_at cs t ≡ None
+pair_at-before from before [] t w h = refl
+pair_at-before from before (c ∷ cs) t w h =
+    let ne : c.time ≢ t = omega (arith, w.0) in
+    rw (eq_false c.time t ne) (pair_at-before (c.time + 1) c.value cs t w.2 (omega (arith, w.0)))
+
+count-apart : (net : ℕ) (cs : List Change) (s : Stop) → s.net ≢ net → count s (stops_of net cs) ≡ 0
+count-apart net [] s h = refl
+count-apart net (c ∷ cs) s h = omega (arith, one-apart net c s h, count-apart net cs s h)
+
+-- a wave has a stop once where it has a change
+count-here : (net from : ℕ) (before : Logic) (cs : List Change) (s : Stop) → IsWaveFrom from before cs → s.net ≡ net → count s (stops_of net cs) ≡ marked s.value (pair_at cs s.time)
+count-here net from before [] s w h = refl
+count-here net from before (c ∷ cs) s w h =
+    let rest = count-here net (c.time + 1) c.value cs s w.2 h in
+    elim (cases_eq s.time c.time) [
+      | inl now ↦ (
+          let none : pair_at cs s.time ≡ None = pair_at-before (c.time + 1) c.value cs s.time w.2 (omega (arith, now)) in
+          let no_more : count s (stops_of net cs) ≡ 0 = rest ∙ rw none refl in
+          rw (eq_true c.time s.time (sym now)) (omega (arith, one-here net c s h now, no_more)))
+      | inr other ↦ (rw (eq_false c.time s.time (λ e. other (sym e))) (omega (arith, one-late net c s other, rest)))
+    ]
+
+module _ (lists : List (List Change)) (waves : (n : ℕ) → IsWave (wave_of lists n)) (s : Stop) where
+  count-above : (n : ℕ) → n ≤ s.net → count s (stops_below lists n) ≡ 0
+  count-above zero h = refl
+  count-above (suc n) h = omega (arith, count-append s (stops_below lists n) (stops_of n (wave_of lists n)), count-above n (omega arith), count-apart n (wave_of lists n) s (λ e. omega (arith, e)))
+
+  count-below : (n : ℕ) → s.net < n → count s (stops_below lists n) ≡ marked s.value (pair_at (wave_of lists s.net) s.time)
+  count-below zero h = absurd (omega arith)
+  count-below (suc n) h = elim (cases_below s.net n h) [
+    | inl below ↦ omega (arith, count-append s (stops_below lists n) (stops_of n (wave_of lists n)), count-below n below, count-apart n (wave_of lists n) s (λ e. omega (arith, e)))
+    | inr here ↦ (
+        let same : wave_of lists s.net ≡ wave_of lists n = ap (wave_of lists) here in
+        rw same (omega (arith, count-append s (stops_below lists n) (stops_of n (wave_of lists n)), count-above n (omega (arith, here)), count-here n 0 X (wave_of lists n) s (waves n) here)))
+  ]
+
+  count-all : count s (stops_below lists (length lists)) ≡ marked s.value (pair_at (wave_of lists s.net) s.time)
+  count-all = elim (cases_lt s.net (length lists)) [
+    | inl known ↦ count-below (length lists) known
+    | inr past ↦ (rw (get_or_past lists s.net [] past) (count-above (length lists) past))
+  ]
+
+-- waves and the stops of all their changes
+pub in_step-of : (lists : List (List Change)) (stops : List Stop) → length lists < 2 ^ 32 → ((n : ℕ) → IsWave (wave_of lists n)) → ((s : Stop) → count s stops ≡ count s (stops_below lists (length lists))) → IsInStep lists stops
+in_step-of lists stops few waves same = record {
+  few = few;
+  waves = waves;
+  in_step = λ s. same s ∙ count-all lists waves s;
+}
 
 pub on_err : {T E P : Type 0} (r : Result T E) → P → OnErr r P
 on_err (Ok x) p = tt

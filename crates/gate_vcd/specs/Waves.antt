@@ -1,9 +1,14 @@
 -- Waves: for each net the list of its changes.
-use Rattle.std.specs.Prelude.{◌≢◌, ℕ, ◌+◌, ◌≤◌, List, [], ◌∷◌, get_or}
+use Rattle.std.specs.Prelude.{◌≢◌, ℕ, ◌+◌, ◌≤◌, List, [], ◌∷◌, get_or, map, Vec}
+use Rattle.std.specs.declared.alloc.Global.{Global}
 use Rattle.gate_values.specs.declared.logic.Logic.{Logic}
 use Rattle.gate_values.specs.declared.logic.Logic.TheVariants.{X}
 use Rattle.gate_values.specs.declared.logic.Change.{Change}
 use Rattle.gate_values.specs.Changes.{latest, last_value}
+
+-- what these vectors hold
+abbrev pub lists_in : List (Vec Change Global) → List (List Change)
+lists_in vs = map (λ (v : Vec Change Global). v.items) vs
 
 -- the changes of a net; none where there is no such net
 abbrev pub wave_of : List (List Change) → ℕ → List Change

@@ -4,7 +4,7 @@ ghost use Rattle.gate_vcd.specs.Changes.{Event, Source as TextSource, Item as Te
 ghost use Rattle.gate_vcd.specs.Faults.{out_of_memory};
 ghost use Rattle.gate_vcd.specs.Inner.Items.{AreHeld, AreSettled, AreTaken, IsTaken, TakesItem, ends_at, item_of, last_of, reaches, settled, taken_in, undone, value_after};
 ghost use Rattle.gate_vcd.specs.Inner.Known.{IsLinked, knows, source, sources_in};
-ghost use Rattle.gate_vcd.specs.Inner.Lists.{lists_in};
+ghost use Rattle.gate_vcd.specs.Waves.{lists_in};
 ghost use Rattle.gate_vcd.specs.Reading.{Fails};
 ghost use Rattle.gate_vcd.specs.Inner.Reading.{Reads};
 ghost use Rattle.gate_vcd.specs.Inner.Words.{bytes_of, texts, token_of};

@@ -1,5 +1,5 @@
-ghost use Rattle.std.specs.Prelude.{◌≡◌, ◌≢◌, ℕ, ◌<◌, ◌++◌, [], ◌∷◌, length, IfOk, OnOk, OnErr, IsTrue, ◌↔◌, slice_set, replicate};
-ghost use Rattle.gate_vcd.specs.Waves.{wave_of, Follows, IsWave};
+ghost use Rattle.std.specs.Prelude.{◌≡◌, ◌≢◌, ℕ, ◌<◌, ◌≤◌, ◌++◌, [], ◌∷◌, length, IfOk, OnOk, OnErr, IsTrue, ◌↔◌, slice_set, replicate};
+ghost use Rattle.gate_vcd.specs.Waves.{lists_in, wave_of, Follows, IsWave};
 ghost use Rattle.gate_vcd.specs.Inner.Waves.{AreStopsOf};
 
 use crate::timeline::{Stop, Timeline};
@@ -34,6 +34,34 @@ fn differs(value: Logic, other: Logic) -> bool
     value != other
 }
 
+/// Whether a change may stand behind others: it is later than the last one, and of another value.
+fn may_follow(changes: &[Change], change: Change) -> bool
+    ensures { IsTrue result ↔ Follows changes.now change }
+{
+    match changes {
+        [] => change.value != Logic::X,
+        [.., last] => {
+            if change.time <= last.time {
+                return false;
+            }
+            differs(change.value, last.value)
+        }
+    }
+}
+
+/// Whether changes are those of a net: times rise, and each value is other than the one before, which is
+/// `X` at first.
+pub fn is_wave(changes: &[Change]) -> bool
+    ensures { IsTrue result ↔ IsWave changes.now }
+{
+    for at in 0..changes.len() {
+        if !may_follow(&changes[..at], changes[at]) {
+            return false;
+        }
+    }
+    true
+}
+
 impl Waves {
     /// Waves without a change, over so many nets. An error is a refused growth.
     pub fn new(alloc: Global, nets: u32) -> Result<Waves, AllocError>
@@ -47,6 +75,16 @@ impl Waves {
             lists,
             timeline: Timeline::new(alloc),
         })
+    }
+
+    /// Waves of changes, a list for each net. An error is a refused growth.
+    pub fn of(alloc: Global, lists: Vec<Vec<Change>>) -> Result<Waves, AllocError>
+        requires few { length lists.items ≤ 4294967295 }
+        requires waves { (n : ℕ) → IsWave (wave_of (lists_in lists.items) n) }
+        ensures { IfOk result (λ waves. waves ≡ lists_in lists.items) }
+    {
+        let timeline = Timeline::of(alloc, lists.as_slice())?;
+        Ok(Waves { lists, timeline })
     }
 
     /// What is true of all waves.
@@ -76,15 +114,7 @@ impl Waves {
         requires { net < length self.now }
         ensures { IsTrue result ↔ Follows (wave_of self.now net) change }
     {
-        match self.changes(net) {
-            [] => change.value != Logic::X,
-            [.., last] => {
-                if change.time <= last.time {
-                    return false;
-                }
-                differs(change.value, last.value)
-            }
-        }
+        may_follow(self.changes(net), change)
     }
 
     /// Appends a change to those of a net. An error is a refused growth; after it nothing has changed.

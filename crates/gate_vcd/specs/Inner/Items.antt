@@ -19,7 +19,7 @@ use Rattle.gate_vcd.specs.Tokens.{Token, fault_at}
 use Rattle.gate_vcd.specs.Inner.Words.{token_of, bytes_of, texts}
 use Rattle.gate_vcd.specs.Changes.{Item, stamp, change, wrong, nothing, items, Event, Source, event_at, events_from, value_with, past_end, value_at_place, last_stamp}
 use Rattle.gate_vcd.specs.Inner.Known.{is_of, knows, last_below, sources_in}
-use Rattle.gate_vcd.specs.Inner.Lists.{lists_in}
+use Rattle.gate_vcd.specs.Waves.{lists_in}
 use Rattle.gate_vcd.specs.declared.changes.Taken.{Taken as Held}
 
 -- an item, without where it lies in memory

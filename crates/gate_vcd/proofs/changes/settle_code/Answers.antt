@@ -4,7 +4,7 @@ use Rattle.gate_vcd.specs.Changes.{Source, value_at_place}
 use Rattle.gate_vcd.specs.Inner.Items.{reaches, settled}
 use Rattle.gate_vcd.specs.Inner.Known.{flat, source, sources_in}
 use Rattle.gate_vcd.specs.Inner.Table.{found_in}
-use Rattle.gate_vcd.specs.Inner.Lists.{lists_in}
+use Rattle.gate_vcd.specs.Waves.{lists_in}
 use Rattle.gate_vcd.proofs.Links.{rank, slice_get-is}
 use Rattle.gate_vcd.proofs.SettleLaws.{IsSettling, no_source, lists-length, settling-stands, settling-start, settling-stops, settling-less, settling-end, vectors-step}
 use Rattle.gate_vcd.proofs.changes.settle_code.Goals as goal

@@ -1,5 +1,5 @@
 use Rattle.gate_vcd.specs.Inner.Known.{sources_in}
-use Rattle.gate_vcd.specs.Inner.Lists.{lists_in}
+use Rattle.gate_vcd.specs.Waves.{lists_in}
 use Rattle.gate_vcd.proofs.Links.{rank}
 use Rattle.gate_vcd.proofs.SettleLaws.{IsSettling}
 use Rattle.gate_vcd.proofs.changes.settle_code.Given as goal
