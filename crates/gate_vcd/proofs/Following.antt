@@ -1,12 +1,13 @@
 -- Whether a change follows a wave, by the wave's last change.
-use Rattle.std.proofs.Common.{◌≡◌, ◌≢◌, ℕ, zero, suc, ◌+◌, ◌-◌, ◌<◌, ◌≤◌, ◌∙◌, Bool, IsTrue, ◌↔◌, List, [], ◌∷◌, length, get_or, take, refl, ap, sym, arith}
-use Rattle.std.proofs.lemmas.List.{take_more}
+use Rattle.std.proofs.Common.{◌≡◌, ◌≢◌, ℕ, zero, suc, ◌+◌, ◌-◌, ◌<◌, ◌≤◌, ◌∙◌, inl, inr, Bool, IsTrue, ◌↔◌, List, [], ◌∷◌, length, get_or, take, Vec, Global, refl, ap, sym, subst, arith}
+use Rattle.std.proofs.lemmas.List.{take_more, get_or-map}
 use Rattle.gate_values.specs.declared.logic.Logic.{Logic}
 use Rattle.gate_values.specs.declared.logic.Logic.TheVariants.{X}
 use Rattle.gate_values.specs.declared.logic.Change.{Change}
 use Rattle.gate_values.specs.Changes.{last_value}
-use Rattle.gate_vcd.specs.Waves.{end_time, Follows, IsWaveFrom, IsWave}
+use Rattle.gate_vcd.specs.Waves.{lists_in, wave_of, end_time, Follows, IsWaveFrom, IsWave}
 use Rattle.gate_vcd.proofs.Waving.{IsWaveFrom-push}
+use Rattle.gate_vcd.proofs.Compared.{cases_eq}
 
 -- the last of some changes
 abbrev pub last_of : List Change → Change → Change
@@ -51,3 +52,14 @@ follows-at cs i d w h = follows-from 0 X cs i d w h
 -- a wave and a change that follows it are a wave
 pub wave-more : (cs : List Change) (i : ℕ) (d : Change) → i < length cs → IsWave (take i cs) → Follows (take i cs) (get_or cs i d) → IsWave (take (i + 1) cs)
 wave-more cs i d h w follows = rw (take_more cs i d h) (IsWaveFrom-push 0 X (take i cs) (get_or cs i d) w follows.0 follows.1)
+
+-- one of the vectors is the wave of its net
+pub list-at : (vs : List (Vec Change Global)) (i : ℕ) (v : Vec Change Global) (cs : List Change) → i < length vs → v ≡ get_or vs i v → cs ≡ v.items → wave_of (lists_in vs) i ≡ cs
+list-at vs i v cs h at is = get_or-map (λ (w : Vec Change Global). w.items) vs i v [] h ∙ ap (λ (w : Vec Change Global). w.items) (sym at) ∙ sym is
+
+-- one list more is a wave
+pub waves-more : (lists : List (List Change)) (i : ℕ) (cs : List Change) → wave_of lists i ≡ cs → IsWave cs → ((n : ℕ) → n < i → IsWave (wave_of lists n)) → (n : ℕ) → n < i + 1 → IsWave (wave_of lists n)
+waves-more lists i cs at wave so_far n h = elim (cases_eq i n) [
+  | inl here ↦ subst (λ m. IsWave (wave_of lists m)) here (rw at wave)
+  | inr other ↦ so_far n (omega (arith, λ (e : n ≡ i). other (sym e)))
+]

@@ -46,4 +46,4 @@ pub use reading::read_stimulus;
 pub use sink::{Grow, Sink};
 pub use stimulus::Stimulus;
 pub use timescale::{Timescale, Unit};
-pub use waves::{Waves, is_wave};
+pub use waves::{Waves, are_waves, is_wave};

@@ -62,6 +62,18 @@ pub fn is_wave(changes: &[Change]) -> bool
     true
 }
 
+/// Whether each of these lists has the changes of a net.
+pub fn are_waves(lists: &[Vec<Change>]) -> bool
+    ensures { IsTrue result ↔ ((n : ℕ) → IsWave (wave_of (lists_in lists.now) n)) }
+{
+    for list in lists {
+        if !is_wave(list.as_slice()) {
+            return false;
+        }
+    }
+    true
+}
+
 impl Waves {
     /// Waves without a change, over so many nets. An error is a refused growth.
     pub fn new(alloc: Global, nets: u32) -> Result<Waves, AllocError>

@@ -4,7 +4,7 @@ ghost use Rattle.gate_vcd.specs.Waves.{wave_of, IsUntil};
 use crate::rows::{circuit, stimulus};
 use gate_netlist::Circuit;
 use gate_values::{Change, Logic};
-use gate_vcd::{Grow, Sink, Stimulus, Waves, WriteFault, code, write_vcd};
+use gate_vcd::{Grow, Sink, Stimulus, Waves, WriteFault, are_waves, code, write_vcd};
 use std::alloc::Global;
 use std::test::Fail;
 
@@ -114,6 +114,61 @@ fn no_net_until_3(rt: HostRuntime) -> Result<(), Fail> {
     let mut sink = Grow::new(rt.alloc());
     assert!(rt; write_nothing(rt.alloc(), &mut sink)? == Ok(()));
     assert!(rt; sink.into_vec().as_slice() == EMPTY_DUMP.as_bytes());
+    Ok(())
+}
+
+const AND_BENCH: &str = "INPUT(A)\nINPUT(B)\nOUTPUT(Y)\nY = AND(A, B)\n";
+
+const AND_STIMULUS: &str =
+    "$timescale 1ns $end $var wire 1 ! A $end $var wire 1 # B $end $enddefinitions $end #0 0! 1#";
+
+/// The dump of three nets until 9, most of whose changes share their times.
+const LISTS_DUMP: &str =
+    "$timescale 1 ns $end\n$scope module top $end\n$var wire 1 ! A $end\n$var wire 1 \" B $end\n$var wire 1 # Y $end\n$upscope $end\n$enddefinitions $end\n#0\n$dumpvars\n0!\n1\"\nx#\n$end\n#1\n0#\n#3\n1!\n0\"\n#7\n0!\n1\"\n1#\n#9\n";
+
+/// The waves of three nets, given as a list for each.
+fn by_lists(alloc: Global) -> Result<Waves, Fail>
+    ensures nets { IfOk result (λ waves. length waves ≡ 3) }
+    ensures until { IfOk result (λ waves. (n : ℕ) → IsUntil 9 (wave_of waves n)) }
+{
+    let a = [at(0, Logic::Zero), at(3, Logic::One), at(7, Logic::Zero)];
+    let b = [at(0, Logic::One), at(3, Logic::Zero), at(7, Logic::One)];
+    let y = [at(1, Logic::Zero), at(7, Logic::One)];
+    let mut lists = Vec::new(alloc);
+    lists.push(Vec::from_slice(alloc, &a)?)?;
+    lists.push(Vec::from_slice(alloc, &b)?)?;
+    lists.push(Vec::from_slice(alloc, &y)?)?;
+    if !are_waves(lists.as_slice()) {
+        return Err(Fail::from("lists that are no waves"));
+    }
+    Ok(Waves::of(alloc, lists)?)
+}
+
+fn write_lists(alloc: Global, sink: &mut Grow, circuit: &Circuit, stimulus: &Stimulus) -> Answer {
+    if sink.failed() || circuit.nets() != 3 {
+        return Err(Fail::from("a sink that has failed, or another circuit"));
+    }
+    let waves = by_lists(alloc)?;
+    let answer = write_vcd(sink, "top", circuit, stimulus, &waves, 9);
+    drop(waves);
+    Ok(answer)
+}
+
+fn write_and(alloc: Global, sink: &mut Grow, circuit: &Circuit) -> Answer {
+    let stimulus = stimulus(alloc, AND_BENCH, "", AND_STIMULUS)?;
+    let answer = write_lists(alloc, sink, circuit, &stimulus);
+    drop(stimulus);
+    answer
+}
+
+#[test]
+fn lists_with_common_times(rt: HostRuntime) -> Result<(), Fail> {
+    let mut sink = Grow::new(rt.alloc());
+    let circuit = circuit(rt.alloc(), AND_BENCH, "")?;
+    let answer = write_and(rt.alloc(), &mut sink, &circuit);
+    drop(circuit);
+    assert!(rt; answer? == Ok(()));
+    assert!(rt; sink.into_vec().as_slice() == LISTS_DUMP.as_bytes());
     Ok(())
 }
 
