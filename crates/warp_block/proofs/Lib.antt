@@ -8,6 +8,7 @@ pub mod Indexing
 pub mod Picking
 pub mod Silent
 pub mod Listing
+pub mod Giving
 pub mod Going
 pub mod Keeping
 pub mod Coasting

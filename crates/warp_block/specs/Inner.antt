@@ -5,6 +5,7 @@ pub mod Building
 pub mod Contents
 pub mod Entries
 pub mod Fan
+pub mod Give
 pub mod Held
 pub mod HeldBlock
 pub mod HeldPart

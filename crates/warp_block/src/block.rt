@@ -1,5 +1,8 @@
-ghost use Rattle.std.specs.Prelude.{◌≡◌, ◌≢◌, ◌+◌, ◌-◌, ◌≤◌, ◌<◌, ◌↔◌, ◌⊎◌, ℕ, IsTrue, IfOk, IfErr, OnOk, OnErr, Some, None};
+ghost use Rattle.std.specs.Prelude.{◌≡◌, ◌≢◌, ◌+◌, ◌-◌, ◌≤◌, ◌<◌, ◌↔◌, ◌⊎◌, ℕ, false, vec_len, IsTrue, IfOk, IfErr, OnOk, OnErr, Some, None};
+ghost use Rattle.std.specs.List.{All};
+ghost use Rattle.gate_vcd.specs.Waves.{lists_in, wave_of};
 ghost use Rattle.warp_block.specs.Limits.{most_horizon};
+ghost use Rattle.warp_block.specs.Portion.{owns};
 ghost use Rattle.warp_block.specs.declared.message.Sign.TheVariants.{Plus, Minus};
 ghost use Rattle.warp_block.specs.Entries.{no_messages};
 ghost use Rattle.warp_block.specs.View.{IsLeast, IsEventTime, IsDone, entry_of, log_of};
@@ -257,6 +260,18 @@ impl Block {
         ensures { result.now ≡ log_of self.now.seen net }
     {
         self.look.log(net)
+    }
+
+    /// Gives the log of each own net to its place among lists that have one for each net of the circuit, in place of what
+    /// stood there; the other lists stay. The block is consumed, and no change is copied: this takes no memory.
+    pub fn give_logs(self, lists: &mut Vec<Vec<Change>>)
+        requires places { All (λ net. net < vec_len lists.old) self.seen.part.nets }
+        ensures len { vec_len lists.new ≡ vec_len lists.old }
+        ensures own { (n : ℕ) → IsTrue (owns self.seen.part n) → wave_of (lists_in lists.new.items) n ≡ log_of self.seen n }
+        ensures others { (n : ℕ) → owns self.seen.part n ≡ false → wave_of (lists_in lists.new.items) n ≡ wave_of (lists_in lists.old.items) n }
+    {
+        let Block { look, .. } = self;
+        look.give_logs(lists);
     }
 
     /// The entry of a net at a time; empty for a net that the block doesn't read, and for an own one.

@@ -13,6 +13,7 @@ mod admit;
 mod busy;
 mod commit;
 mod emit;
+mod give;
 mod late;
 mod listed;
 mod over;

@@ -193,7 +193,11 @@ fn straggler() -> [Call; 3] {
 }
 
 /// Makes the first calls of block 1, and some more.
-fn make_both_one(more: &[Call], block: &mut Block, out: &mut Vec<Message>) -> Result<(), Fail> {
+pub(crate) fn make_both_one(
+    more: &[Call],
+    block: &mut Block,
+    out: &mut Vec<Message>,
+) -> Result<(), Fail> {
     make_all(both_one().as_slice(), block, out)?;
     make_all(more, block, out)
 }

@@ -11,6 +11,8 @@ mod commit_tests;
 #[cfg(test)]
 mod forged_tests;
 #[cfg(test)]
+mod give_tests;
+#[cfg(test)]
 mod memory_tests;
 #[cfg(test)]
 mod opening_tests;
