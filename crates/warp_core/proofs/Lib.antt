@@ -4,7 +4,7 @@ pub mod Matching
 pub mod Entries
 pub mod Sweeping
 pub mod Walking
-pub mod Filling
+pub mod GivenLogs
 pub mod Hearing
 pub mod Acting
 pub mod Acted

@@ -88,6 +88,10 @@ module _ (d : Design) (cut : Ownership) (fits : CutFits d cut) where
       | inr other ↦ absurd (true≢false (sym h ∙ ap is_driven (source_of-part n ∙ other_outside n other)))
     ]
 
+    -- it owns no other net
+    pub other_owns : (n : ℕ) → is_own cut b n ≡ false → owns (part_of d cut b) n ≡ false
+    other_owns n other = ap is_driven (source_of-part n ∙ other_outside n other)
+
     -- what the cut gives a block is its own
     pub owner_owns : (n : ℕ) → owner_of cut n ≡ Some b → owns (part_of d cut b) n ≡ true
     owner_owns n e =

@@ -1,11 +1,11 @@
-ghost use Rattle.std.specs.Prelude.{◌≡◌, ◌<◌, ◌≤◌, ◌↔◌, ℕ, IsTrue, IfOk, MatchOption, length};
+ghost use Rattle.std.specs.Prelude.{◌≡◌, ◌<◌, ◌≤◌, ◌↔◌, ℕ, IsTrue, IfOk, IfErr, OnOk, MatchOption, length};
 ghost use Rattle.gate_netlist.specs.Circuit.{CutFits};
 ghost use Rattle.gate_vcd.specs.Given.{Fits};
 ghost use Rattle.warp_block.specs.Limits.{most_horizon};
 ghost use Rattle.warp_block.specs.View.{IsDone};
 ghost use Rattle.warp_block.specs.Lawful.{IsLawful};
-ghost use Rattle.warp_core.specs.Matched.{seen_at, IsBlockOf, EachBlock};
-ghost use Rattle.warp_core.specs.Gather.{AreCounted, IsFirstBlock, IsGathered};
+ghost use Rattle.warp_core.specs.Matched.{seen_at, IsBlockOf, EachBlock, AreMatched};
+ghost use Rattle.warp_core.specs.Gather.{AreCounted, IsFirstBlock, IsFault, IsGathered};
 
 mod entries;
 mod told;
@@ -35,21 +35,27 @@ pub fn gather(
     requires horizon { horizon ≤ most_horizon }
     ensures { IsGathered circuit.now cut.now stimulus.now horizon blocks.items result }
 {
-    join(alloc, circuit, cut, stimulus, horizon, blocks.as_slice())
+    check(alloc, circuit, cut, stimulus, horizon, blocks.as_slice())?;
+    cut.law();
+    stimulus.law();
+    laws(blocks.as_slice());
+    let waves = waves::waves_of(alloc, circuit, cut, stimulus, horizon, blocks)?;
+    Ok(waves)
 }
 
-/// The waves of blocks that are matched, or why they aren't.
-fn join(
+/// Whether blocks are matched; if they aren't, why.
+fn check(
     alloc: Global,
     circuit: &Circuit,
     cut: &Cut,
     stimulus: &Stimulus,
     horizon: u64,
     blocks: &[Block],
-) -> Result<Waves, GatherFault>
+) -> Result<(), GatherFault>
     requires cut { CutFits circuit.now cut.now }
     requires horizon { horizon ≤ most_horizon }
-    ensures { IsGathered circuit.now cut.now stimulus.now horizon blocks.now result }
+    ensures matched { OnOk result (AreMatched circuit.now cut.now stimulus.now horizon blocks.now) }
+    ensures fault { IfErr result (IsFault circuit.now cut.now stimulus.now horizon blocks.now) }
 {
     if blocks.len() != cut.blocks() as usize {
         return Err(GatherFault::WrongCount);
@@ -70,11 +76,7 @@ fn join(
         Some((block, net)) => return Err(GatherFault::Mismatch { block, net }),
         None => {}
     }
-    cut.law();
-    stimulus.law();
-    laws(blocks);
-    let waves = waves::waves_of(alloc, circuit, cut, stimulus, horizon, blocks)?;
-    Ok(waves)
+    Ok(())
 }
 
 /// What is true of every block.

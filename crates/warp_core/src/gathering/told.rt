@@ -36,7 +36,7 @@ fn log_until(block: &Block, net: u32) -> &[Change]
 }
 
 /// The changes of an input up to the horizon.
-fn given_until(stimulus: &Stimulus, horizon: u64, net: u32) -> &[Change]
+pub(super) fn given_until(stimulus: &Stimulus, horizon: u64, net: u32) -> &[Change]
     requires { horizon ≤ most_horizon }
     ensures changes { result.now ≡ before_time (horizon + 1) (changes_of stimulus.now net) }
     ensures wave { IsWave result.now }

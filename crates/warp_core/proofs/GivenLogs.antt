@@ -1,0 +1,98 @@
+-- What the lists hold after all blocks have given their logs.
+use Rattle.std.proofs.Common.{◌≡◌, ◌≢◌, ℕ, zero, suc, ◌+◌, ◌<◌, ◌≤◌, true, false, cond, IfSome, IsTrue, Option, Some, None, List, [], ◌∷◌, length, inl, inr, refl, ap, sym, ◌∙◌, subst, arith, All}
+use Rattle.std.proofs.lemmas.Bool.{cases_Bool, cases_lt, cond-true, cond-false, ne_eqb}
+use Rattle.std.proofs.lemmas.List.{get_or_default, get_or_past}
+use Rattle.gate_values.specs.declared.logic.Change.{Change}
+use Rattle.gate_values.specs.Changes.{before_time}
+use Rattle.gate_netlist.specs.Circuit.{Design, CutFits, nets_of}
+use Rattle.gate_netlist.specs.Cut.{Ownership, IsOwnership, is_owner, owner_of}
+use Rattle.gate_vcd.specs.Given.{Given, AreItsChanges, changes_of}
+use Rattle.gate_vcd.specs.Waves.{wave_of, IsWave}
+use Rattle.warp_block.specs.Limits.{most_horizon}
+use Rattle.warp_block.specs.Portion.{Portion, owns}
+use Rattle.warp_block.specs.PartOf.{is_own}
+use Rattle.warp_block.specs.View.{View, Process, log_of}
+use Rattle.warp_block.specs.Lawful.{IsLawful}
+use Rattle.warp_block.proofs.PartBuilding.{nets_within}
+use Rattle.warp_core.specs.Matched.{no_process, seen_at, IsBlockOf, EachBlock, told_by, told_of}
+use Rattle.warp_core.specs.Gather.{AreCounted}
+use Rattle.warp_core.specs.Inner.Gather.{after_block, after_blocks}
+use Rattle.warp_core.proofs.Parts.{owner_owns, other_owns}
+use Rattle.warp_core.proofs.Finished.{given_wave, log_wave}
+
+-- what one block gives
+pub after_one : (v : View) (old new : ℕ → List Change) → ((n : ℕ) → IsTrue (owns v.part n) → new n ≡ log_of v n) → ((n : ℕ) → owns v.part n ≡ false → new n ≡ old n)
+    → (n : ℕ) → new n ≡ after_block v old n
+after_one v old new own others n = elim (cases_Bool (owns v.part n)) [
+  | inl is ↦ own n is ∙ sym (cond-true (owns v.part n) (log_of v n) (old n) is)
+  | inr other ↦ others n other ∙ sym (cond-false (owns v.part n) (log_of v n) (old n) other)
+]
+
+-- the same lists before, the same lists after
+pub after_same : (ps : List Process) (f g : ℕ → List Change) → ((n : ℕ) → f n ≡ g n) → (n : ℕ) → after_blocks ps f n ≡ after_blocks ps g n
+after_same [] f g e n = e n
+after_same (p ∷ ps) f g e n = after_same ps (after_block p.seen f) (after_block p.seen g) (λ m. ap (λ (list : List Change). cond (owns p.seen.part m) (log_of p.seen m) list) (e m)) n
+
+-- a net that no block owns keeps its list
+after_none : (ps : List Process) (lists : ℕ → List Change) (n : ℕ) → ((b : ℕ) → b < length ps → owns (seen_at ps b).part n ≡ false) → after_blocks ps lists n ≡ lists n
+after_none [] lists n others = refl
+after_none (p ∷ ps) lists n others =
+    after_none ps (after_block p.seen lists) n (λ b l. others (suc b) (omega (arith, l)))
+    ∙ cond-false (owns p.seen.part n) (log_of p.seen n) (lists n) (others 0 (omega arith))
+
+-- a net that one block alone owns has that block's log
+after_own : (ps : List Process) (lists : ℕ → List Change) (n b : ℕ) → b < length ps → owns (seen_at ps b).part n ≡ true → ((c : ℕ) → c < length ps → c ≢ b → owns (seen_at ps c).part n ≡ false)
+    → after_blocks ps lists n ≡ log_of (seen_at ps b) n
+after_own [] lists n b l own others = absurd (omega (arith, l))
+after_own (p ∷ ps) lists n zero l own others =
+    after_none ps (after_block p.seen lists) n (λ c k. others (suc c) (omega (arith, k)) (λ e. absurd (omega (arith, e))))
+    ∙ cond-true (owns p.seen.part n) (log_of p.seen n) (lists n) own
+after_own (p ∷ ps) lists n (suc b) l own others =
+    after_own ps (after_block p.seen lists) n b (omega (arith, l)) own (λ c k apart. others (suc c) (omega (arith, k)) (λ e. apart (omega (arith, e))))
+
+module _ (d : Design) (cut : Ownership) (g : Given) (horizon : ℕ) (blocks : List Process) (fits : CutFits d cut) (owners : IsOwnership cut) (count : AreCounted cut blocks)
+    (parts : EachBlock cut blocks (IsBlockOf d cut horizon)) where
+  owner_within : (n b : ℕ) → owner_of cut n ≡ Some b → b < cut.blocks
+  owner_within n b e = subst (λ o. IfSome o (λ c. c < cut.blocks)) e (owners.owned n)
+
+  other_block : (n b : ℕ) → b < length blocks → is_own cut b n ≡ false → owns (seen_at blocks b).part n ≡ false
+  other_block n b l other = ap (λ (p : Portion). owns p n) (parts b (omega (arith, l, count))).part ∙ other_owns d cut fits b n other
+
+  -- each net has what its owner, or the stimulus, says
+  pub after_told : (lists : ℕ → List Change) → ((n : ℕ) → n < nets_of d → owner_of cut n ≡ None → lists n ≡ before_time (horizon + 1) (changes_of g n))
+      → (n : ℕ) → n < nets_of d → after_blocks blocks lists n ≡ told_of cut g horizon blocks n
+  after_told lists given n within = go (owner_of cut n) refl
+    where
+      go : (o : Option ℕ) → owner_of cut n ≡ o → after_blocks blocks lists n ≡ told_by g horizon blocks n o
+      go None e = after_none blocks lists n (λ b l. other_block n b l (ap (is_owner b) e)) ∙ given n within e
+      go (Some b) e =
+          let l = owner_within n b e in
+          after_own blocks lists n b (omega (arith, l, count)) (ap (λ (p : Portion). owns p n) (parts b l).part ∙ owner_owns d cut fits b n e)
+          (λ c k apart. other_block n c k (ap (is_owner c) e ∙ ne_eqb b c (λ same. apart (sym same))))
+
+  -- the nets of each block are the circuit's
+  pub blocks_within : All (λ (p : Process). All (λ n. n < nets_of d) p.seen.part.nets) blocks
+  blocks_within b q l =
+      subst (λ (p : Process). All (λ n. n < nets_of d) p.seen.part.nets) (sym (get_or_default blocks b q no_process l))
+      (subst (λ (p : Portion). All (λ n. n < nets_of d) p.nets) (sym (parts b (omega (arith, l, count))).part) (nets_within d cut b))
+
+  -- what is told of a net is a wave
+  pub told_wave : horizon ≤ most_horizon → ((n : ℕ) → AreItsChanges (changes_of g n)) → EachBlock cut blocks (λ _ v. IsLawful v) → (n : ℕ) → IsWave (told_of cut g horizon blocks n)
+  told_wave short given lawful n = go (owner_of cut n) refl
+    where
+      go : (o : Option ℕ) → owner_of cut n ≡ o → IsWave (told_by g horizon blocks n o)
+      go None e = (given_wave (changes_of g n) horizon short (given n)).0
+      go (Some b) e = (log_wave (seen_at blocks b) (lawful b (owner_within n b e)) n).0
+
+  -- the lists after all blocks
+  module _ (before after : List (List Change)) (same : length after ≡ nets_of d)
+      (starts : (n : ℕ) → n < nets_of d → owner_of cut n ≡ None → wave_of before n ≡ before_time (horizon + 1) (changes_of g n))
+      (ends : (n : ℕ) → wave_of after n ≡ after_blocks blocks (wave_of before) n) where
+    pub all_told : (n : ℕ) → n < nets_of d → wave_of after n ≡ told_of cut g horizon blocks n
+    all_told n within = ends n ∙ after_told (wave_of before) starts n within
+
+    pub all_waves : ((n : ℕ) → IsWave (told_of cut g horizon blocks n)) → (n : ℕ) → IsWave (wave_of after n)
+    all_waves told n = elim (cases_lt n (nets_of d)) [
+      | inl within ↦ subst IsWave (sym (all_told n within)) (told n)
+      | inr past ↦ subst IsWave (sym (get_or_past after n [] (omega (arith, same, past)))) tt
+    ]

@@ -1,0 +1,33 @@
+use Rattle.std.proofs.Common.{◌∙◌, arith}
+use Rattle.warp_block.specs.Lawful.{IsLawful}
+use Rattle.warp_core.specs.Matched.{EachBlock, AreMatched}
+use Rattle.warp_core.proofs.Matching.{matched_changes}
+use Rattle.warp_core.proofs.GivenLogs.{told_wave}
+use Rattle.warp_core.proofs.gathering.gather.Goals as goal
+
+pub waves_of-requires-clause-told : goal.waves_of-requires-clause-told
+waves_of-requires-clause-told c =
+    let d = c.args.circuit.now in
+    let cut = c.args.cut.now in
+    let g = c.args.stimulus.now in
+    let blocks = c.args.blocks.items in
+    let matched : AreMatched d cut g c.args.horizon blocks = rw c.as_slice.ensures.value at c.in_ok-check.ensures.matched in
+    let each = rw c.as_slice-2.ensures.value at c.laws.ensures in
+    let lawful : EachBlock cut blocks (λ _ v. IsLawful v) = λ b l. each b (omega (arith, l, matched.count)) in
+    told_wave d cut g c.args.horizon blocks c.requires.cut c.law.ensures matched.count matched.parts c.requires.horizon c.law-2.ensures lawful
+
+pub returns : goal.returns
+returns c =
+    let d = c.args.circuit.now in
+    let cut = c.args.cut.now in
+    let g = c.args.stimulus.now in
+    let blocks = c.args.blocks.items in
+    let matched : AreMatched d cut g c.args.horizon blocks = rw c.as_slice.ensures.value at c.in_ok-check.ensures.matched in
+    let each = rw c.as_slice-2.ensures.value at c.laws.ensures in
+    let lawful : EachBlock cut blocks (λ _ v. IsLawful v) = λ b l. each b (omega (arith, l, matched.count)) in (
+      matched,
+      record {
+        nets = c.in_ok-waves.ensures.nets;
+        waves = λ n l. c.in_ok-waves.ensures.waves n l ∙ matched_changes d cut g c.args.horizon blocks c.requires.cut c.law.ensures c.law-2.ensures c.requires.horizon lawful matched n l;
+      },
+    )

@@ -1,0 +1,34 @@
+use Rattle.std.proofs.Common.{◌≡◌, ◌+◌, [], ◌∷◌, None, List, Vec, inl, inr, length, ap, subst, sym, ◌∙◌, arith}
+use Rattle.std.specs.declared.alloc.Global.{Global}
+use Rattle.std.proofs.lemmas.Bool.{cases_lt}
+use Rattle.std.proofs.lemmas.List.{map-append, length-map, get_or_append_left, get_or_push}
+use Rattle.gate_values.specs.declared.logic.Change.{Change}
+use Rattle.gate_values.specs.Changes.{before_time}
+use Rattle.gate_netlist.specs.Cut.{owner_of}
+use Rattle.gate_vcd.specs.Given.{changes_of}
+use Rattle.gate_vcd.specs.Waves.{lists_in, wave_of}
+use Rattle.warp_core.proofs.gathering.waves.given_lists.Goals as goal
+
+pub loop-net-preserved : goal.loop-net-preserved
+loop-net-preserved c =
+    let h = c.loop-net.invariant in
+    let k = c.loop-net.net in
+    let lists = c.loop-net.lists.items in
+    let list = c.in_ok-list.list in
+    let pushed = ap lists_in c.in_ok-push.ensures.items ∙ map-append (λ (v : Vec Change Global). v.items) lists (list ∷ []) in
+    let count : length (lists_in lists) ≡ k = length-map lists (λ (v : Vec Change Global). v.items) ∙ (omega (arith, h.nets, c.loop-net.lists.ok.0)) in
+    record {
+      nets = omega (arith, h.nets, c.in_ok-push.ensures.len);
+      given = λ n less none. elim (cases_lt n k) [
+        | inl before ↦
+            ap (λ (ls : List (List Change)). wave_of ls n) pushed
+            ∙ get_or_append_left (lists_in lists) (list.items ∷ []) [] n (omega (arith, before, count))
+            ∙ h.given n before none
+        | inr past ↦
+            (let same : k ≡ n = omega (arith, less, past) in
+            subst (λ m. wave_of (lists_in c.push.new.self.items) m ≡ before_time (c.args.horizon + 1) (changes_of c.args.stimulus.now m)) same
+            (ap (λ (ls : List (List Change)). wave_of ls k) pushed
+            ∙ get_or_push (lists_in lists) list.items [] k count
+            ∙ c.in_ok-list.ensures (subst (λ m. owner_of c.args.cut.now m ≡ None) (sym same) none)))
+      ];
+    }
