@@ -3,6 +3,7 @@ ghost use Rattle.std.specs.List.{All};
 ghost use Rattle.std.specs.Cmp.Rules.{comparing};
 ghost use Rattle.std.proofs.Common.{rules};
 ghost use Rattle.gate_values.specs.declared.logic.Logic.TheVariants.{X};
+ghost use Rattle.gate_values.specs.Tables.{HasInputs, table_of};
 ghost use Rattle.gate_values.specs.Behaviour.{Outside, output as source_output, next_content as source_content, source_delay, initial_of};
 ghost use Rattle.gate_netlist.specs.Circuit.{CutFits};
 ghost use Rattle.warp_block.specs.Portion.{IsPortion, slot_of, owns, reads, hears, is_used, is_driven};
@@ -21,7 +22,7 @@ mod slots;
 use crate::cell::{Cell, Span};
 pub(crate) use fan::Fan;
 use gate_netlist::{Circuit, Cut};
-use gate_values::{Logic, flip, table};
+use gate_values::{Kind, Logic, flip, table};
 use std::alloc::{AllocError, Global};
 use std::marker::Model;
 
@@ -226,8 +227,8 @@ impl Part {
             Cell::Input | Cell::Foreign => Ok(Logic::X),
             Cell::Gate { kind, pins, .. } => {
                 let pins = &self.pins[pins.start..pins.start + pins.count];
-                pick(values, pins, operands)?;
-                Ok(table(kind, operands))
+                let value = gate_output(kind, values, pins, operands)?;
+                Ok(value)
             }
             Cell::Flop { .. } => Ok(contents[slot]),
         }
@@ -333,6 +334,27 @@ impl PartialEq for Part {
         ensures same { IsTrue result ↔ (self.now ≡ other.now) }
     {
         self.is_same(other)
+    }
+}
+
+/// What a gate puts out for the values at some places. The operands are a place to work in, which one or two don't need.
+fn gate_output(
+    kind: Kind,
+    values: &[Logic],
+    places: &[u32],
+    operands: &mut Vec<Logic>,
+) -> Result<Logic, AllocError>
+    requires places { All (λ place. place < length values.now) places.now }
+    requires inputs { HasInputs kind (length places.now) }
+    ensures { IfOk result (λ v. v ≡ table_of kind (map (λ place. get_or values.now place X) places.now)) }
+{
+    match places {
+        [place] => Ok(table(kind, &[values[*place as usize]])),
+        [first, second] => Ok(table(kind, &[values[*first as usize], values[*second as usize]])),
+        _ => {
+            pick(values, places, operands)?;
+            Ok(table(kind, operands))
+        }
     }
 }
 

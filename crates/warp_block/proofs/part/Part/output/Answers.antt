@@ -5,13 +5,13 @@ use Rattle.gate_values.specs.Tables.{table_of}
 use Rattle.warp_block.proofs.PartHeld.{gate_output, flop_output, picked_along}
 use Rattle.warp_block.proofs.part.Part.output.Goals as goal
 
-pub returns-in_ok-pick-in-Gate : goal.returns-in_ok-pick-in-Gate
-returns-in_ok-pick-in-Gate c =
+pub returns-in_ok-value-in-Gate : goal.returns-in_ok-value-in-Gate
+returns-in_ok-value-in-Gate c =
     let nets = rw (← c.self.view_is) at c.requires.slot in
     let e = gate_output c.self.inside c.self.invariant c.args.values.now c.args.contents.now c.args.slot c.index.result.now nets
     c.in-Gate.kind c.in-Gate.delay c.in-Gate.pins (sym c.index.ensures ∙ c.in-Gate.is) in
     let same = picked_along c.args.values.now c.args.values.now c.self.inside.pins.items c.deref.result.now c.in-Gate.pins refl c.deref.ensures.value in
-    rw (← c.self.view_is) (c.table.ensures ∙ ap (table_of c.in-Gate.kind) (c.deref-in-Gate.ensures.value ∙ c.in_ok-pick-in-Gate.ensures ∙ same) ∙ sym e)
+    rw (← c.self.view_is) (c.in_ok-value-in-Gate.ensures ∙ ap (table_of c.in-Gate.kind) same ∙ sym e)
 
 pub returns-in-Flop : goal.returns-in-Flop
 returns-in-Flop c =
