@@ -25,7 +25,7 @@ apart m n l = elim (cases_Bool (eqb m n)) [
 found_at : {X : Type 0} (p : X → Bool) (xs : List X) (i : ℕ) → position_or_len p xs ≡ i → i < length xs → position p xs ≡ Some i
 found_at p xs i e l = rw (e, lt-ltb i (length xs) l) refl
 
-none_passes : {X : Type 0} (p : X → Bool) (xs : List X) → list_any p xs ≡ false → position_or_len p xs ≡ length xs
+pub none_passes : {X : Type 0} (p : X → Bool) (xs : List X) → list_any p xs ≡ false → position_or_len p xs ≡ length xs
 none_passes p [] e = refl
 none_passes p (x ∷ xs) e =
     elim (cases_Bool (p x)) [
@@ -33,7 +33,7 @@ none_passes p (x ∷ xs) e =
       | inr fails ↦ rw fails (let h : list_any p xs ≡ false = rw fails at e in omega (arith, none_passes p xs h))
     ]
 
-passes_none : {X : Type 0} (p : X → Bool) (xs : List X) → position_or_len p xs ≡ length xs → list_any p xs ≡ false
+pub passes_none : {X : Type 0} (p : X → Bool) (xs : List X) → position_or_len p xs ≡ length xs → list_any p xs ≡ false
 passes_none p [] e = refl
 passes_none p (x ∷ xs) e =
     elim (cases_Bool (p x)) [

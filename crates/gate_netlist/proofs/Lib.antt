@@ -13,6 +13,7 @@ pub mod SettingValues
 pub mod Circuits
 pub mod Added
 pub mod Causes
+pub mod Linking
 pub mod Resolving
 pub mod Naming
 pub mod Splitting

@@ -1,4 +1,4 @@
-ghost use Rattle.std.specs.Prelude.{◌≡◌, ◌≤◌, ◌++◌, ◌∷◌, [], length, map, Some, Ok, IfOk, IfErr, OnOk, option_to_list, option_map};
+ghost use Rattle.std.specs.Prelude.{◌≡◌, ◌≤◌, ◌++◌, ◌∷◌, [], length, map, nat_lt, Some, Ok, IfOk, IfErr, OnOk, option_to_list, option_map};
 ghost use Rattle.std.specs.List.{list_all};
 ghost use Rattle.gate_netlist.specs.declared.fault.BenchCause.TheVariants as cause;
 ghost use Rattle.gate_netlist.specs.Faults.{out_of_memory, MemoryHasNoLine};
@@ -6,8 +6,8 @@ ghost use Rattle.gate_netlist.specs.Inner.Faults.{fault_at};
 ghost use Rattle.gate_netlist.specs.Gives.{Gives};
 ghost use Rattle.gate_netlist.specs.Inner.Meant.{meant};
 ghost use Rattle.gate_netlist.specs.Inner.Keys.{names_in};
-ghost use Rattle.gate_netlist.specs.Bench.{net_defined, refusal, unless, stated, is_among, uses_other, number_among, definition_of, output_of, each_once, bench_of};
-ghost use Rattle.gate_netlist.specs.Inner.Passes.{defined_names, linked};
+ghost use Rattle.gate_netlist.specs.Bench.{net_defined, refusal, unless, stated, number_among, definition_of, output_of, each_once, bench_of};
+ghost use Rattle.gate_netlist.specs.Inner.Passes.{defined_names, linked, made_by, is_linked};
 
 use crate::bench::{Bench, Definition, Names};
 use crate::fault::{BenchCause, BenchFault};
@@ -35,13 +35,6 @@ fn define(alloc: Global, names: &mut Names, name: &str) -> Result<(), BenchCause
     let key = String::from_str(alloc, name)?;
     names.insert(key)?;
     Ok(())
-}
-
-#[tactic(auto, using(crate::proofs::Naming::among_keys))]
-fn is_defined(names: &Names, name: &str) -> bool
-    ensures { result ≡ is_among (names_in names.now) name.now }
-{
-    names.contains(name)
 }
 
 /// The number of a name, and that of names where it is none of them.
@@ -118,41 +111,6 @@ fn defined_names(alloc: Global, text: &[u8]) -> Result<Names, BenchFault>
     Ok(names)
 }
 
-fn are_defined(names: &Names, nets: &[&str]) -> bool
-    ensures { result ≡ list_all (λ net. is_among (names_in names.now) net.now) nets.now }
-{
-    nets.iter().all(|net| is_defined(names, net))
-}
-
-/// Whether a line uses a net that is none of these.
-fn uses_other(names: &Names, statement: &Statement) -> bool
-    ensures { result ≡ uses_other (names_in names.now) (meant statement.now) }
-{
-    match statement {
-        Statement::Output(net) => !is_defined(names, net),
-        Statement::Gate { inputs, .. } => !are_defined(names, inputs),
-        Statement::Flop { d, .. } => !is_defined(names, d),
-        Statement::Nothing => false,
-        Statement::Input(_) => false,
-    }
-}
-
-/// What a line says, where each net that it uses is one of these.
-#[tactic(auto, unfolding(crate::specs::Inner::Passes::linked))]
-fn linked<'a, 'b>(
-    buffers: &'b mut Buffers<'a>,
-    names: &Names,
-    line: &'a [u8],
-) -> Result<Statement<'a, 'b>, BenchCause>
-    ensures { Gives cause.Memory meant result (linked (names_in names.now) line.now) }
-{
-    let statement = meaning_of(buffers, line)?;
-    if uses_other(names, &statement) {
-        return Err(BenchCause::Undriven);
-    }
-    Ok(statement)
-}
-
 fn numbers_of(alloc: Global, names: &Names, nets: &[&str]) -> Result<Vec<u32>, AllocError>
     requires { length (names_in names.now) ≤ 999999 }
     ensures { IfOk result (λ numbers. numbers.items ≡ map (λ net. number_among (names_in names.now) net.now) nets.now) }
@@ -188,26 +146,6 @@ fn definition_of(
     }
 }
 
-/// Adds what a line makes of the net that it defines.
-fn push_definition(
-    alloc: Global,
-    names: &Names,
-    statement: &Statement,
-    definitions: &mut Vec<Definition>,
-) -> Result<(), AllocError>
-    requires { length (names_in names.now) ≤ 999999 }
-    ensures { OnOk result (definitions.new.items
-        ≡ definitions.old.items ++ option_to_list (definition_of (names_in names.now) (meant statement.now))) }
-{
-    match definition_of(alloc, names, statement)? {
-        None => Ok(()),
-        Some(definition) => {
-            definitions.push(definition)?;
-            Ok(())
-        }
-    }
-}
-
 /// The net that a line marks.
 fn output_of(names: &Names, statement: &Statement) -> Option<u32>
     requires { length (names_in names.now) ≤ 999999 }
@@ -219,17 +157,67 @@ fn output_of(names: &Names, statement: &Statement) -> Option<u32>
     }
 }
 
-/// Adds the net that a line marks.
-fn push_output(
-    names: &Names,
-    statement: &Statement,
-    marked: &mut Vec<u32>,
-) -> Result<(), AllocError>
-    requires { length (names_in names.now) ≤ 999999 }
-    ensures { OnOk result (marked.new.items
-        ≡ marked.old.items ++ option_to_list (output_of (names_in names.now) (meant statement.now))) }
+fn are_below(nets: &[u32], count: usize) -> bool
+    ensures { result ≡ list_all (λ net. nat_lt net count) nets.now }
 {
-    match output_of(names, statement) {
+    nets.iter().all(|net| (*net as usize) < count)
+}
+
+/// Whether these nets and the marked one have numbers below a count.
+fn is_linked(definition: &Option<Definition>, output: Option<u32>, count: usize) -> bool
+    ensures { result ≡ is_linked definition.now output count }
+{
+    if let Some(net) = output {
+        return (net as usize) < count;
+    }
+    match definition {
+        Some(Definition::Gate { inputs, .. }) => are_below(inputs.as_slice(), count),
+        Some(Definition::Flop { d }) => (*d as usize) < count,
+        _ => true,
+    }
+}
+
+/// What a line makes of the net that it defines, and the net that it marks, where each net that it uses is one of these.
+#[tactic(auto, unfolding(crate::specs::Inner::Passes::linked))]
+fn linked<'a>(
+    alloc: Global,
+    buffers: &mut Buffers<'a>,
+    names: &Names,
+    line: &'a [u8],
+) -> Result<(Option<Definition>, Option<u32>), BenchCause>
+    requires { length (names_in names.now) ≤ 999999 }
+    ensures { Gives cause.Memory (λ made. made) result (made_by (names_in names.now) (linked (names_in names.now) line.now)) }
+{
+    let statement = meaning_of(buffers, line)?;
+    let definition = definition_of(alloc, names, &statement)?;
+    let output = output_of(names, &statement);
+    if !is_linked(&definition, output, names.len()) {
+        return Err(BenchCause::Undriven);
+    }
+    Ok((definition, output))
+}
+
+/// Adds what a line makes of the net that it defines.
+fn push_definition(
+    definition: Option<Definition>,
+    definitions: &mut Vec<Definition>,
+) -> Result<(), AllocError>
+    ensures { OnOk result (definitions.new.items ≡ definitions.old.items ++ option_to_list definition) }
+{
+    match definition {
+        None => Ok(()),
+        Some(definition) => {
+            definitions.push(definition)?;
+            Ok(())
+        }
+    }
+}
+
+/// Adds the net that a line marks.
+fn push_output(output: Option<u32>, marked: &mut Vec<u32>) -> Result<(), AllocError>
+    ensures { OnOk result (marked.new.items ≡ marked.old.items ++ option_to_list output) }
+{
+    match output {
         None => Ok(()),
         Some(net) => {
             marked.push(net)?;
@@ -263,10 +251,10 @@ fn bench_of(alloc: Global, names: Names, text: &[u8]) -> Result<Bench, BenchFaul
     let mut rest = Some(text);
     while let Some(text) = rest {
         let (line, after) = next_line(text);
-        match linked(&mut buffers, &names, line) {
-            Ok(statement) => {
-                push_definition(alloc, &names, &statement, &mut definitions)?;
-                push_output(&names, &statement, &mut marked)?;
+        match linked(alloc, &mut buffers, &names, line) {
+            Ok((definition, output)) => {
+                push_definition(definition, &mut definitions)?;
+                push_output(output, &mut marked)?;
             }
             Err(cause) => return Err(fault_at(number, cause)),
         }
