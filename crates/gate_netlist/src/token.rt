@@ -45,17 +45,28 @@ fn mark_of(byte: u8) -> Option<Token<'static>>
 pub(crate) fn is_letter(byte: u8) -> bool
     ensures { result ≡ is_letter byte }
 {
-    33 <= byte && byte <= 126 && mark_of(byte).is_none() && byte != b'#'
+    match byte {
+        b'(' | b')' | b',' | b'=' | b'#' => false,
+        _ => 33 <= byte && byte <= 126,
+    }
+}
+
+/// Whether this byte may stand outside a comment.
+fn may_stand(byte: u8) -> bool
+    ensures { result ≡ is_allowed byte }
+{
+    match byte {
+        b'#' => false,
+        b'\t' => true,
+        _ => 32 <= byte && byte <= 126,
+    }
 }
 
 /// Whether each byte may stand outside a comment.
 pub(crate) fn is_allowed(code: &[u8]) -> bool
     ensures { result ≡ list_all is_allowed code.now }
 {
-    code.iter().all(|byte| is_letter(*byte)
-        || mark_of(*byte).is_some()
-        || *byte == b' '
-        || *byte == b'\t')
+    code.iter().all(|byte| may_stand(*byte))
 }
 
 /// Whether one of the words is `$end`, which is no name.
