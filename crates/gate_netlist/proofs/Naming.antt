@@ -1,5 +1,5 @@
 -- Names as a set of texts keeps them.
-use Rattle.std.proofs.Common.{◌≡◌, ℕ, ◌<◌, ◌≤◌, Bool, true, false, not, ◌&&◌, cond, ltb, List, [], ◌∷◌, ◌++◌, length, map, Some, None, Ok, Err, refl, ap, ◌∙◌, inl, inr, string_bytes, Global, arith}
+use Rattle.std.proofs.Common.{◌≡◌, ℕ, ◌<◌, ◌≤◌, Bool, true, false, not, ◌&&◌, cond, ltb, List, [], ◌∷◌, ◌++◌, length, map, Some, None, Ok, Err, refl, ap, sym, ◌∙◌, inl, inr, string_bytes, Global, arith}
 use Rattle.std.specs.Prelude.{String}
 use Rattle.std.specs.List.{list_any, list_all, position, position_or_len}
 use Rattle.std.specs.Str.{bytes_eq}
@@ -46,6 +46,12 @@ too_many x ks n e le = rw (among_keys ks n, e, length-map ks string_bytes, le-lt
 
 pub fresh : {X : Type 0} (x : X) (ks : List Key) (n : List ℕ) → list_any (has_bytes n) ks ≡ false → length ks < 999999 → unless (refusal (map string_bytes ks) (Some n)) x ≡ Ok x
 fresh x ks n e lt = rw (among_keys ks n, e, length-map ks string_bytes, lt-ltb _ _ lt) refl
+
+-- a name was there before, where putting it in adds nothing
+pub was_among : (key : Key) (n : List ℕ) (ks : List Key) (new t : Bool) → string_bytes key ≡ n → new ≡ not (list_any (has_bytes (string_bytes key)) ks) → new ≡ t → list_any (has_bytes n) ks ≡ not t
+was_among key n ks new t is e f =
+    let flipped : (b c : Bool) → c ≡ not b → b ≡ not c = λ b c h. elim b as (λ b. c ≡ not b → b ≡ not c) [ true ↦ (λ h. ap not (sym h)) | false ↦ (λ h. ap not (sym h)) ] h in
+    ap (λ m. list_any (has_bytes m) ks) (sym is) ∙ flipped _ new e ∙ ap not f
 
 pub added : (key : Key) (n : List ℕ) (ks new : List Key) → string_bytes key ≡ n → list_any (has_bytes n) ks ≡ false
     → new ≡ insert_key (λ x y. bytes_eq (string_bytes x) (string_bytes y)) ks key → map string_bytes new ≡ map string_bytes ks ++ n ∷ []

@@ -26,14 +26,13 @@ fn define(alloc: Global, names: &mut Names, name: &str) -> Result<(), BenchCause
     ensures gives { Gives cause.Memory (λ x. x) result (unless (refusal (names_in names.old) (Some name.now)) tt) }
     ensures ok { OnOk result (names_in names.new ≡ names_in names.old ++ name.now ∷ []) }
 {
-    if names.contains(name) {
+    let key = String::from_str(alloc, name)?;
+    if !names.insert(key)? {
         return Err(BenchCause::DrivenTwice);
     }
-    if names.len() >= MOST_NETS {
+    if names.len() > MOST_NETS {
         return Err(BenchCause::TooManyNets);
     }
-    let key = String::from_str(alloc, name)?;
-    names.insert(key)?;
     Ok(())
 }
 
