@@ -1,5 +1,5 @@
 -- Nets are defined where their numbers are below the count of names.
-use Rattle.std.proofs.Common.{◌≡◌, ◌⊎◌, ℕ, ◌<◌, Bool, true, false, not, ◌&&◌, cond, ltb, List, [], ◌∷◌, length, map, Option, Some, None, Result, Ok, Err, refl, ap, sym, ◌∙◌, subst, ◌+◌, ◌++◌, inl, inr, arith}
+use Rattle.std.proofs.Common.{◌≡◌, ◌⊎◌, ℕ, ◌<◌, Bool, true, false, not, ◌&&◌, cond, ltb, List, [], ◌∷◌, length, map, Option, Result, Ok, Err, refl, ap, sym, ◌∙◌, subst, ◌+◌, ◌++◌, inl, inr, arith}
 use Rattle.std.specs.Prelude.{option_to_list}
 use Rattle.std.specs.List.{list_any, list_all, position_or_len}
 use Rattle.std.specs.Str.{bytes_eq}
@@ -11,7 +11,7 @@ use Rattle.gate_netlist.specs.declared.fault.BenchCause.TheVariants.{Undriven}
 use Rattle.gate_netlist.specs.declared.fault.BenchFault.{BenchFault}
 use Rattle.gate_netlist.specs.Netlist.{Netlist}
 use Rattle.gate_netlist.specs.Statements.{Name, Statement, Nothing, Input, Output, Gate, Flop, meaning_of}
-use Rattle.gate_netlist.specs.Bench.{is_among, uses, uses_other, number_among, definition_of, output_of}
+use Rattle.gate_netlist.specs.Bench.{is_among, uses, number_among, definition_of, output_of}
 use Rattle.gate_netlist.specs.Inner.Passes.{linked, made_by, is_linked}
 use Rattle.gate_netlist.proofs.Differing.{none_passes, passes_none}
 use Rattle.gate_netlist.proofs.Resolving.{linked_lines, linked_more}

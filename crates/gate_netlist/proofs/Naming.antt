@@ -1,12 +1,11 @@
 -- Names as a set of texts keeps them.
-use Rattle.std.proofs.Common.{◌≡◌, ℕ, ◌<◌, ◌≤◌, Bool, true, false, not, ◌&&◌, cond, ltb, List, [], ◌∷◌, ◌++◌, length, map, Some, None, Ok, Err, refl, ap, sym, ◌∙◌, inl, inr, string_bytes, Global, arith}
+use Rattle.std.proofs.Common.{◌≡◌, ℕ, ◌<◌, ◌≤◌, Bool, true, false, not, ◌&&◌, cond, ltb, List, [], ◌∷◌, length, map, Some, None, Ok, Err, refl, ap, sym, ◌∙◌, inl, inr, string_bytes, Global, arith}
 use Rattle.std.specs.Prelude.{String}
 use Rattle.std.specs.List.{list_any, list_all, position, position_or_len}
 use Rattle.std.specs.Str.{bytes_eq}
 use Rattle.std.proofs.lemmas.Bool.{cases_lt, lt-ltb, le-ltb}
-use Rattle.std.proofs.lemmas.List.{map-append, length-map}
+use Rattle.std.proofs.lemmas.List.{length-map}
 use Rattle.std.proofs.lemmas.List.Sums.{prefix_len-le-length}
-use Rattle.indexmap.specs.IndexSet.{insert_key}
 use Rattle.gate_netlist.specs.declared.fault.BenchCause.TheVariants.{DrivenTwice, TooManyNets}
 use Rattle.gate_netlist.specs.Bench.{is_among, refusal, unless}
 use Rattle.gate_netlist.proofs.Splitting.{list_any-map}
@@ -52,13 +51,6 @@ pub was_among : (key : Key) (n : List ℕ) (ks : List Key) (new t : Bool) → st
 was_among key n ks new t is e f =
     let flipped : (b c : Bool) → c ≡ not b → b ≡ not c = λ b c h. elim b as (λ b. c ≡ not b → b ≡ not c) [ true ↦ (λ h. ap not (sym h)) | false ↦ (λ h. ap not (sym h)) ] h in
     ap (λ m. list_any (has_bytes m) ks) (sym is) ∙ flipped _ new e ∙ ap not f
-
-pub added : (key : Key) (n : List ℕ) (ks new : List Key) → string_bytes key ≡ n → list_any (has_bytes n) ks ≡ false
-    → new ≡ insert_key (λ x y. bytes_eq (string_bytes x) (string_bytes y)) ks key → map string_bytes new ≡ map string_bytes ks ++ n ∷ []
-added key n ks new is absent inserted =
-    let none : list_any (has_bytes (string_bytes key)) ks ≡ false = rw is absent in
-    let last : new ≡ ks ++ key ∷ [] = inserted ∙ rw none refl in
-    rw last (map-append string_bytes ks (key ∷ []) ∙ ap (λ n. map string_bytes ks ++ n ∷ []) is)
 
 pub list_all-map : {X Y : Type 0} (p : Y → Bool) (f : X → Y) (xs : List X) → list_all p (map f xs) ≡ list_all (λ x. p (f x)) xs
 list_all-map p f [] = refl
