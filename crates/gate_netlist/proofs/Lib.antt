@@ -16,6 +16,7 @@ pub mod Causes
 pub mod Linking
 pub mod Resolving
 pub mod Naming
+pub mod Allowing
 pub mod Splitting
 pub mod Words
 pub mod Readers

@@ -9,8 +9,7 @@ ghost use Rattle.gate_netlist.specs.Inner.Tokens.{symbols_of};
 
 use crate::fault::BenchCause;
 use crate::token::{
-    Token, after_equals, after_open, closes, code_of, has_comma, has_end, is_allowed, tokenize,
-    word_first,
+    Token, after_equals, after_open, allowed_code, closes, has_comma, has_end, tokenize, word_first,
 };
 use gate_values::Kind;
 use std::alloc::{AllocError, Global};
@@ -245,10 +244,9 @@ pub(crate) fn meaning_of<'a, 'b>(
 ) -> Result<Statement<'a, 'b>, BenchCause>
     ensures { Gives cause.Memory meant result (meaning_of line.now) }
 {
-    let code = code_of(line);
-    if !is_allowed(code) {
+    let Some(code) = allowed_code(line) else {
         return Err(BenchCause::BadName);
-    }
+    };
     tokenize(code, &mut buffers.tokens)?;
     if has_end(&buffers.tokens) {
         return Err(BenchCause::BadName);

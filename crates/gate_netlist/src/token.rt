@@ -1,8 +1,8 @@
-ghost use Rattle.std.specs.Prelude.{◌≡◌, ◌==◌, ◌<◌, ◌∷◌, ◌++◌, not, length, option_map, option_to_list, OnOk, true};
-ghost use Rattle.std.specs.List.{list_all, list_any, prefix_len};
-ghost use Rattle.gate_netlist.specs.Symbols.{Word, before_comment, mark_of, is_letter, begins_with_letter, is_allowed, is_end, symbols};
+ghost use Rattle.std.specs.Prelude.{◌≡◌, ◌<◌, ◌∷◌, ◌++◌, length, option_map, option_to_list, OnOk, true};
+ghost use Rattle.std.specs.List.{list_any, prefix_len};
+ghost use Rattle.gate_netlist.specs.Symbols.{Word, mark_of, is_letter, begins_with_letter, is_allowed, is_end, symbols};
 ghost use Rattle.gate_netlist.specs.Inner.Splits.{word_first, after_open, has_comma, after_equals, closes};
-ghost use Rattle.gate_netlist.specs.Inner.Tokens.{symbol_of, symbols_of};
+ghost use Rattle.gate_netlist.specs.Inner.Tokens.{symbol_of, symbols_of, allowed_code};
 
 use std::alloc::AllocError;
 
@@ -14,19 +14,6 @@ pub(crate) enum Token<'a> {
     Comma,
     Equals,
     Word(&'a str),
-}
-
-/// What stands before the comment of a line.
-pub(crate) fn code_of(line: &[u8]) -> &[u8]
-    ensures { result.now ≡ before_comment line.now }
-{
-    &line[..code_len(line)]
-}
-
-fn code_len(line: &[u8]) -> usize
-    ensures { result ≡ prefix_len (λ b. not (b == 35)) line.now }
-{
-    line.iter().take_while(|byte| **byte != b'#').count()
 }
 
 fn mark_of(byte: u8) -> Option<Token<'static>>
@@ -62,11 +49,23 @@ fn may_stand(byte: u8) -> bool
     }
 }
 
-/// Whether each byte may stand outside a comment.
-pub(crate) fn is_allowed(code: &[u8]) -> bool
-    ensures { result ≡ list_all is_allowed code.now }
+/// How many bytes in front may stand outside a comment.
+fn allowed_len(line: &[u8]) -> usize
+    ensures { result ≡ prefix_len is_allowed line.now }
 {
-    code.iter().all(|byte| may_stand(*byte))
+    line.iter().take_while(|byte| may_stand(**byte)).count()
+}
+
+/// What stands before the comment of a line, where each byte of it may stand there.
+pub(crate) fn allowed_code(line: &[u8]) -> Option<&[u8]>
+    ensures { option_map (λ code. code.now) result ≡ allowed_code line.now }
+{
+    let (code, rest) = line.split_at(allowed_len(line));
+    match rest.first() {
+        None => Some(code),
+        Some(b'#') => Some(code),
+        Some(_) => None,
+    }
 }
 
 /// Whether one of the words is `$end`, which is no name.

@@ -1,6 +1,7 @@
 -- Tokens without where they lie in memory.
-use Rattle.std.specs.Prelude.{List, map}
-use Rattle.gate_netlist.specs.Symbols.{Symbol, Open, Close, Comma, Equals, Word}
+use Rattle.std.specs.Prelude.{ℕ, List, map, Option, Some, None, if◌then◌else◌}
+use Rattle.std.specs.List.{list_all}
+use Rattle.gate_netlist.specs.Symbols.{Symbol, Open, Close, Comma, Equals, Word, before_comment, is_allowed}
 use Rattle.gate_netlist.specs.declared.token.Token.{Token}
 use Rattle.gate_netlist.specs.declared.token.Token.TheVariants as token
 
@@ -13,3 +14,7 @@ symbol_of (token.Word w) = Word w.now
 
 abbrev pub symbols_of : List Token → List Symbol
 symbols_of ts = map symbol_of ts
+
+-- what stands before a comment, where nothing stands there that no line may have
+abbrev pub allowed_code : List ℕ → Option (List ℕ)
+allowed_code line = if list_all is_allowed (before_comment line) then Some (before_comment line) else None
