@@ -243,7 +243,7 @@ fn bench_of(alloc: Global, names: Names, text: &[u8]) -> Result<Bench, BenchFaul
     ensures exact { Gives out_of_memory (λ bench. bench) result (bench_of text.now) }
     ensures memory { IfErr result MemoryHasNoLine }
 {
-    let mut definitions = Vec::new(alloc);
+    let mut definitions = Vec::with_capacity(alloc, names.len())?;
     let mut marked = Vec::new(alloc);
     let mut buffers = Buffers::new(alloc);
     let mut number = 1;

@@ -41,7 +41,7 @@ enum GateWord {
     Flop,
 }
 
-/// Whether a word has these letters, in any case. The lengths are compared first, where no call is needed.
+/// Whether a word has these letters, in any case. Words of another length are not compared.
 fn says(word: &str, letters: &str) -> bool
     ensures { result ≡ str_eq_ignore_ascii_case word.now letters.now }
 {

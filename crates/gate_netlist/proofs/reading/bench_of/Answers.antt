@@ -8,7 +8,7 @@ use Rattle.gate_netlist.proofs.reading.bench_of.Goals as goal
 
 pub loop-rest-init : goal.loop-rest-init
 loop-rest-init c = record {
-  so_far = rw (c.new-definitions.ensures.items, c.new-marked.ensures.items) (linked_text c.args.text.now (names_in c.args.names) c.requires.named);
+  so_far = rw (c.in_ok-definitions.ensures.items, c.new-marked.ensures.items) (linked_text c.args.text.now (names_in c.args.names) c.requires.named);
   counted = omega arith;
 }
 
