@@ -35,11 +35,12 @@ enum Benchmark {
     CutEven,
     WavesByNet,
     WavesByTime,
+    WavesOf,
     Write,
     Play,
 }
 
-const BENCHMARKS: [(&str, Benchmark); 16] = [
+const BENCHMARKS: [(&str, Benchmark); 17] = [
     ("bench", Benchmark::Bench),
     ("bench-refused", Benchmark::BenchRefused),
     ("circuit", Benchmark::Circuit),
@@ -54,6 +55,7 @@ const BENCHMARKS: [(&str, Benchmark); 16] = [
     ("cut-even", Benchmark::CutEven),
     ("waves-by-net", Benchmark::WavesByNet),
     ("waves-by-time", Benchmark::WavesByTime),
+    ("waves-of", Benchmark::WavesOf),
     ("write", Benchmark::Write),
     ("play", Benchmark::Play),
 ];
@@ -76,6 +78,7 @@ fn checksum<R: Eprint + Clock + AllocGlobal>(rt: &R, benchmark: Benchmark, size:
         Benchmark::CutEven => looking::cut_even(rt, size),
         Benchmark::WavesByNet => waves::waves_by_net(rt, size),
         Benchmark::WavesByTime => waves::waves_by_time(rt, size),
+        Benchmark::WavesOf => waves::waves_of(rt, size),
         Benchmark::Write => writing::write(rt, size),
         Benchmark::Play => playing::play(rt, size),
     }

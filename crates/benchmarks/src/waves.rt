@@ -1,9 +1,9 @@
 //! What waves cost.
 
 use crate::timer::{self, report};
-use anyhow::Result;
+use anyhow::{Result, bail};
 use gate_values::{Change, Logic};
-use gate_vcd::Waves;
+use gate_vcd::{Waves, are_waves};
 use std::alloc::{AllocError, Global};
 use std::rt::Clock;
 
@@ -51,6 +51,28 @@ fn pushed_by_time(alloc: Global, size: u32) -> Result<Waves, AllocError> {
     Ok(waves)
 }
 
+/// The changes of the first nets, in a list for each.
+fn listed_by_net(alloc: Global, size: u32) -> Result<Vec<Vec<Change>>, AllocError> {
+    let mut lists = Vec::new(alloc);
+    for first in (0..size).step_by(TURNS as usize) {
+        let turns = TURNS.min(size.saturating_sub(first));
+        lists.push(listed(alloc, turns)?)?;
+    }
+    Ok(lists)
+}
+
+/// So many changes of a net.
+fn listed(alloc: Global, turns: u32) -> Result<Vec<Change>, AllocError> {
+    let mut list = Vec::with_capacity(alloc, turns as usize)?;
+    for turn in 0..turns {
+        list.push(Change {
+            time: turn as u64,
+            value: value_of(turn),
+        })?;
+    }
+    Ok(list)
+}
+
 /// The number of changes that are held.
 fn held(waves: &Waves) -> u64 {
     let mut count = 0_u64;
@@ -73,5 +95,17 @@ pub fn waves_by_time<R: Eprint + Clock + AllocGlobal>(rt: &R, size: u32) -> Resu
     let start = timer::start(rt)?;
     let waves = pushed_by_time(rt.alloc(), size)?;
     report(rt, "waves-by-time", size, start)?;
+    Ok(held(&waves))
+}
+
+/// The same changes, as a list for each net.
+pub fn waves_of<R: Eprint + Clock + AllocGlobal>(rt: &R, size: u32) -> Result<u64> {
+    let lists = listed_by_net(rt.alloc(), size)?;
+    if lists.len() > 1_000_000 || !are_waves(lists.as_slice()) {
+        bail!("too many lists, or some that are no waves");
+    }
+    let start = timer::start(rt)?;
+    let waves = Waves::of(rt.alloc(), lists)?;
+    report(rt, "waves-of", size, start)?;
     Ok(held(&waves))
 }
