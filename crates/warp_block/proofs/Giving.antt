@@ -1,5 +1,5 @@
 -- The logs of own nets move to the places of the nets' lists.
-use Rattle.std.proofs.Common.{◌≡◌, ℕ, ◌+◌, ◌<◌, false, inl, inr, Option, Some, None, List, [], length, set, refl, ap, sym, ◌∙◌, subst, IsTrue, arith}
+use Rattle.std.proofs.Common.{◌≡◌, ◌≢◌, ℕ, ◌+◌, ◌<◌, false, inl, inr, Option, Some, None, List, [], length, set, refl, ap, sym, ◌∙◌, subst, IsTrue, arith}
 use Rattle.std.specs.declared.vec.Vec.{Vec}
 use Rattle.std.specs.declared.alloc.Global.{Global}
 use Rattle.std.specs.List.Sorted.{IsStrictlyIncreasing}
@@ -14,7 +14,17 @@ use Rattle.warp_block.specs.Inner.Step.{net_at, log_at}
 use Rattle.warp_block.specs.Inner.Give.{IsOwnAt, AreGiven}
 use Rattle.warp_block.proofs.Slots.{slot_is, slot_at}
 use Rattle.std.proofs.lemmas.List.Kept.{AllPairs-from_increasing}
+use Rattle.std.proofs.lemmas.List.{map-set, length-map}
 use Rattle.warp_block.proofs.Emitting.{set_here, set_other}
+
+module _ (lists : List (Vec Change Global)) (n : ℕ) (list : Vec Change Global) where
+  put_here : n < length lists → wave_of (lists_in (set lists n list)) n ≡ list.items
+  put_here h =
+      let short : n < length (lists_in lists) = rw length-map h in
+      ap (λ (ls : List (List Change)). wave_of ls n) (map-set (λ (v : Vec Change Global). v.items) lists n list) ∙ set_here (lists_in lists) n list.items short
+
+  put_other : (k : ℕ) → k ≢ n → wave_of (lists_in (set lists n list)) k ≡ wave_of (lists_in lists) k
+  put_other k ne = ap (λ (ls : List (List Change)). wave_of ls k) (map-set (λ (v : Vec Change Global). v.items) lists n list) ∙ set_other (lists_in lists) n list.items k ne
 
 module _ (p : Portion) (up : IsStrictlyIncreasing p.nets) (logs old : List (List Change)) where
   -- one own place more is given
@@ -22,12 +32,12 @@ module _ (p : Portion) (up : IsStrictlyIncreasing p.nets) (logs old : List (List
       → AreGiven p logs k old (lists_in lists) → AreGiven p logs (k + 1) old (lists_in (set lists (net_at p k) log))
   given_one k lists log in_nets in_lists here is given = record {
     own = λ i less own. elim (cases_lt i k) [
-      | inl before ↦ set_other lists (net_at p k) log in_lists (net_at p i) (λ e. absurd (omega (arith, AllPairs-from_increasing p.nets up i k 0 before in_nets, e))) ∙ given.own i before own
+      | inl before ↦ put_other lists (net_at p k) log (net_at p i) (λ e. absurd (omega (arith, AllPairs-from_increasing p.nets up i k 0 before in_nets, e))) ∙ given.own i before own
       | inr past ↦
           (let same : k ≡ i = omega (arith, less, past) in
-          subst (λ j. wave_of (lists_in (set lists (net_at p k) log)) (net_at p j) ≡ log_at logs j) same (set_here lists (net_at p k) log in_lists ∙ is))
+          subst (λ j. wave_of (lists_in (set lists (net_at p k) log)) (net_at p j) ≡ log_at logs j) same (put_here lists (net_at p k) log in_lists ∙ is))
     ];
-    others = λ n apart. set_other lists (net_at p k) log in_lists n (λ e. apart k (omega arith) here (sym e)) ∙ given.others n (λ i less. apart i (omega (arith, less)));
+    others = λ n apart. put_other lists (net_at p k) log n (λ e. apart k (omega arith) here (sym e)) ∙ given.others n (λ i less. apart i (omega (arith, less)));
   }
 
   pub given_more : (k net : ℕ) (lists : List (Vec Change Global)) (log : Vec Change Global) → net ≡ net_at p k → k < length p.nets → net < length lists → IsOwnAt p k → log.items ≡ log_at logs k

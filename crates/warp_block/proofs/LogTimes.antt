@@ -1,13 +1,14 @@
 -- What lies before a time, and from it on, in a log.
-use Rattle.std.proofs.Common.{◌≡◌, ℕ, zero, suc, ◌-◌, ◌<◌, ◌≤◌, Bool, true, false, cond, List, [], ◌∷◌, length, get_or, take, drop, Some, None, IsSome, refl, sym, subst, arith, nat_lt, nat_le, nat_eq}
+use Rattle.std.proofs.Common.{◌≡◌, ℕ, zero, suc, ◌-◌, ◌<◌, ◌≤◌, Bool, true, false, cond, List, [], ◌∷◌, length, get_or, take, drop, Some, None, IsSome, inl, inr, refl, ap, ◌∙◌, sym, subst, arith, nat_lt, nat_le, nat_eq}
 use Rattle.std.specs.List.Sorted.{IsPartitionPoint}
-use Rattle.std.proofs.lemmas.Bool.{false≢true, lt-ltb, le-ltb, le-leb, lt-leb, eq-eqb, eqb-true}
+use Rattle.std.proofs.lemmas.Bool.{cases_lt, false≢true, lt-ltb, le-ltb, le-leb, lt-leb, eq-eqb, eqb-true}
+use Rattle.std.proofs.lemmas.List.{get_or_default, take_all}
 use Rattle.gate_values.specs.declared.logic.Logic.{Logic}
 use Rattle.gate_values.specs.declared.logic.Logic.TheVariants.{X}
 use Rattle.gate_values.specs.declared.logic.Change.{Change}
 use Rattle.gate_values.specs.Changes.{before_time, latest, last_value, pair_at}
 use Rattle.warp_block.specs.View.{IsLeast}
-use Rattle.warp_block.specs.Inner.Logs.{IsLog}
+use Rattle.warp_block.specs.Inner.Logs.{IsLog, last_change}
 use Rattle.warp_block.specs.Inner.Step.{since_time}
 use Rattle.warp_block.proofs.Rising.{not_below, least_rising, filter-front, filter-rest}
 
@@ -73,3 +74,31 @@ next_change-none cs t i split l u h =
     let d : Change = record { time = 0; value = X } in
     let le : i ≤ r.0 = not_below time_of cs t i r.0 d split (subst (λ (k : ℕ). t ≤ k) (sym (r.2 d)) h.0) in
     absurd (omega (arith, r.1))
+
+-- the last change has the value that a log leaves
+pub last_change-value : (cs : List Change) → (last_change cs).value ≡ last_value X cs
+last_change-value [] = refl
+last_change-value (c ∷ cs) = last_value-last X (c ∷ cs) (record { time = 0; value = X }) (omega arith)
+
+-- no change is after the last
+by_last : (cs : List Change) → IsLog cs → (k : ℕ) (d : Change) → k < length cs → (get_or cs k d).time ≤ (last_change cs).time
+by_last cs log k d l =
+    let end : (get_or cs (length cs - 1) d).time ≡ (last_change cs).time = ap time_of (get_or_default cs (length cs - 1) d (record { time = 0; value = X }) (omega (arith, l))) in
+    elim (cases_lt k (length cs - 1)) [
+      | inl less ↦ (let before = log.in_order k (length cs - 1) d less (omega (arith, l)) in omega (arith, before, end))
+      | inr more ↦ (let same : k ≡ length cs - 1 = omega (arith, l, more) in
+          let here : (get_or cs k d).time ≡ (last_change cs).time = ap (λ i. (get_or cs i d).time) same ∙ end in
+          omega (arith, here))
+    ]
+
+-- from the last change on, the value is its
+pub latest-last : (cs : List Change) (t : ℕ) → IsLog cs → (last_change cs).time ≤ t → (last_change cs).value ≡ latest X cs t
+latest-last cs t log past =
+    last_change-value cs
+    ∙ (ap (last_value X) (sym (take_all (length cs) cs (omega arith)))
+    ∙ latest-take X cs t (length cs) (λ k d a b. (let h = by_last cs log k d b in omega (arith, h, past)), λ k d a b. absurd (omega (arith, a, b))))
+
+-- past the last change there is none
+pub next_change-past : (cs : List Change) (t : ℕ) → IsLog cs → (last_change cs).time < t → IsLeast (λ u. (t ≤ u) × IsSome (pair_at cs u)) None
+next_change-past cs t log past =
+    next_change-none cs t (length cs) (λ k d a b. (let h = by_last cs log k d b in omega (arith, h, past)), λ k d a b. absurd (omega (arith, a, b))) (omega arith)

@@ -2,8 +2,6 @@
 use Rattle.std.proofs.Common.{◌≡◌, ◌≢◌, ℕ, zero, suc, ◌+◌, ◌++◌, ◌<◌, ◌≤◌, ◌⊎◌, ◌||◌, ◌==◌, Bool, true, false, inl, inr, List, [], ◌∷◌, take, length, set, get_or, refl, ap, sym, ◌∙◌, subst, arith}
 use Rattle.std.specs.List.{All, flat_map}
 use Rattle.std.specs.List.Sorted.{IsStrictlyIncreasing}
-use Rattle.std.specs.declared.vec.Vec.{Vec}
-use Rattle.std.specs.declared.alloc.Global.{Global}
 use Rattle.std.proofs.lemmas.Bool.{cases_Bool, cases_eq, eq-eqb, ne_eqb, true≢false, or_right}
 use Rattle.std.proofs.lemmas.List.{append-nil, append_assoc, take_more}
 use Rattle.std.proofs.lemmas.List.Concat.{flat_map-append}
@@ -16,7 +14,6 @@ use Rattle.warp_block.specs.declared.message.Message.{Message}
 use Rattle.warp_block.specs.declared.message.Sign.{Sign}
 use Rattle.warp_block.specs.Inner.Building.{has}
 use Rattle.warp_block.specs.Portion.{Portion}
-use Rattle.warp_block.specs.Inner.Held.{lists_in}
 use Rattle.warp_block.specs.Inner.Step.{net_at, log_at, sent, told, told_of, with_emitted, emitted, AreStepped, IsEmitted, IsPartlyEmitted, source_at}
 use Rattle.warp_block.proofs.Emitting.{set_here, set_other}
 use Rattle.warp_block.proofs.Listing.{has_at, has_below, has-next, has-more}
@@ -91,18 +88,18 @@ module _ (step : ℕ → List Change → List Change) (places : List ℕ) (up : 
   still j before logs l s = s.kept (get_or places j 0) (has-next places j up l)
 
   -- one place more has made its step
-  pub AreStepped-more : (j : ℕ) (before : List (List Change)) (logs : List (Vec Change Global)) (row row' : Vec Change Global) → j < length places → get_or places j 0 < length logs →
-      log_at (lists_in logs) (get_or places j 0) ≡ row.items → AreStepped step (take j places) before (lists_in logs) → row'.items ≡ step (get_or places j 0) row.items →
-      AreStepped step (take (j + 1) places) before (lists_in (set logs (get_or places j 0) row'))
+  pub AreStepped-more : (j : ℕ) (before : List (List Change)) (logs : List (List Change)) (row row' : List Change) → j < length places → get_or places j 0 < length logs →
+      log_at logs (get_or places j 0) ≡ row → AreStepped step (take j places) before logs → row' ≡ step (get_or places j 0) row →
+      AreStepped step (take (j + 1) places) before (set logs (get_or places j 0) row')
   AreStepped-more j before logs row row' l h at s is = record {
     done = λ i got. elim (cases_eq i (get_or places j 0)) [
-      | inl here ↦ subst (λ k. log_at (lists_in (set logs (get_or places j 0) row')) k ≡ step k (log_at before k)) (sym here)
-          (set_here logs (get_or places j 0) row' h ∙ (is ∙ ap (step (get_or places j 0)) (sym at ∙ still j before (lists_in logs) l s)))
-      | inr there ↦ set_other logs (get_or places j 0) row' h i there ∙ s.done i (was i there got)
+      | inl here ↦ subst (λ k. log_at (set logs (get_or places j 0) row') k ≡ step k (log_at before k)) (sym here)
+          (set_here logs (get_or places j 0) row' h ∙ (is ∙ ap (step (get_or places j 0)) (sym at ∙ still j before logs l s)))
+      | inr there ↦ set_other logs (get_or places j 0) row' i there ∙ s.done i (was i there got)
     ];
     kept = λ i none. elim (cases_eq i (get_or places j 0)) [
       | inl here ↦ absurd (true≢false (sym (has-more places j i l ∙ or_right (has (take j places) i) (get_or places j 0 == i) (eq-eqb (get_or places j 0) i (sym here))) ∙ none))
-      | inr there ↦ set_other logs (get_or places j 0) row' h i there ∙ s.kept i (sym (same_has i there) ∙ none)
+      | inr there ↦ set_other logs (get_or places j 0) row' i there ∙ s.kept i (sym (same_has i there) ∙ none)
     ];
   }
     where
@@ -117,18 +114,18 @@ module _ (step : ℕ → List Change → List Change) (places : List ℕ) (up : 
       was i ne got = sym (same_has i ne) ∙ got
 
   -- where a place's turn failed, it is as before
-  pub AreStepped-same : (j : ℕ) (before : List (List Change)) (logs : List (Vec Change Global)) (row row' : Vec Change Global) → j < length places → get_or places j 0 < length logs →
-      log_at (lists_in logs) (get_or places j 0) ≡ row.items → AreStepped step (take j places) before (lists_in logs) → row'.items ≡ row.items →
-      AreStepped step (take j places) before (lists_in (set logs (get_or places j 0) row'))
+  pub AreStepped-same : (j : ℕ) (before : List (List Change)) (logs : List (List Change)) (row row' : List Change) → j < length places → get_or places j 0 < length logs →
+      log_at logs (get_or places j 0) ≡ row → AreStepped step (take j places) before logs → row' ≡ row →
+      AreStepped step (take j places) before (set logs (get_or places j 0) row')
   AreStepped-same j before logs row row' l h at s same = record {
     done = λ i got. unchanged i ∙ s.done i got;
     kept = λ i none. unchanged i ∙ s.kept i none;
   }
     where
-      unchanged : (i : ℕ) → log_at (lists_in (set logs (get_or places j 0) row')) i ≡ log_at (lists_in logs) i
+      unchanged : (i : ℕ) → log_at (set logs (get_or places j 0) row') i ≡ log_at logs i
       unchanged i = elim (cases_eq i (get_or places j 0)) [
-        | inl here ↦ subst (λ k. log_at (lists_in (set logs (get_or places j 0) row')) k ≡ log_at (lists_in logs) k) (sym here) (set_here logs (get_or places j 0) row' h ∙ (same ∙ sym at))
-        | inr other ↦ set_other logs (get_or places j 0) row' h i other
+        | inl here ↦ subst (λ k. log_at (set logs (get_or places j 0) row') k ≡ log_at logs k) (sym here) (set_here logs (get_or places j 0) row' h ∙ (same ∙ sym at))
+        | inr other ↦ set_other logs (get_or places j 0) row' i other
       ]
 
 -- Where other places emit nothing, what some places have emitted is all.
@@ -156,16 +153,16 @@ IsPartlyEmitted-from p m s horizon places before logs stepped i = elim (cases_Bo
 ]
 
 -- one place more has logged nothing, or is found
-pub AreFound-more : (p : Portion) (s i : ℕ) (before : List (List Change)) (logs : List (Vec Change Global)) (row row' : Vec Change Global) (places places' : ℕ → List ℕ) (notes notes' : List Note) → i < length logs →
-    log_at (lists_in logs) i ≡ row.items → log_at (lists_in logs) i ≡ log_at before i → AreFound p s before (lists_in logs) places notes →
-    IsGrown (length p.nets) places places' → IsNotedMore (length p.nets) s notes notes' → (row'.items ≡ row.items) ⊎ IsFound p s i places' notes' → AreFound p s before (lists_in (set logs i row')) places' notes'
+pub AreFound-more : (p : Portion) (s i : ℕ) (before : List (List Change)) (logs : List (List Change)) (row row' : List Change) (places places' : ℕ → List ℕ) (notes notes' : List Note) → i < length logs →
+    log_at logs i ≡ row → log_at logs i ≡ log_at before i → AreFound p s before logs places notes →
+    IsGrown (length p.nets) places places' → IsNotedMore (length p.nets) s notes notes' → (row' ≡ row) ⊎ IsFound p s i places' notes' → AreFound p s before (set logs i row') places' notes'
 AreFound-more p s i before logs row row' places places' notes notes' h at same found grown noted now k = elim (cases_eq k i) [
   | inl here ↦ (elim now [
-    | inl still_ ↦ inl (subst (λ k. log_at (lists_in (set logs i row')) k ≡ log_at before k) (sym here) (set_here logs i row' h ∙ (still_ ∙ (sym at ∙ same))))
+    | inl still_ ↦ inl (subst (λ k. log_at (set logs i row') k ≡ log_at before k) (sym here) (set_here logs i row' h ∙ (still_ ∙ (sym at ∙ same))))
     | inr f ↦ inr (subst (λ k. IsFound p s k places' notes') (sym here) f)
   ])
   | inr there ↦ (elim (found k) [
-    | inl still_ ↦ inl (set_other logs i row' h k there ∙ still_)
+    | inl still_ ↦ inl (set_other logs i row' k there ∙ still_)
     | inr f ↦ inr (grown.kept (s + source_delay (source_at p k)) k f.0, noted.kept s k f.1)
   ])
 ]

@@ -31,6 +31,10 @@ use Rattle.warp_block.proofs.Quiet.{quiet_log_to}
 pub row_at : {T : Type 0} → (vs : List (Vec T Global)) (i : ℕ) (v : Vec T Global) → i < length vs → v ≡ get_or vs i v → get_or (lists_in vs) i [] ≡ v.items
 row_at {T} vs i v h e = get_or-map (λ (v : Vec T Global). v.items) vs i v [] h ∙ ap (λ (w : Vec T Global). w.items) (sym e)
 
+-- an element of a list of lists
+pub list_at : {T : Type 0} → (ls : List (List T)) (i : ℕ) (l : List T) → i < length ls → l ≡ get_or ls i l → get_or ls i [] ≡ l
+list_at ls i l h e = get_or_default ls i [] l h ∙ sym e
+
 pub same_least : (P Q : ℕ → Type 0) (r : Option ℕ) → ((t : ℕ) → P t → Q t) → ((t : ℕ) → Q t → P t) → IsLeast P r → IsLeast Q r
 same_least P Q None to back h = λ t q. h t (back t q)
 same_least P Q (Some t) to back h = (to t h.0, λ u q. h.1 u (back u q))
@@ -112,10 +116,9 @@ module _ (v : View) (is : IsLawful v) (i : ℕ) (in_nets : i < length v.part.net
 pub queues_kept : (vs : List (Vec Received Global)) (i : ℕ) (was kept : Vec Received Global) → was ≡ get_or vs i was → kept.items ≡ was.items → lists_in (set vs i kept) ≡ lists_in vs
 queues_kept vs i was kept at same = map-set_same (λ (v : Vec Received Global). v.items) vs i kept was (same ∙ ap (λ (v : Vec Received Global). v.items) at)
 
--- as many vectors as there are logs
-pub rows_len : (look : Inside) → IsLawful (view_of look) → (vs : List (Vec Change Global)) → length vs ≡ length look.logs.items → length (lists_in vs) ≡ length look.part.nets
-rows_len look is vs e =
-    length-map vs (λ (v : Vec Change Global). v.items) ∙ (e ∙ (sym (length-map look.logs.items (λ (v : Vec Change Global). v.items)) ∙ logs_len (view_of look) is))
+-- as many lists as there are logs
+pub rows_len : (look : Inside) → IsLawful (view_of look) → (logs : List (List Change)) → length logs ≡ length look.logs.items → length logs ≡ length look.part.nets
+rows_len look is logs e = e ∙ logs_len (view_of look) is
 
 -- a place of what contracts see is one of the fields
 pub in_part : (look : Inside) (v : View) (i : ℕ) → view_of look ≡ v → i < length v.part.nets → i < length look.part.nets
@@ -133,10 +136,10 @@ module _ (look : Inside) (is : IsLawful (view_of look)) (i : ℕ) (in_nets : i <
   in_queues = omega (arith, is.queues, length-map look.queues.items (λ (v : Vec Received Global). v.items))
 
   pub in_logs : i < length look.logs.items
-  in_logs = omega (arith, ap length is.logs, length-map look.part.nets (lawful_log (view_of look)), length-map look.logs.items (λ (v : Vec Change Global). v.items))
+  in_logs = omega (arith, logs_len (view_of look) is)
 
   pub queue_row : (v : Vec Received Global) → v ≡ get_or look.queues.items i v → get_or (lists_in look.queues.items) i [] ≡ v.items
   queue_row v e = row_at look.queues.items i v in_queues e
 
-  pub log_row : (v : Vec Change Global) → v ≡ get_or look.logs.items i v → get_or (lists_in look.logs.items) i [] ≡ v.items
-  log_row v e = row_at look.logs.items i v in_logs e
+  pub log_row : (log : List Change) → log ≡ get_or look.logs.items i log → get_or look.logs.items i [] ≡ log
+  log_row log e = list_at look.logs.items i log in_logs e

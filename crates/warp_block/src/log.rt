@@ -1,15 +1,150 @@
-ghost use Rattle.std.specs.Prelude.{◌≡◌, ◌<◌, ◌≤◌, IfOk, IsSome, length};
+ghost use Rattle.std.specs.Prelude.{◌≡◌, ◌<◌, ◌≤◌, ◌++◌, [], ◌∷◌, IfOk, OnOk, OnErr, IsSome, length};
 ghost use Rattle.std.specs.List.{AllWithin};
 ghost use Rattle.std.specs.List.Sorted.{IsPartitionPoint};
 ghost use Rattle.gate_values.specs.declared.logic.Logic.TheVariants.{X};
 ghost use Rattle.gate_values.specs.Changes.{latest, last_value as value_after, pair_at, before_time};
 ghost use Rattle.warp_block.specs.View.{IsLeast};
-ghost use Rattle.warp_block.specs.Inner.Held.{lists_in};
-ghost use Rattle.warp_block.specs.Inner.Logs.{IsLog};
+ghost use Rattle.warp_block.specs.Inner.Logs.{IsLog, last_change};
 ghost use Rattle.warp_block.specs.Inner.Step.{since_time};
 
 use gate_values::{Change, Logic};
 use std::alloc::{AllocError, Global};
+use std::marker::Model;
+use std::mem;
+
+/// The changes of a net, and the last of them beside: what a log leaves in the end is read without a look at its list,
+/// which may lie anywhere in memory.
+#[derive(Debug, Drop)]
+pub(crate) struct Log {
+    changes: Vec<Change>,
+    last: Change,
+}
+
+impl Model for Log {
+    ghost use Rattle.std.specs.Prelude.{◌≡◌, List};
+    ghost use Rattle.gate_values.specs.declared.logic.Change.{Change};
+    ghost use Rattle.warp_block.specs.Inner.Logs.{last_change};
+
+    ghost Value = { List Change };
+
+    ghost view = { λ log. log.changes.items };
+
+    ghost invariant = { λ log. log.last ≡ last_change log.changes.items };
+}
+
+impl Log {
+    /// A log without changes.
+    pub(crate) fn new(alloc: Global) -> Log
+        ensures { result ≡ [] }
+    {
+        Log {
+            changes: Vec::new(alloc),
+            last: NO_CHANGE,
+        }
+    }
+
+    /// The changes.
+    pub(crate) fn changes(&self) -> &[Change]
+        ensures { result.now ≡ self.now }
+    {
+        &self.changes
+    }
+
+    /// The value that the log leaves in the end.
+    pub(crate) fn last_value(&self) -> Logic
+        ensures { result ≡ value_after X self.now }
+    {
+        self.last.value
+    }
+
+    /// The value that the log gives at a time.
+    pub(crate) fn value_at(&self, time: u64) -> Logic
+        requires { IsLog self.now }
+        ensures { result ≡ latest X self.now time }
+    {
+        if self.last.time <= time {
+            return self.last.value;
+        }
+        let count = count_until(&self.changes, time);
+        last_change(&self.changes[..count]).value
+    }
+
+    /// The time of the first change from a time on.
+    pub(crate) fn next_change(&self, from: u64) -> Option<u64>
+        requires { IsLog self.now }
+        ensures { IsLeast (λ t. (from ≤ t) × IsSome (pair_at self.now t)) result }
+    {
+        if self.last.time < from {
+            return None;
+        }
+        let change = self.changes.get(count_before(&self.changes, from))?;
+        Some(change.time)
+    }
+
+    /// The changes from a time on.
+    pub(crate) fn from_time(&self, end: u64) -> &[Change]
+        requires { IsLog self.now }
+        ensures { result.now ≡ since_time end self.now }
+    {
+        &self.changes[count_before(&self.changes, end)..]
+    }
+
+    /// Logs one change more. After an error the log is as it was.
+    pub(crate) fn push(&mut self, change: Change) -> Result<(), AllocError>
+        ensures ok { OnOk result (self.new ≡ self.old ++ change ∷ []) }
+        ensures err { OnErr result (self.new ≡ self.old) }
+    {
+        self.changes.push(change)?;
+        self.last = change;
+        Ok(())
+    }
+
+    /// Takes back the changes from a time on.
+    pub(crate) fn cut(&mut self, end: u64)
+        requires { IsLog self.old }
+        ensures { self.new ≡ before_time end self.old }
+    {
+        let count = count_before(&self.changes, end);
+        self.changes.truncate(count);
+        self.last = last_change(&self.changes);
+    }
+
+    /// Puts the changes into a list, and takes what was there for them.
+    pub(crate) fn swap(&mut self, list: &mut Vec<Change>)
+        ensures given { list.new.items ≡ self.old }
+        ensures taken { self.new ≡ list.old.items }
+    {
+        mem::swap(&mut self.changes, list);
+        self.last = last_change(&self.changes);
+    }
+
+    /// A copy.
+    fn copy(&self, alloc: Global) -> Result<Log, AllocError>
+        ensures { IfOk result (λ copy. copy ≡ self.now) }
+    {
+        let changes = Vec::from_slice(alloc, &self.changes)?;
+        Ok(Log {
+            changes,
+            last: self.last,
+        })
+    }
+}
+
+/// What stands for the last change where there is none.
+const NO_CHANGE: Change = Change {
+    time: 0,
+    value: Logic::X,
+};
+
+/// The last of some changes.
+fn last_change(changes: &[Change]) -> Change
+    ensures { result ≡ last_change changes.now }
+{
+    match changes.last() {
+        Some(change) => *change,
+        None => NO_CHANGE,
+    }
+}
 
 /// A place before which no change of a log is past a time. It is at most twice as far from the end as the last of these,
 /// so what stands near the end is found in a few steps, however long the log is.
@@ -51,57 +186,13 @@ fn count_before(log: &[Change], time: u64) -> usize
     }
 }
 
-/// The value that a log leaves in the end.
-pub(crate) fn last_value(log: &[Change]) -> Logic
-    ensures { result ≡ value_after X log.now }
-{
-    match log.last() {
-        Some(change) => change.value,
-        None => Logic::X,
-    }
-}
-
-/// The value that a log gives at a time.
-pub(crate) fn value_at(log: &[Change], time: u64) -> Logic
-    requires { IsLog log.now }
-    ensures { result ≡ latest X log.now time }
-{
-    last_value(&log[..count_until(log, time)])
-}
-
-/// The time of the first change of a log from a time on.
-pub(crate) fn next_change(log: &[Change], from: u64) -> Option<u64>
-    requires { IsLog log.now }
-    ensures { IsLeast (λ t. (from ≤ t) × IsSome (pair_at log.now t)) result }
-{
-    let change = log.get(count_before(log, from))?;
-    Some(change.time)
-}
-
-/// The changes of a log from a time on.
-pub(crate) fn from_time(log: &[Change], end: u64) -> &[Change]
-    requires { IsLog log.now }
-    ensures { result.now ≡ since_time end log.now }
-{
-    &log[count_before(log, end)..]
-}
-
-/// Takes back the changes of a log from a time on.
-pub(crate) fn cut(log: &mut Vec<Change>, end: u64)
-    requires { IsLog log.old.items }
-    ensures { log.new.items ≡ before_time end log.old.items }
-{
-    let count = count_before(log, end);
-    log.truncate(count);
-}
-
 /// Copies of some logs.
-pub(crate) fn copies(alloc: Global, logs: &[Vec<Change>]) -> Result<Vec<Vec<Change>>, AllocError>
-    ensures { IfOk result (λ copies. lists_in copies.items ≡ lists_in logs.now) }
+pub(crate) fn copies(alloc: Global, logs: &[Log]) -> Result<Vec<Log>, AllocError>
+    ensures { IfOk result (λ copies. copies.items ≡ logs.now) }
 {
     let mut copies = Vec::with_capacity(alloc, logs.len())?;
     for log in logs {
-        copies.push(Vec::from_slice(alloc, log)?)?;
+        copies.push(log.copy(alloc)?)?;
     }
     Ok(copies)
 }

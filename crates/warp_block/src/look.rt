@@ -21,6 +21,7 @@ mod pass;
 mod start;
 
 use crate::entry::Entry;
+use crate::log::Log;
 use crate::message::Message;
 use crate::part::Part;
 use crate::timed::Timed;
@@ -42,7 +43,7 @@ pub struct Look {
     mark: u64,
     floor: u64,
     queues: Vec<Vec<Timed>>,
-    logs: Vec<Vec<Change>>,
+    logs: Vec<Log>,
 }
 
 impl Model for Look {
@@ -161,7 +162,7 @@ impl Look {
         ensures { result.now ≡ log_of self.now net }
     {
         match self.part.slot(net) {
-            Some(slot) => &self.logs[slot],
+            Some(slot) => self.logs[slot].changes(),
             None => &[],
         }
     }
@@ -210,7 +211,7 @@ impl Look {
         ensures { IsLeast (λ t. (from ≤ t) × IsSome (news_of self.now (slice_index self.now.part.nets slot) t)) result }
     {
         if self.part.is_own(slot) {
-            log::next_change(&self.logs[slot], from)
+            self.logs[slot].next_change(from)
         } else {
             queue::next_effective(&self.queues[slot], from)
         }
@@ -224,7 +225,7 @@ impl Look {
         ensures { result ≡ block_value self.now (slice_index self.now.part.nets slot) time }
     {
         if self.part.is_own(slot) {
-            log::value_at(&self.logs[slot], time)
+            self.logs[slot].value_at(time)
         } else {
             queue::held_at(&self.queues[slot], time)
         }

@@ -15,5 +15,5 @@ view_of look = record {
   mark = look.mark;
   floor = look.floor;
   queues = lists_in look.queues.items;
-  logs = lists_in look.logs.items;
+  logs = look.logs.items;
 }

@@ -13,14 +13,13 @@ ghost use Rattle.warp_block.specs.Inner.Moments.{moment_of};
 ghost use Rattle.warp_block.specs.Lawful.{IsSaved};
 ghost use Rattle.warp_block.specs.Sends.{SendsOnce};
 ghost use Rattle.warp_block.specs.Inner.Advance.{IsQuiet};
-ghost use Rattle.warp_block.specs.Inner.Held.{lists_in};
 ghost use Rattle.warp_block.specs.Inner.Step.{source_at, net_at, log_at, emitted, sent, with_emitted, told_of, Extends, AreStepped};
 
 use super::Look;
 use super::late::cut;
 use crate::agenda::Agenda;
 use crate::journal::Journal;
-use crate::log;
+use crate::log::Log;
 use crate::message::{Message, Sign};
 use crate::part::Part;
 use gate_values::{Change, Logic};
@@ -92,7 +91,7 @@ fn emit_woken(
     gates: &[u32],
     values: &[Logic],
     contents: &[Logic],
-    logs: &mut Vec<Vec<Change>>,
+    logs: &mut Vec<Log>,
     time: u64,
     horizon: u64,
     agenda: &mut Agenda,
@@ -107,11 +106,11 @@ fn emit_woken(
     requires time { time ≤ horizon }
     requires horizon { horizon ≤ most_horizon }
     requires earlier { (t i : ℕ) → IsTrue (has_note journal.old.notes.items t i) → t ≤ time }
-    ensures ok { OnOk result (AreStepped (with_emitted part.now (moment_of part.now.nets values.now contents.now) time horizon) gates.now (lists_in logs.old.items) (lists_in logs.new.items)) }
+    ensures ok { OnOk result (AreStepped (with_emitted part.now (moment_of part.now.nets values.now contents.now) time horizon) gates.now logs.old.items logs.new.items) }
     ensures sends { OnOk result (out.new.items ≡ out.old.items ++ told_of Plus part.now
-        (λ i. emitted part.now (moment_of part.now.nets values.now contents.now) i (log_at (lists_in logs.old.items) i) time horizon) gates.now) }
-    ensures found { OnOk result (AreFound part.now time (lists_in logs.old.items) (lists_in logs.new.items) (places_at agenda.new.times) journal.new.notes.items) }
-    ensures err { OnErr result ((j : ℕ) × (j ≤ length gates.now) × AreStepped (with_emitted part.now (moment_of part.now.nets values.now contents.now) time horizon) (take j gates.now) (lists_in logs.old.items) (lists_in logs.new.items)) }
+        (λ i. emitted part.now (moment_of part.now.nets values.now contents.now) i (log_at logs.old.items i) time horizon) gates.now) }
+    ensures found { OnOk result (AreFound part.now time logs.old.items logs.new.items (places_at agenda.new.times) journal.new.notes.items) }
+    ensures err { OnErr result ((j : ℕ) × (j ≤ length gates.now) × AreStepped (with_emitted part.now (moment_of part.now.nets values.now contents.now) time horizon) (take j gates.now) logs.old.items logs.new.items) }
     ensures listed { IsGrown (length part.now.nets) (places_at agenda.old.times) (places_at agenda.new.times) }
     ensures noted { IsNotedMore (length part.now.nets) time journal.old.notes.items journal.new.notes.items }
     ensures extends { Extends out.old.items out.new.items }
@@ -143,7 +142,7 @@ fn next_change(
     values: &[Logic],
     contents: &[Logic],
     operands: &mut Vec<Logic>,
-    log: &[Change],
+    log: &Log,
     time: u64,
     horizon: u64,
 ) -> Result<Option<Change>, AllocError>
@@ -163,7 +162,7 @@ fn next_change(
         return Ok(None);
     }
     let value = part.output(slot, values, contents, operands)?;
-    if value == log::last_value(log) {
+    if value == log.last_value() {
         return Ok(None);
     }
     Ok(Some(Change { time, value }))
@@ -175,7 +174,7 @@ fn put_change(
     place: u32,
     change: Option<Change>,
     time: u64,
-    log: &mut Vec<Change>,
+    log: &mut Log,
     agenda: &mut Agenda,
     journal: &mut Journal,
     out: &mut Vec<Message>,
@@ -183,10 +182,10 @@ fn put_change(
     requires place { place < length part.now.nets }
     requires later { IfSome change (λ c. c.time ≡ time + source_delay (source_at part.now place)) }
     requires earlier { (t i : ℕ) → IsTrue (has_note journal.old.notes.items t i) → t ≤ time }
-    ensures log { OnOk result (log.new.items ≡ log.old.items ++ option_to_list change) }
+    ensures log { OnOk result (log.new ≡ log.old ++ option_to_list change) }
     ensures sends { OnOk result (out.new.items ≡ out.old.items ++ flat_map (sent Plus (net_at part.now place) (get_or part.now.readers place [])) (option_to_list change)) }
-    ensures found { OnOk result ((log.new.items ≡ log.old.items) ⊎ IsFound part.now time place (places_at agenda.new.times) journal.new.notes.items) }
-    ensures err { OnErr result (log.new.items ≡ log.old.items) }
+    ensures found { OnOk result ((log.new ≡ log.old) ⊎ IsFound part.now time place (places_at agenda.new.times) journal.new.notes.items) }
+    ensures err { OnErr result (log.new ≡ log.old) }
     ensures listed { IsGrown (length part.now.nets) (places_at agenda.old.times) (places_at agenda.new.times) }
     ensures noted { IsNotedMore (length part.now.nets) time journal.old.notes.items journal.new.notes.items }
     ensures extends { Extends out.old.items out.new.items }

@@ -6,9 +6,9 @@ ghost use Rattle.warp_block.specs.View.{log_of};
 ghost use Rattle.warp_block.specs.Inner.Give.{AreGiven};
 
 use super::Look;
+use crate::log::Log;
 use crate::part::Part;
 use gate_values::Change;
-use std::mem;
 
 impl Look {
     /// Gives the log of each own net to its place among lists that have one for each net of the circuit; what stood
@@ -25,11 +25,11 @@ impl Look {
 }
 
 /// Puts the log of each own net in the place of the net's list.
-fn give(part: &Part, mut logs: Vec<Vec<Change>>, lists: &mut Vec<Vec<Change>>)
+fn give(part: &Part, mut logs: Vec<Log>, lists: &mut Vec<Vec<Change>>)
     requires places { All (λ net. net < vec_len lists.old) part.now.nets }
     requires logs { vec_len logs ≡ length part.now.nets }
     ensures len { vec_len lists.new ≡ vec_len lists.old }
-    ensures given { AreGiven part.now (lists_in logs.items) (length part.now.nets) (lists_in lists.old.items) (lists_in lists.new.items) }
+    ensures given { AreGiven part.now logs.items (length part.now.nets) (lists_in lists.old.items) (lists_in lists.new.items) }
 {
     part.law();
     for slot in 0..part.len() {
@@ -37,6 +37,6 @@ fn give(part: &Part, mut logs: Vec<Vec<Change>>, lists: &mut Vec<Vec<Change>>)
             continue;
         }
         let net = part.net(slot) as usize;
-        mem::swap(&mut lists[net], &mut logs[slot]);
+        logs[slot].swap(&mut lists[net]);
     }
 }

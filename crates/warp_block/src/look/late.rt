@@ -12,7 +12,6 @@ ghost use Rattle.warp_block.specs.Sends.{SendsOnce};
 ghost use Rattle.warp_block.specs.Inner.Receive.{IsPut};
 ghost use Rattle.warp_block.specs.Inner.Agenda.{places_at};
 ghost use Rattle.warp_block.specs.Inner.Index.{IsIndexed, IsNoted, IsRestEarly};
-ghost use Rattle.warp_block.specs.Inner.Held.{lists_in};
 ghost use Rattle.warp_block.specs.Inner.Step.{source_at, log_at, since_time, told_of, cut_from, Extends, AreStepped};
 
 use super::Look;
@@ -20,10 +19,10 @@ use super::emit::tell;
 use crate::agenda::Agenda;
 use crate::entry::Entry;
 use crate::journal::Journal;
+use crate::log::Log;
 use crate::message::{Message, Sign};
 use crate::part::Part;
-use crate::{log, queue};
-use gate_values::Change;
+use crate::queue;
 use std::alloc::AllocError;
 
 impl Look {
@@ -152,19 +151,19 @@ impl Look {
 }
 
 /// Takes back what some places logged because of a time or later ones.
-pub(super) fn cut(part: &Part, places: &[u32], logs: &mut Vec<Vec<Change>>, mark: u64)
+pub(super) fn cut(part: &Part, places: &[u32], logs: &mut Vec<Log>, mark: u64)
     requires places { All (λ place. place < length part.now.nets) places.now }
     requires rising { IsStrictlyIncreasing places.now }
     requires logs { vec_len logs.old ≡ length part.now.nets }
-    requires logged { All IsLog (lists_in logs.old.items) }
+    requires logged { All IsLog logs.old.items }
     requires mark { mark ≤ most_horizon }
-    ensures logs { AreStepped (cut_from part.now mark) places.now (lists_in logs.old.items) (lists_in logs.new.items) }
+    ensures logs { AreStepped (cut_from part.now mark) places.now logs.old.items logs.new.items }
     ensures len { vec_len logs.new ≡ vec_len logs.old }
 {
     for place in places {
         let slot = *place as usize;
         let end = mark + part.delay(slot);
-        log::cut(&mut logs[slot], end);
+        logs[slot].cut(end);
     }
 }
 
@@ -172,22 +171,22 @@ pub(super) fn cut(part: &Part, places: &[u32], logs: &mut Vec<Vec<Change>>, mark
 fn take_back(
     part: &Part,
     places: &[u32],
-    logs: &[Vec<Change>],
+    logs: &[Log],
     mark: u64,
     out: &mut Vec<Message>,
 ) -> Result<(), AllocError>
     requires places { All (λ place. place < length part.now.nets) places.now }
     requires logs { length logs.now ≡ length part.now.nets }
-    requires logged { All IsLog (lists_in logs.now) }
+    requires logged { All IsLog logs.now }
     requires mark { mark ≤ most_horizon }
     ensures ok { OnOk result (out.new.items ≡ out.old.items ++ told_of Minus part.now
-        (λ i. since_time (mark + source_delay (source_at part.now i)) (log_at (lists_in logs.now) i)) places.now) }
+        (λ i. since_time (mark + source_delay (source_at part.now i)) (log_at logs.now i)) places.now) }
     ensures extends { Extends out.old.items out.new.items }
 {
     for place in places {
         let slot = *place as usize;
         let end = mark + part.delay(slot);
-        let late = log::from_time(&logs[slot], end);
+        let late = logs[slot].from_time(end);
         tell(part.readers(slot), part.net(slot), late, Sign::Minus, out)?;
     }
     Ok(())

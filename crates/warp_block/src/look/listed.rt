@@ -19,7 +19,7 @@ impl Look {
         let mut agenda = Agenda::new(*self.queues.allocator());
         for slot in 0..self.part.len() {
             list_entries(slot as u32, &self.queues[slot], &mut agenda)?;
-            list_changes(slot as u32, &self.logs[slot], &mut agenda)?;
+            list_changes(slot as u32, self.logs[slot].changes(), &mut agenda)?;
         }
         Ok(agenda)
     }

@@ -4,11 +4,11 @@ ghost use Rattle.warp_block.specs.declared.message.Sign.TheVariants.{Plus};
 ghost use Rattle.warp_block.specs.Opening.{initial_log};
 ghost use Rattle.warp_block.specs.Inner.StateLists.{now_of, saved_by, FitTogether};
 ghost use Rattle.warp_block.specs.Lawful.{IsSaved};
-ghost use Rattle.warp_block.specs.Inner.Held.{lists_in};
 ghost use Rattle.warp_block.specs.Inner.Step.{log_at, told, Extends};
 
 use super::Look;
 use super::emit::tell;
+use crate::log::Log;
 use crate::message::{Message, Sign};
 use crate::part::Part;
 use crate::states::States;
@@ -60,16 +60,16 @@ fn unknown(alloc: Global, count: usize) -> Result<Vec<Logic>, AllocError>
 }
 
 /// Tells the readers of each net the changes of its log.
-fn tell_all(part: &Part, logs: &[Vec<Change>], out: &mut Vec<Message>) -> Result<(), AllocError>
+fn tell_all(part: &Part, logs: &[Log], out: &mut Vec<Message>) -> Result<(), AllocError>
     requires { length logs.now ≡ length part.now.nets }
-    ensures ok { OnOk result (out.new.items ≡ out.old.items ++ told Plus part.now (log_at (lists_in logs.now)) (length part.now.nets)) }
+    ensures ok { OnOk result (out.new.items ≡ out.old.items ++ told Plus part.now (log_at logs.now) (length part.now.nets)) }
     ensures extends { Extends out.old.items out.new.items }
 {
     for slot in 0..part.len() {
         tell(
             part.readers(slot),
             part.net(slot),
-            &logs[slot],
+            logs[slot].changes(),
             Sign::Plus,
             out,
         )?;
@@ -78,10 +78,10 @@ fn tell_all(part: &Part, logs: &[Vec<Change>], out: &mut Vec<Message>) -> Result
 }
 
 /// The log of a net that begins with a value: a change at 0, unless the value is unknown.
-pub(super) fn opening_log(alloc: Global, initial: Logic) -> Result<Vec<Change>, AllocError>
-    ensures { IfOk result (λ log. log.items ≡ initial_log initial) }
+pub(super) fn opening_log(alloc: Global, initial: Logic) -> Result<Log, AllocError>
+    ensures { IfOk result (λ log. log ≡ initial_log initial) }
 {
-    let mut log = Vec::new(alloc);
+    let mut log = Log::new(alloc);
     if initial == Logic::X {
         return Ok(log);
     }

@@ -10,5 +10,5 @@ abbrev pub invariant-loop-slot : goal.invariant-loop-slot
 invariant-loop-slot l = record {
   queues : lists_in l.queues.items ≡ map (opening_queue l.fn.part l.stimulus l.horizon) (take l.slot l.fn.part.nets);
   ordered : All IsQueue (lists_in l.queues.items);
-  logs : lists_in l.logs.items ≡ map (λ n. initial_log (initial_of (source_of l.fn.part n))) (take l.slot l.fn.part.nets);
+  logs : l.logs.items ≡ map (λ n. initial_log (initial_of (source_of l.fn.part n))) (take l.slot l.fn.part.nets);
 }

@@ -22,7 +22,7 @@ loop-slot-preserved c =
     (subst (λ (es : List Received). All (λ (e : Received). has (mid e.time) slot ≡ true) es)
     (c.deref.ensures.value ∙ sym (queue_row c.self.inside c.self.invariant slot in_nets c.index.result.now c.index.ensures)) c.in_ok-list_entries.ensures.listed)
     (subst (λ (cs : List Change). All (λ (d : Change). has (new d.time) slot ≡ true) cs)
-    (c.deref-in-loop-slot.ensures.value ∙ sym (log_row c.self.inside c.self.invariant slot in_nets c.index-in-loop-slot.result.now c.index-in-loop-slot.ensures)) c.in_ok-list_changes.ensures.listed)
+    (c.changes.ensures ∙ sym (log_row c.self.inside c.self.invariant slot in_nets c.index-in-loop-slot.result.now c.index-in-loop-slot.ensures)) c.in_ok-list_changes.ensures.listed)
 
 pub returns : goal.returns
 returns c =

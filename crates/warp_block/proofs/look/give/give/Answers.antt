@@ -1,6 +1,6 @@
-use Rattle.std.proofs.Common.{◌<◌, length, sym, ap, ◌∙◌, arith}
+use Rattle.std.proofs.Common.{◌<◌, length, sym, ◌∙◌, arith}
 use Rattle.warp_block.specs.Inner.Held.{lists_in}
-use Rattle.warp_block.proofs.Rows.{row_at}
+use Rattle.warp_block.proofs.Rows.{list_at}
 use Rattle.warp_block.proofs.Emitting.{set_other}
 use Rattle.warp_block.proofs.Giving.{given_more}
 use Rattle.warp_block.proofs.look.give.give.Goals as goal
@@ -16,13 +16,13 @@ loop-slot-preserved c =
     let in_logs : k < length logs = omega (arith, in_nets, h.logs_len, c.requires.logs, c.loop-slot.logs.ok.0) in
     let within = c.requires.places k 0 in_nets in
     let in_lists : c.net-net.result < length lists = omega (arith, within, c.net-net.ensures, h.lists_len, c.loop-slot.lists.ok.0) in
-    let log = c.index_mut-in-loop-slot.result.now in
+    let log = c.index_mut.result.now in
     record {
       lists_len = h.lists_len;
       logs_len = h.logs_len;
-      left = λ i more. set_other logs k c.swap.new.y in_logs i (omega (arith, more)) ∙ h.left i (omega (arith, more));
-      given = given_more p c.law.ensures.ascending (lists_in c.args.logs.items) (lists_in c.args.lists.now.items) k c.net-net.result lists c.swap.new.x c.net-net.ensures in_nets in_lists
+      left = λ i more. set_other logs k c.swap.new.self i (omega (arith, more)) ∙ h.left i (omega (arith, more));
+      given = given_more p c.law.ensures.ascending c.args.logs.items (lists_in c.args.lists.now.items) k c.net-net.result lists c.swap.new.list c.net-net.ensures in_nets in_lists
           (sym c.is_own.ensures ∙ c.if-not-is_own.false)
-          (ap (λ v. v.items) c.swap.ensures.x_after ∙ sym (row_at logs k log in_logs c.index_mut-in-loop-slot.ensures.value) ∙ h.left k (omega arith))
+          (c.swap.ensures.given ∙ sym (list_at logs k log in_logs c.index_mut.ensures.value) ∙ h.left k (omega arith))
           h.given;
     }

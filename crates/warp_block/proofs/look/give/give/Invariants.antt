@@ -9,6 +9,6 @@ abbrev pub invariant-loop-slot : goal.invariant-loop-slot
 invariant-loop-slot l = record {
   lists_len : vec_len l.lists ≡ vec_len l.fn.lists;
   logs_len : vec_len l.logs ≡ vec_len l.fn.logs;
-  left : (i : ℕ) → l.slot ≤ i → log_at (lists_in l.logs.items) i ≡ log_at (lists_in l.fn.logs.items) i;
-  given : AreGiven l.part (lists_in l.fn.logs.items) l.slot (lists_in l.fn.lists.items) (lists_in l.lists.items);
+  left : (i : ℕ) → l.slot ≤ i → log_at l.logs.items i ≡ log_at l.fn.logs.items i;
+  given : AreGiven l.part l.fn.logs.items l.slot (lists_in l.fn.lists.items) (lists_in l.lists.items);
 }
