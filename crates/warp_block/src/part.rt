@@ -195,6 +195,9 @@ impl Part {
         requires { slot < length self.now.nets }
         ensures { result.now ≡ get_or self.now.readers slot [] }
     {
+        if self.readers.is_empty() {
+            return &[];
+        }
         let span = self.told[slot];
         &self.readers[span.start..span.start + span.count]
     }
