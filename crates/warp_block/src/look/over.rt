@@ -137,7 +137,7 @@ impl Look {
     {
         self.law();
         let mut from = states.mark();
-        loop {
+        while from <= time {
             let Some(listed) = agenda.next(from) else {
                 return Ok(());
             };
@@ -147,6 +147,7 @@ impl Look {
             self.set_listed(time, agenda.at(listed), states)?;
             from = listed + 1;
         }
+        Ok(())
     }
 
     /// The values of some places become those at a time.

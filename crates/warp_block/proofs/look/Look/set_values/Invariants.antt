@@ -5,8 +5,8 @@ use Rattle.warp_block.specs.Inner.StateLists.{now_of, saved_by, FitTogether}
 use Rattle.warp_block.specs.Inner.Placed.{IsSetAt, IsListed}
 use Rattle.warp_block.proofs.look.Look.set_values.Given as goal
 
-abbrev pub invariant-loop-listed : goal.invariant-loop-listed
-invariant-loop-listed l = record {
+abbrev pub invariant-loop-from : goal.invariant-loop-from
+invariant-loop-from l = record {
   set : IsSetAt (IsListed (places_at l.agenda.times) (now_of l.fn.states).mark l.from) (now_of l.fn.states).values (map (moment_before l.self (l.time + 1)).value l.self.part.nets) (now_of l.states).values;
   start : (now_of l.fn.states).mark ≤ l.from;
   end : l.from ≤ l.time + 1;
@@ -17,5 +17,5 @@ invariant-loop-listed l = record {
   fit : FitTogether l.states;
 }
 
-abbrev pub decreases-loop-listed : goal.decreases-loop-listed
-decreases-loop-listed l = (l.time + 1) - l.from
+abbrev pub decreases-loop-from : goal.decreases-loop-from
+decreases-loop-from l = (l.time + 1) - l.from
