@@ -51,13 +51,8 @@ impl Agenda {
         ensures ok { OnOk result ((t : ℕ) → places_at self.new.times t ≡ (if t == time then places_at self.old.times t ++ place ∷ [] else places_at self.old.times t)) }
         ensures err { OnErr result ((t : ℕ) → places_at self.new.times t ≡ places_at self.old.times t) }
     {
-        if let Some(places) = self.times.get_mut(&time) {
-            places.push(place)?;
-            return Ok(());
-        }
-        let mut places = Vec::with_capacity(self.alloc, 1)?;
-        places.push_reserved(place);
-        self.times.insert(time, places)?;
+        let places = self.times.entry(time)?.or_insert(Vec::new(self.alloc));
+        places.push(place)?;
         Ok(())
     }
 
