@@ -1,5 +1,5 @@
 //! Which places have news or entries at which times.
-ghost use Rattle.std.specs.Prelude.{◌≡◌, ◌≤◌, ◌<◌, ◌++◌, ◌==◌, ℕ, [], ◌∷◌, IsTrue, if◌then◌else◌, OnOk, OnErr};
+ghost use Rattle.std.specs.Prelude.{◌≡◌, ◌≤◌, ◌<◌, ◌++◌, ◌==◌, ℕ, [], ◌∷◌, IsTrue, IfSome, option_map, if◌then◌else◌, OnOk, OnErr};
 ghost use Rattle.std.specs.List.Sorted.{IsStrictlyIncreasing};
 ghost use Rattle.warp_block.specs.View.{IsLeast};
 ghost use Rattle.warp_block.specs.Inner.Agenda.{places_at, is_listed};
@@ -36,14 +36,13 @@ impl Agenda {
         }
     }
 
-    /// The least time from a time on at which a list stands.
-    pub(crate) fn next(&self, from: u64) -> Option<u64>
-        ensures { IsLeast (λ t. (from ≤ t) × IsTrue (is_listed self.now.times t)) result }
+    /// The least time from a time on at which a list stands, and the places of that list.
+    pub(crate) fn next(&self, from: u64) -> Option<(u64, &[u32])>
+        ensures least { IsLeast (λ t. (from ≤ t) × IsTrue (is_listed self.now.times t)) (option_map (λ p. p.0) result) }
+        ensures places { IfSome result (λ p. p.1.now ≡ places_at self.now.times p.0) }
     {
-        match self.times.range(from..).next() {
-            Some((time, _)) => Some(*time),
-            None => None,
-        }
+        let (time, places) = self.times.range(from..).next()?;
+        Some((*time, places.as_slice()))
     }
 
     /// A place may have news at a time. After an error nothing has changed.

@@ -19,11 +19,11 @@ impl Look {
         self.law();
         let mut start = from;
         while start <= self.horizon() {
-            let time = agenda.next(start)?;
+            let (time, places) = agenda.next(start)?;
             if time > self.horizon() {
                 return None;
             }
-            if self.is_busy_at(agenda.at(time), time) {
+            if self.is_busy_at(places, time) {
                 return Some(time);
             }
             start = time + 1;

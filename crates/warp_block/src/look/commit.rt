@@ -62,13 +62,13 @@ impl Look {
         self.law();
         let mut from = self.floor();
         while from < end {
-            let Some(time) = agenda.next(from) else {
+            let Some((time, places)) = agenda.next(from) else {
                 return true;
             };
             if time >= end {
                 return true;
             }
-            if !self.are_settled_at(agenda.at(time), time) {
+            if !self.are_settled_at(places, time) {
                 return false;
             }
             from = time + 1;

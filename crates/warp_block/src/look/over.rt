@@ -138,13 +138,13 @@ impl Look {
         self.law();
         let mut from = states.mark();
         while from <= time {
-            let Some(listed) = agenda.next(from) else {
+            let Some((listed, places)) = agenda.next(from) else {
                 return Ok(());
             };
             if listed > time {
                 return Ok(());
             }
-            self.set_listed(time, agenda.at(listed), states)?;
+            self.set_listed(time, places, states)?;
             from = listed + 1;
         }
         Ok(())

@@ -1,4 +1,4 @@
-use Rattle.std.proofs.Common.{◌≡◌, ◌+◌, ◌<◌, ◌≤◌, ℕ, true, Option, None, All, List, map, length, refl, ap, sym, ◌∙◌, subst, arith}
+use Rattle.std.proofs.Common.{◌≡◌, ◌+◌, ◌<◌, ◌≤◌, ℕ, true, None, All, List, map, length, refl, ap, sym, ◌∙◌, subst, arith}
 use Rattle.std.proofs.lemmas.List.{length-map}
 use Rattle.warp_block.specs.View.{IsLeast, moment_before}
 use Rattle.warp_block.specs.Inner.StateLists.{now_of}
@@ -28,7 +28,7 @@ set_listed-requires-clause-values c =
 pub set_listed-requires-clause-places : goal.set_listed-requires-clause-places
 set_listed-requires-clause-places c =
     let n = length c.args.self.now.part.nets in
-    subst (λ (ps : List ℕ). All (λ p. p < n) ps) (sym c.at.ensures) (below_from_has (places_at c.args.agenda.now.times c.in-Some.listed) n (λ i h. c.requires.indexed.within c.in-Some.listed i h))
+    subst (λ (ps : List ℕ). All (λ p. p < n) ps) (sym c.in-Some.ensures.places) (below_from_has (places_at c.args.agenda.now.times c.in-Some.listed) n (λ i h. c.requires.indexed.within c.in-Some.listed i h))
 
 pub set_listed-requires-clause-quiet : goal.set_listed-requires-clause-quiet
 set_listed-requires-clause-quiet c = λ t from below. c.requires.quiet t (omega (arith, from, c.requires.before)) below
@@ -39,9 +39,9 @@ loop-from-preserved c =
     let places = places_at c.args.agenda.now.times in
     let m = (now_of c.args.states.now).mark in
     let f = (moment_before v (c.args.time + 1)).value in
-    let least = c.in-Some.ensures in
+    let least = c.in-Some.ensures.least in
     let on = least.0.0 in
-    let second = subst (λ (ps : List ℕ). IsSetAt (IsAmong ps (length ps)) (now_of c.loop-from.states).values (map f v.part.nets) (now_of c.set_listed.new.states).values) c.at.ensures c.in_ok-set_listed.ensures.values in
+    let second = subst (λ (ps : List ℕ). IsSetAt (IsAmong ps (length ps)) (now_of c.loop-from.states).values (map f v.part.nets) (now_of c.set_listed.new.states).values) c.in-Some.ensures.places c.in_ok-set_listed.ensures.values in
     record {
       set = listed_more places m c.loop-from.from c.in-Some.listed (now_of c.args.states.now).values (map f v.part.nets) (now_of c.loop-from.states).values (now_of c.set_listed.new.states).values
           c.loop-from.invariant.set second c.loop-from.invariant.start on
@@ -59,14 +59,14 @@ pub returns-in_default-clause-values : goal.returns-in_default-clause-values
 returns-in_default-clause-values c =
     let places = places_at c.args.agenda.now.times in
     let P : ℕ → Type 0 = λ t. (c.loop-from.from ≤ t) × (is_listed c.args.agenda.now.times t ≡ true) in
-    let none : IsLeast P None = subst (λ (r : Option ℕ). IsLeast P r) c.in_default.is c.next.ensures in
+    let none : IsLeast P None = c.in_default.ensures.least in
     all_listed c.args.self.now c.law.ensures (now_of c.args.states.now).mark c.args.time c.loop-from.from (now_of c.args.states.now).values (now_of c.loop-from.states).values c.requires.values c.requires.before c.requires.from c.requires.until c.requires.quiet
     places c.requires.indexed c.loop-from.invariant.set (λ t i a b h. none t (a, listed_from c.args.agenda.now.times t i h))
 
 pub returns-then-listed-time-clause-values : goal.returns-then-listed-time-clause-values
 returns-then-listed-time-clause-values c =
     let places = places_at c.args.agenda.now.times in
-    let least = c.in-Some.ensures in
+    let least = c.in-Some.ensures.least in
     all_listed c.args.self.now c.law.ensures (now_of c.args.states.now).mark c.args.time c.loop-from.from (now_of c.args.states.now).values (now_of c.loop-from.states).values c.requires.values c.requires.before c.requires.from c.requires.until c.requires.quiet
     places c.requires.indexed c.loop-from.invariant.set (λ t i a b h. (let not_less = least.1 t (a, listed_from c.args.agenda.now.times t i h) in omega (arith, not_less, b, c.if-listed-time.true)))
 
