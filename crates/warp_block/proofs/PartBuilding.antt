@@ -198,7 +198,7 @@ module _ (nets : List ℕ) where
   }
 
   pub flop_cell : (pins : List ℕ) (delay d clock : ℕ) (init : Logic) → IsTrue (is_some (slot_of nets d)) → IsTrue (is_some (slot_of nets clock)) → IsDelay delay
-      → IsCell nets pins (Source.Flop delay d clock init) false (cell.Flop delay (place_of nets d) (place_of nets clock) init)
+      → IsCell nets pins (Source.Flop delay d clock init) false (cell.Flop init delay (place_of nets d) (place_of nets clock))
   flop_cell pins delay d clock init data_there clock_there delays =
       let data_is = place_is nets d data_there in
       let clock_is = place_is nets clock clock_there in
@@ -218,7 +218,7 @@ module _ (nets : List ℕ) where
         source = ap (λ ps. Source.Gate kind delay (map (λ place. get_or nets place 0) ps)) (stretch-append pins more span within) ∙ h.source;
         input = h.input;
       }
-  IsCell-more pins more sets outer (cell.Flop delay d clock init) h = record { fits = h.fits; source = h.source; input = h.input }
+  IsCell-more pins more sets outer (cell.Flop init delay d clock) h = record { fits = h.fits; source = h.source; input = h.input }
 
 -- one cell more
 pub AreCells-push : (d : Design) (cut : Ownership) (b : ℕ) (nets pins new : List ℕ) (cells : List Cell) (i : ℕ) (e : Cell) → length cells ≡ i → AreCells d cut b nets pins cells → HasMore (length nets) pins new

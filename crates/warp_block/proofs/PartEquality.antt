@@ -149,7 +149,7 @@ module _ (nets : List ℕ) (up : IsStrictlyIncreasing nets) where
               (All-take (λ pin. pin < length nets) t.count (drop t.start others) (All-drop (λ pin. pin < length nets) t.start others h)) same,
         )),
   )
-  cells_same pins others g h (cell.Flop d n c a) (cell.Flop e m j b) x y = (
+  cells_same pins others g h (cell.Flop a d n c) (cell.Flop b e m j) x y = (
     λ r. (let delays = r.0 in let data_same = r.1 in let clocks = r.2 in let contents = r.3 in (cc, refl)),
     λ r. (let source = r.0 in
         let delays : d ≡ e = cc in
@@ -160,16 +160,16 @@ module _ (nets : List ℕ) (up : IsStrictlyIncreasing nets) where
   )
   cells_same pins others g h cell.Input cell.Foreign x y = (λ r. absurd r, λ r. absurd (let f = r.1 in cc))
   cells_same pins others g h cell.Input (cell.Gate l e t) x y = (λ r. absurd r, λ r. absurd (let f = r.0 in cc))
-  cells_same pins others g h cell.Input (cell.Flop e m j b) x y = (λ r. absurd r, λ r. absurd (let f = r.0 in cc))
+  cells_same pins others g h cell.Input (cell.Flop b e m j) x y = (λ r. absurd r, λ r. absurd (let f = r.0 in cc))
   cells_same pins others g h cell.Foreign cell.Input x y = (λ r. absurd r, λ r. absurd (let f = r.1 in cc))
   cells_same pins others g h cell.Foreign (cell.Gate l e t) x y = (λ r. absurd r, λ r. absurd (let f = r.0 in cc))
-  cells_same pins others g h cell.Foreign (cell.Flop e m j b) x y = (λ r. absurd r, λ r. absurd (let f = r.0 in cc))
+  cells_same pins others g h cell.Foreign (cell.Flop b e m j) x y = (λ r. absurd r, λ r. absurd (let f = r.0 in cc))
   cells_same pins others g h (cell.Gate k d s) cell.Input x y = (λ r. absurd r, λ r. absurd (let f = r.0 in cc))
   cells_same pins others g h (cell.Gate k d s) cell.Foreign x y = (λ r. absurd r, λ r. absurd (let f = r.0 in cc))
-  cells_same pins others g h (cell.Gate k d s) (cell.Flop e m j b) x y = (λ r. absurd r, λ r. absurd (let f = r.0 in cc))
-  cells_same pins others g h (cell.Flop d n c a) cell.Input x y = (λ r. absurd r, λ r. absurd (let f = r.0 in cc))
-  cells_same pins others g h (cell.Flop d n c a) cell.Foreign x y = (λ r. absurd r, λ r. absurd (let f = r.0 in cc))
-  cells_same pins others g h (cell.Flop d n c a) (cell.Gate l e t) x y = (λ r. absurd r, λ r. absurd (let f = r.0 in cc))
+  cells_same pins others g h (cell.Gate k d s) (cell.Flop b e m j) x y = (λ r. absurd r, λ r. absurd (let f = r.0 in cc))
+  cells_same pins others g h (cell.Flop a d n c) cell.Input x y = (λ r. absurd r, λ r. absurd (let f = r.0 in cc))
+  cells_same pins others g h (cell.Flop a d n c) cell.Foreign x y = (λ r. absurd r, λ r. absurd (let f = r.0 in cc))
+  cells_same pins others g h (cell.Flop a d n c) (cell.Gate l e t) x y = (λ r. absurd r, λ r. absurd (let f = r.0 in cc))
 
 -- two parts with the same nets say the same of a place where their cells do
 pub cells_at : (p q : Inside) (v w : Portion) → portion_of p ≡ v → portion_of q ≡ w → (i : ℕ) (a b : Cell) (pins others : List ℕ) → IsHeld p → IsHeld q → v.nets ≡ w.nets → i < length v.nets

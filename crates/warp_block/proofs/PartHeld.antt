@@ -1,5 +1,5 @@
 -- What the fields of a part say of its nets.
-use Rattle.std.proofs.Common.{◌≡◌, ℕ, suc, ◌+◌, ◌-◌, ◌<◌, List, [], ◌∷◌, map, take, drop, length, get_or, refl, ap, subst, ◌∙◌, arith}
+use Rattle.std.proofs.Common.{◌≡◌, ℕ, suc, ◌<◌, List, [], ◌∷◌, map, drop, length, get_or, refl, ap, subst, ◌∙◌, arith}
 use Rattle.std.specs.List.{All}
 use Rattle.std.specs.List.Sorted.{IsStrictlyIncreasing}
 use Rattle.std.proofs.lemmas.List.{get_or-map}
@@ -50,13 +50,6 @@ values-at nets values (place ∷ places) up h =
     let rest = values-at nets values places up (λ k d l. h (suc k) d (omega (arith, l))) in
     cc
 
--- the values that are picked by a stretch of the pins
-pub picked_along : (values given : List Logic) (pins from : List ℕ) (span : Span) → given ≡ values → from ≡ pins
-    → map (λ place. get_or given place X) (take ((span.start + span.count) - span.start) (drop span.start from)) ≡ map (λ place. get_or values place X) (stretch pins span)
-picked_along values given pins from span same source =
-    let n : (span.start + span.count) - span.start ≡ span.count = omega arith in
-    simp (same, source, n)
-
 module _ (p : Inside) (h : IsHeld p) (values contents : List Logic) (i : ℕ) (e : Cell) (l : i < length p.nets.items) where
   pub gate_output : (kind : Kind) (delay : ℕ) (span : Span) → get_or p.cells.items i e ≡ Gate kind delay span
       → output (get_or (portion_of p).sources i Outside) (moment_of p.nets.items values contents) (get_or p.nets.items i 0)
@@ -66,18 +59,18 @@ module _ (p : Inside) (h : IsHeld p) (values contents : List Logic) (i : ℕ) (e
       (ap (table_of kind) (values-at p.nets.items values (stretch p.pins.items span) h.portion.ascending
       (All-take (λ pin. pin < length p.nets.items) span.count (drop span.start p.pins.items) (All-drop (λ pin. pin < length p.nets.items) span.start p.pins.items h.pins))))
 
-  pub flop_output : (delay d clock : ℕ) (init : Logic) → get_or p.cells.items i e ≡ Flop delay d clock init
+  pub flop_output : (delay d clock : ℕ) (init : Logic) → get_or p.cells.items i e ≡ Flop init delay d clock
       → output (get_or (portion_of p).sources i Outside) (moment_of p.nets.items values contents) (get_or p.nets.items i 0) ≡ get_or contents i X
   flop_output delay d clock init is =
-      rw (source-at p i e (Flop delay d clock init) h l is) (of_net-at p.nets.items contents X i h.portion.ascending l)
+      rw (source-at p i e (Flop init delay d clock) h l is) (of_net-at p.nets.items contents X i h.portion.ascending l)
 
-  pub flop_content : (edge : Logic) (delay d clock : ℕ) (init : Logic) → get_or p.cells.items i e ≡ Flop delay d clock init
+  pub flop_content : (edge : Logic) (delay d clock : ℕ) (init : Logic) → get_or p.cells.items i e ≡ Flop init delay d clock
       → next_content (get_or (portion_of p).sources i Outside) (λ n. edge) (moment_of p.nets.items values contents) (get_or p.nets.items i 0)
       ≡ flip_of (get_or contents i X) (get_or values clock X) edge (get_or values d X)
   flop_content edge delay d clock init is =
-      let fits : CellFits (length p.nets.items) (length p.pins.items) (Flop delay d clock init) = fits-at p i e (Flop delay d clock init) h l is in
+      let fits : CellFits (length p.nets.items) (length p.pins.items) (Flop init delay d clock) = fits-at p i e (Flop init delay d clock) h l is in
       let up = h.portion.ascending in
       let own = of_net-at p.nets.items contents X i up l in
       let before = of_net-at p.nets.items values X clock up fits.1 in
       let given = of_net-at p.nets.items values X d up fits.0 in
-      rw (source-at p i e (Flop delay d clock init) h l is) cc
+      rw (source-at p i e (Flop init delay d clock) h l is) cc

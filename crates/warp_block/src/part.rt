@@ -198,8 +198,7 @@ impl Part {
         if self.readers.is_empty() {
             return &[];
         }
-        let span = self.told[slot];
-        &self.readers[span.start..span.start + span.count]
+        self.told[slot].of(&self.readers)
     }
 
     /// The place of a net of another block that the block reads, whose changes come by messages.
@@ -229,8 +228,7 @@ impl Part {
         match self.cells[slot] {
             Cell::Input | Cell::Foreign => Ok(Logic::X),
             Cell::Gate { kind, pins, .. } => {
-                let pins = &self.pins[pins.start..pins.start + pins.count];
-                let value = gate_output(kind, values, pins, operands)?;
+                let value = gate_output(kind, values, pins.of(&self.pins), operands)?;
                 Ok(value)
             }
             Cell::Flop { .. } => Ok(contents[slot]),

@@ -18,7 +18,7 @@ abbrev pub cell_source : List ℕ → List ℕ → Cell → Source
 cell_source nets pins Input = Source.Outside
 cell_source nets pins Foreign = Source.Outside
 cell_source nets pins (Gate kind delay span) = Source.Gate kind delay (map (slice_index nets) (stretch pins span))
-cell_source nets pins (Flop delay d clock init) = Source.Flop delay (slice_index nets d) (slice_index nets clock) init
+cell_source nets pins (Flop init delay d clock) = Source.Flop delay (slice_index nets d) (slice_index nets clock) init
 
 abbrev pub is_input_cell : Cell → Bool
 is_input_cell Input = true
@@ -38,7 +38,7 @@ abbrev pub CellFits : ℕ → ℕ → Cell → Type 0
 CellFits nets pins Input = Unit {0}
 CellFits nets pins Foreign = Unit {0}
 CellFits nets pins (Gate kind delay span) = (span.start + span.count ≤ pins) × HasInputs kind span.count × (1 ≤ delay) × (delay ≤ 1000000)
-CellFits nets pins (Flop delay d clock init) = (d < nets) × (clock < nets) × (1 ≤ delay) × (delay ≤ 1000000)
+CellFits nets pins (Flop init delay d clock) = (d < nets) × (clock < nets) × (1 ≤ delay) × (delay ≤ 1000000)
 
 -- what is true of the fields of every part
 pub record IsHeld (p : Inside) : Type 0 where

@@ -17,7 +17,7 @@ abbrev pub SameCell : List ℕ → Cell → List ℕ → Cell → Type 0
 SameCell pins cell.Input others cell.Input = Unit {0}
 SameCell pins cell.Foreign others cell.Foreign = Unit {0}
 SameCell pins (cell.Gate k d s) others (cell.Gate l e t) = (k ≡ l) × (d ≡ e) × (stretch pins s ≡ stretch others t)
-SameCell pins (cell.Flop d n c i) others (cell.Flop e m k j) = (d ≡ e) × (n ≡ m) × (c ≡ k) × (i ≡ j)
+SameCell pins (cell.Flop i d n c) others (cell.Flop j e m k) = (d ≡ e) × (n ≡ m) × (c ≡ k) × (i ≡ j)
 SameCell _ _ _ _ = ⊥
 
 -- the stretch of a gate lies within so many pins

@@ -159,10 +159,10 @@ fn own_cell(
             })
         }
         Driver::Flop { d, clock, init } => Ok(Cell::Flop {
+            init: *init,
             delay,
             d: place_in(nets, *d),
             clock: place_in(nets, *clock),
-            init: *init,
         }),
     }
 }
@@ -175,10 +175,7 @@ fn add_pins(nets: &[u32], inputs: &[u32], pins: &mut Vec<u32>) -> Result<Span, A
     ensures span { IfOk result (λ span. (span.start ≡ length pins.old.items) × (span.count ≡ length inputs.now)) }
     ensures pins { OnOk result (pins.new.items ≡ pins.old.items ++ map (place_of nets.now) inputs.now) }
 {
-    let span = Span {
-        start: pins.len(),
-        count: inputs.len(),
-    };
+    let span = Span::new(pins.len(), inputs.len())?;
     for input in inputs {
         pins.push(place_in(nets, *input))?;
     }

@@ -29,7 +29,7 @@ impl Part {
     {
         match &self.cells[slot] {
             Cell::Input | Cell::Foreign => &[],
-            Cell::Gate { pins, .. } => &self.pins[pins.start..pins.start + pins.count],
+            Cell::Gate { pins, .. } => pins.of(&self.pins),
             Cell::Flop { clock, .. } => slice::from_ref(clock),
         }
     }
@@ -57,8 +57,7 @@ impl Fan {
         requires place { place < length self.now.spans.items }
         ensures { result.now ≡ get_or (fan_of self.now) place [] }
     {
-        let span = self.spans[place];
-        &self.places[span.start..span.start + span.count]
+        self.spans[place].of(&self.places)
     }
 
     /// The places whose output news at some places can change, each once, in ascending order, in place of what was there.

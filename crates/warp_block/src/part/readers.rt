@@ -74,10 +74,8 @@ pub(super) fn flattened(
 {
     let mut spans = Vec::with_capacity(alloc, lists.len())?;
     for list in lists {
-        spans.push(Span {
-            start: all.len(),
-            count: list.len(),
-        })?;
+        let span = Span::new(all.len(), list.len())?;
+        spans.push(span)?;
         all.extend_from_slice(list)?;
     }
     Ok(spans)

@@ -44,24 +44,21 @@ pub(super) fn same_cell(first: Cell, pins: &[u32], second: Cell, others: &[u32])
             } => {
                 same_kind(kind, other_kind)
                     && delay == other_delay
-                    && same_numbers(
-                        &pins[span.start..span.start + span.count],
-                        &others[other.start..other.start + other.count],
-                    )
+                    && same_numbers(span.of(pins), other.of(others))
             }
             _ => false,
         },
         Cell::Flop {
+            init,
             delay,
             d,
             clock,
-            init,
         } => match second {
             Cell::Flop {
+                init: other_init,
                 delay: other_delay,
                 d: other_d,
                 clock: other_clock,
-                init: other_init,
             } => {
                 delay == other_delay
                     && d == other_d

@@ -1,8 +1,9 @@
-use Rattle.std.proofs.Common.{refl, ap, sym, ◌∙◌, arith}
+use Rattle.std.proofs.Common.{ℕ, List, map, get_or, ap, sym, ◌∙◌, arith}
 use Rattle.std.proofs.lemmas.List.{get_or_default}
 use Rattle.gate_values.specs.declared.logic.Logic.TheVariants.{Zero, X}
 use Rattle.gate_values.specs.Tables.{table_of}
-use Rattle.warp_block.proofs.PartHeld.{gate_output, flop_output, picked_along}
+use Rattle.warp_block.specs.Inner.HeldPart.{stretch}
+use Rattle.warp_block.proofs.PartHeld.{gate_output, flop_output}
 use Rattle.warp_block.proofs.part.Part.output.Goals as goal
 
 pub returns-in_ok-value-in-Gate : goal.returns-in_ok-value-in-Gate
@@ -10,7 +11,8 @@ returns-in_ok-value-in-Gate c =
     let nets = rw (← c.self.view_is) at c.requires.slot in
     let e = gate_output c.self.inside c.self.invariant c.args.values.now c.args.contents.now c.args.slot c.index.result.now nets
     c.in-Gate.kind c.in-Gate.delay c.in-Gate.pins (sym c.index.ensures ∙ c.in-Gate.is) in
-    let same = picked_along c.args.values.now c.args.values.now c.self.inside.pins.items c.deref.result.now c.in-Gate.pins refl c.deref.ensures.value in
+    let pins = c.of.ensures ∙ ap (λ (ps : List ℕ). stretch ps c.in-Gate.pins) c.deref.ensures.value in
+    let same = ap (λ (ps : List ℕ). map (λ place. get_or c.args.values.now place X) ps) pins in
     rw (← c.self.view_is) (c.in_ok-value-in-Gate.ensures ∙ ap (table_of c.in-Gate.kind) same ∙ sym e)
 
 pub returns-in-Flop : goal.returns-in-Flop
