@@ -6,6 +6,7 @@ pub mod Writing
 pub mod Passing
 pub mod Paired
 pub mod Counting
+pub mod PlacingLaws
 pub mod TimelineLaws
 pub mod MergeLaws
 pub mod Stops

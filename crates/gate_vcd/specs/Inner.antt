@@ -10,6 +10,7 @@ pub mod Lists
 pub mod Lots
 pub mod Merging
 pub mod Pairs
+pub mod Placing
 pub mod Reading
 pub mod Runs
 pub mod Scalars

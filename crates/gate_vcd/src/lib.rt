@@ -6,6 +6,7 @@
 //! `Inputs` and `Stimulus` for what is read, `Codes`, `Waves` and `Dump` for what is written.
 #![tactic(auto)]
 
+mod buckets;
 mod changes;
 mod codes;
 mod declarations;
@@ -22,6 +23,7 @@ mod lines;
 mod lot;
 mod merging;
 mod numbers;
+mod placing;
 mod put;
 mod reading;
 mod runs;
