@@ -80,10 +80,10 @@ forgotten_times v floor mark start low old new from kept gone x = record {
 }
 
 -- the floor and the mark move, and the journal forgets the notes below the floor
-pub forgotten_notes : (v : View) (floor mark : ℕ) (old new : List Note) → v.floor ≤ floor → v.mark ≤ mark → ((t i : ℕ) → (has_note new t i ≡ true) ↔ ((floor ≤ t) × (has_note old t i ≡ true))) →
-    IsNoted v old → IsNoted (record v { floor = floor; mark = mark }) new
-forgotten_notes v floor mark old new forward on kept x = record {
-  noted = λ t i l h some. (kept t i).1 (l, x.noted t i (omega (arith, l, forward)) h some);
-  below = λ t i h. (let below = x.below t i ((kept t i).0 h).1 in omega (arith, below, on));
-  within = λ t i h. x.within t i ((kept t i).0 h).1;
+pub forgotten_notes : (v : View) (floor mark : ℕ) (old new : List Note) → v.floor ≤ floor → v.mark ≤ mark → ((t i : ℕ) → floor ≤ t → has_note old t i ≡ true → has_note new t i ≡ true) →
+    ((t i : ℕ) → has_note new t i ≡ true → has_note old t i ≡ true) → IsNoted v old → IsNoted (record v { floor = floor; mark = mark }) new
+forgotten_notes v floor mark old new forward on kept noted x = record {
+  noted = λ t i l h some. kept t i l (x.noted t i (omega (arith, l, forward)) h some);
+  below = λ t i h. (let below = x.below t i (noted t i h) in omega (arith, below, on));
+  within = λ t i h. x.within t i (noted t i h);
 }

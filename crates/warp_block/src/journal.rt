@@ -50,12 +50,16 @@ impl Journal {
         self.notes.truncate(kept);
     }
 
-    /// Forgets the notes of times below one.
+    /// Forgets the notes of times below one, once they are as many as the others: those move to the front then, so each
+    /// is moved no more often than another one is forgotten.
     pub(crate) fn forget_below(&mut self, time: u64)
-        ensures { (t i : ℕ) → IsTrue (has_note self.new.notes.items t i) ↔ ((time ≤ t) × IsTrue (has_note self.old.notes.items t i)) }
+        ensures kept { (t i : ℕ) → time ≤ t → IsTrue (has_note self.old.notes.items t i) → IsTrue (has_note self.new.notes.items t i) }
+        ensures noted { (t i : ℕ) → IsTrue (has_note self.new.notes.items t i) → IsTrue (has_note self.old.notes.items t i) }
     {
         let count = count_before(&self.notes, time);
-        drop_first(&mut self.notes, count);
+        if count >= self.notes.len() - count {
+            drop_first(&mut self.notes, count);
+        }
     }
 
     /// The places that logged something because of a time or of later ones, in ascending order.

@@ -74,7 +74,7 @@ invariant_of-self c =
             (present_dropped v c.args.floor (max v.mark c.args.floor) (saved_by old) (now_of old) old.since k.0 c.self.invariant.states.law.saved k.1 (omega arith) c.self.invariant.states.present)));
       });
       indexed = rw c.commit.ensures (subst (λ (m : ℕ). IsIndexed w m (places_at c.forget_below.new.self.times)) c.oldest.ensures indexed);
-      noted = rw c.commit.ensures (forgotten_notes v c.args.floor mark c.self.inside.journal.notes.items c.forget_below-2.new.self.notes.items c.in_ok-may_commit.ensures.ok.forward (omega arith) c.forget_below-2.ensures c.self.invariant.noted);
+      noted = rw c.commit.ensures (forgotten_notes v c.args.floor mark c.self.inside.journal.notes.items c.forget_below-2.new.self.notes.items c.in_ok-may_commit.ensures.ok.forward (omega arith) c.forget_below-2.ensures.kept c.forget_below-2.ensures.noted c.self.invariant.noted);
       flat = c.self.invariant.flat;
       woken = rw c.commit.ensures c.self.invariant.woken;
     }
