@@ -220,7 +220,8 @@ impl States {
         self.forget(until.saturating_sub(1));
     }
 
-    /// Drops the first so many saved states, and what brings them alone back.
+    /// Drops the first so many saved states, and what brings them alone back, once that is as much as the rest: which
+    /// moves to the front then, so each is moved no more often than another one is dropped.
     fn forget(&mut self, count: usize)
         requires within { FitTogether self.old }
         requires count { count < length self.old.saved.items }
@@ -231,6 +232,9 @@ impl States {
     {
         drop_first(&mut self.saved, count);
         let start = self.saved[0].start;
+        if start < self.undo.len() - start {
+            return;
+        }
         drop_first(&mut self.undo, start);
         begin_earlier(&mut self.saved, start);
     }

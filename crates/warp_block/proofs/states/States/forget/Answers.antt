@@ -1,10 +1,19 @@
-use Rattle.std.proofs.Common.{◌≡◌, ◌≤◌, map, drop, length, get_or, List, ap, sym, ◌∙◌, subst, All}
+use Rattle.std.proofs.Common.{◌≡◌, ◌≤◌, ◌+◌, ℕ, map, drop, length, get_or, List, ap, sym, ◌∙◌, subst, All, arith}
 use Rattle.std.proofs.lemmas.List.Elements.{All-drop}
 use Rattle.warp_block.specs.declared.states.Place.{Place}
-use Rattle.warp_block.specs.Inner.States.{states_at, earlier}
+use Rattle.std.proofs.lemmas.List.{drop-map, length-drop, get_or-drop}
+use Rattle.std.specs.List.Sorted.{IsNonDecreasingBy}
+use Rattle.warp_block.specs.Inner.States.{state_at, states_at, earlier, AreWithin}
 use Rattle.warp_block.specs.Inner.StateLists.{now_of, IsOld}
 use Rattle.warp_block.proofs.Undoing.{left_from, left_states, left_within, left_rising}
 use Rattle.warp_block.proofs.states.States.forget.Goals as goal
+
+-- places that rise still do without the first ones
+dropped_rise : (places : List Place) (count : ℕ) → IsNonDecreasingBy (λ (p : Place). p.start) places → IsNonDecreasingBy (λ (p : Place). p.start) (drop count places)
+dropped_rise places count rising i j d l h =
+    let up = rising (count + i) (count + j) d (omega (arith, l)) (omega (arith, h, length-drop count places)) in
+    subst (λ (q : Place). q.start ≤ (get_or (drop count places) j d).start) (sym (get_or-drop count places i d))
+    (subst (λ (q : Place). (get_or places (count + i) d).start ≤ q.start) (sym (get_or-drop count places j d)) up)
 
 pub begin_earlier-requires : goal.begin_earlier-requires
 begin_earlier-requires c =
@@ -39,4 +48,20 @@ returns-clause-within c =
       within = rw (u, s) (left_within n undo places c.requires.within.within c.requires.within.rising c.args.count c.requires.count p at);
       rising = rw s (left_rising n undo places c.requires.within.within c.requires.within.rising c.args.count c.requires.count p at);
       olds = rw u (All-drop (IsOld (length c.args.self.now.values.items) (length c.args.self.now.contents.items)) p.start undo c.requires.within.olds);
+    }
+
+pub returns-then-start-len-clause-saved : goal.returns-then-start-len-clause-saved
+returns-then-start-len-clause-saved c =
+    let n = now_of c.args.self.now in
+    let undo = c.args.self.now.undo.items in
+    ap (states_at n undo) c.drop_first.ensures ∙ sym (drop-map (state_at n undo) c.args.count c.args.self.now.saved.items)
+
+pub returns-then-start-len-clause-within : goal.returns-then-start-len-clause-within
+returns-then-start-len-clause-within c =
+    let undo = c.args.self.now.undo.items in
+    let places = c.args.self.now.saved.items in
+    record {
+      within = subst (λ (ps : List Place). AreWithin undo ps) (sym c.drop_first.ensures) (All-drop (λ (p : Place). p.start ≤ length undo) c.args.count places c.requires.within.within);
+      rising = subst (λ (ps : List Place). IsNonDecreasingBy (λ (p : Place). p.start) ps) (sym c.drop_first.ensures) (dropped_rise places c.args.count c.requires.within.rising);
+      olds = c.requires.within.olds;
     }
