@@ -4,6 +4,7 @@ ghost use Rattle.gate_values.specs.Tables.{table_of, and_of, or_of, xor_of, HasI
 ghost use Rattle.gate_values.specs.Words.{word_of};
 
 use crate::logic::{Logic, invert, pass};
+use crate::pair::pair;
 
 /// A kind of gate.
 #[derive(Clone, Copy, Debug, PartialEq, Eq)]
@@ -38,8 +39,21 @@ impl Kind {
 
 /// What a gate puts out for the values of its inputs: `Not` and `Buff` have exactly one, the others one
 /// or more. An input `Z` counts as `X`, and no gate puts out `Z`.
-#[tactic(auto, unfolding(crate::specs::Tables::table_of))]
+#[inline]
 pub fn table(kind: Kind, inputs: &[Logic]) -> Logic
+    requires { HasInputs kind (length inputs.now) }
+    ensures { result ≡ table_of kind inputs.now }
+{
+    match inputs {
+        [first, second] => pair(kind, *first, *second),
+        _ => table_by_kind(kind, inputs),
+    }
+}
+
+/// What a gate puts out, kind by kind, for any number of inputs.
+#[inline(never)]
+#[tactic(auto, unfolding(crate::specs::Tables::table_of))]
+fn table_by_kind(kind: Kind, inputs: &[Logic]) -> Logic
     requires { HasInputs kind (length inputs.now) }
     ensures { result ≡ table_of kind inputs.now }
 {

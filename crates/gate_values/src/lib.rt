@@ -11,6 +11,7 @@ mod flop;
 mod gate;
 mod laws;
 mod logic;
+mod pair;
 
 pub use flop::flip;
 pub use gate::{Kind, table};
