@@ -157,14 +157,6 @@ stretch-behind xs ys span start count =
 
 -- ---- drivers
 
-pub gate_is : (d : Design) (n : ℕ) (kind : Kind) (inputs : List ℕ) (delay : ℕ) → IsCircuit d → n < nets_of d → driver_of d n ≡ Gate kind inputs → Some delay ≡ delay_of d n
-    → (source_of d n ≡ Source.Gate kind delay inputs) × (is_input (driver_of d n) ≡ false) × HasInputs kind (length inputs) × IsDelay delay
-gate_is d n kind inputs delay law l is delays =
-    let same : delay ≡ get_or d.delays n 0 = (let e : Some delay ≡ Some (get_or d.delays n 0) = subst (λ driver. Some delay ≡ delay_by driver (get_or d.delays n 0)) is delays in cc) in
-    let driven : IsDriven (nets_of d) (Gate kind inputs) delay =
-    subst (IsDriven (nets_of d) (Gate kind inputs)) (sym same) (subst (λ driver. IsDriven (nets_of d) driver (get_or d.delays n 0)) is (law.driven n l)) in
-    (ap (λ driver. source_by driver (get_or d.delays n 0)) is ∙ ap (λ k. Source.Gate kind k inputs) (sym same), ap is_input is, driven.0, driven.2)
-
 pub flop_is : (d : Design) (n data_net clock delay : ℕ) (init : Logic) → IsCircuit d → n < nets_of d → driver_of d n ≡ Flop data_net clock init → Some delay ≡ delay_of d n
     → (source_of d n ≡ Source.Flop delay data_net clock init) × (is_input (driver_of d n) ≡ false) × IsDelay delay
 flop_is d n data_net clock delay init law l is delays =
@@ -197,6 +189,15 @@ module _ (nets : List ℕ) where
     input = refl;
   }
 
+  -- one whose pins stand in the cell
+  pub pair_cell : (pins inputs : List ℕ) (kind : Kind) (delay : ℕ) → length inputs ≡ 2 → All (λ u. IsTrue (is_some (slot_of nets u))) inputs → HasInputs kind (length inputs) → IsDelay delay
+      → IsCell nets pins (Source.Gate kind delay inputs) false (cell.Pair kind delay (map (place_of nets) inputs))
+  pair_cell pins inputs kind delay two there has_ delays = record {
+    fits = (length-map inputs (place_of nets) ∙ two, places_within inputs there, rw two at has_, delays.0, delays.1);
+    source = ap (Source.Gate kind delay) (places_are inputs there);
+    input = refl;
+  }
+
   pub flop_cell : (pins : List ℕ) (delay d clock : ℕ) (init : Logic) → IsTrue (is_some (slot_of nets d)) → IsTrue (is_some (slot_of nets clock)) → IsDelay delay
       → IsCell nets pins (Source.Flop delay d clock init) false (cell.Flop init delay (place_of nets d) (place_of nets clock))
   flop_cell pins delay d clock init data_there clock_there delays =
@@ -211,6 +212,7 @@ module _ (nets : List ℕ) where
   IsCell-more : (pins more : List ℕ) (sets : Source) (outer : Bool) (e : Cell) → IsCell nets pins sets outer e → IsCell nets (pins ++ more) sets outer e
   IsCell-more pins more sets outer cell.Input h = record { fits = tt; source = h.source; input = h.input }
   IsCell-more pins more sets outer cell.Foreign h = record { fits = tt; source = h.source; input = h.input }
+  IsCell-more pins more sets outer (cell.Pair kind delay two) h = record { fits = h.fits; source = h.source; input = h.input }
   IsCell-more pins more sets outer (cell.Gate kind delay span) h =
       let (within, has_, low, high) = h.fits in
       record {

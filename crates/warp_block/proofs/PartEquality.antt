@@ -18,11 +18,12 @@ use Rattle.gate_values.specs.declared.gate.Kind.TheVariants.{And, Nand, Or, Nor,
 use Rattle.gate_values.specs.Behaviour.{Source, Outside, Gate, Flop}
 use Rattle.warp_block.specs.declared.cell.Cell.{Cell}
 use Rattle.warp_block.specs.declared.cell.Cell.TheVariants as cell
+use Rattle.warp_block.specs.declared.cell.Span.{Span}
 use Rattle.warp_block.specs.declared.part.Part.TheInside.{Inside}
 use Rattle.warp_block.specs.Inner.HeldPart.{IsHeld, portion_of, CellFits, cell_source, is_input_cell, stretch}
 use Rattle.warp_block.specs.Portion.{Portion, IsPortion}
 use Rattle.warp_block.specs.SamePart.{kind_place, logic_place, numbers_of, same_part}
-use Rattle.warp_block.specs.Inner.SamePart.{SameAt, SameCell}
+use Rattle.warp_block.specs.Inner.SamePart.{SameAt, IsGate, SameCell}
 use Rattle.warp_block.proofs.PartHeld.{source-at, fits-at}
 use Rattle.warp_block.proofs.PartWhole.{same_portion}
 
@@ -127,28 +128,42 @@ module _ (nets : List ℕ) (up : IsStrictlyIncreasing nets) where
       let rest = places_same xs ys (λ k d l. g (suc k) d (omega (arith, l))) (λ k d l. h (suc k) d (omega (arith, l))) others in
       cc
 
-  -- cells that say the same mean the same, and the other way round
-  cells_same : (pins others : List ℕ) → All (λ pin. pin < length nets) pins → All (λ pin. pin < length nets) others → (a b : Cell)
-      → CellFits (length nets) (length pins) a → CellFits (length nets) (length others) b
-      → SameCell pins a others b ↔ ((cell_source nets pins a ≡ cell_source nets others b) × (is_input_cell a ≡ is_input_cell b))
-  cells_same pins others g h cell.Input cell.Input x y = (λ r. (refl, refl), λ r. tt)
-  cells_same pins others g h cell.Foreign cell.Foreign x y = (λ r. (refl, refl), λ r. tt)
-  cells_same pins others g h (cell.Gate k d s) (cell.Gate l e t) x y = (
+  -- gates of one kind, with one delay and the same pins
+  gates_same : (k l : Kind) (d e : ℕ) (ps qs : List ℕ) → All (λ pin. pin < length nets) ps → All (λ pin. pin < length nets) qs
+      → ((k ≡ l) × (d ≡ e) × (ps ≡ qs)) ↔ ((Source.Gate k d (map (λ place. get_or nets place 0) ps) ≡ Source.Gate l e (map (λ place. get_or nets place 0) qs)) × (false ≡ false))
+  gates_same k l d e ps qs g h = (
     λ r. (let kinds = r.0 in
         let delays = r.1 in
-        let nets_same : map (λ place. get_or nets place 0) (stretch pins s) ≡ map (λ place. get_or nets place 0) (stretch others t) = ap (map (λ place. get_or nets place 0)) r.2 in
+        let nets_same : map (λ place. get_or nets place 0) ps ≡ map (λ place. get_or nets place 0) qs = ap (map (λ place. get_or nets place 0)) r.2 in
         (cc, refl)),
     λ r. (let source = r.0 in
         let kinds : k ≡ l = cc in
         let delays : d ≡ e = cc in
-        let same : map (λ place. get_or nets place 0) (stretch pins s) ≡ map (λ place. get_or nets place 0) (stretch others t) = cc in (
-          kinds,
-          delays,
-          places_same (stretch pins s) (stretch others t)
-              (All-take (λ pin. pin < length nets) s.count (drop s.start pins) (All-drop (λ pin. pin < length nets) s.start pins g))
-              (All-take (λ pin. pin < length nets) t.count (drop t.start others) (All-drop (λ pin. pin < length nets) t.start others h)) same,
-        )),
+        let same : map (λ place. get_or nets place 0) ps ≡ map (λ place. get_or nets place 0) qs = cc in
+        (kinds, delays, places_same ps qs g h same)),
   )
+
+  -- what stands in a stretch are places
+  stretch_within : (pins : List ℕ) (span : Span) → All (λ pin. pin < length nets) pins → All (λ pin. pin < length nets) (stretch pins span)
+  stretch_within pins span h = All-take (λ pin. pin < length nets) span.count (drop span.start pins) (All-drop (λ pin. pin < length nets) span.start pins h)
+
+  -- a gate and a cell
+  gate_same : (others : List ℕ) → All (λ pin. pin < length nets) others → (k : Kind) (d : ℕ) (ps : List ℕ) → All (λ pin. pin < length nets) ps → (b : Cell) → CellFits (length nets) (length others) b
+      → IsGate k d ps others b ↔ ((Source.Gate k d (map (λ place. get_or nets place 0) ps) ≡ cell_source nets others b) × (false ≡ is_input_cell b))
+  gate_same others h k d ps g (cell.Pair l e two) y = gates_same k l d e ps two g y.1
+  gate_same others h k d ps g (cell.Gate l e t) y = gates_same k l d e ps (stretch others t) g (stretch_within others t h)
+  gate_same others h k d ps g cell.Input y = (λ r. absurd r, λ r. absurd (let f = r.0 in cc))
+  gate_same others h k d ps g cell.Foreign y = (λ r. absurd r, λ r. absurd (let f = r.0 in cc))
+  gate_same others h k d ps g (cell.Flop b e m j) y = (λ r. absurd r, λ r. absurd (let f = r.0 in cc))
+
+  -- cells that say the same mean the same, and the other way round
+  cells_same : (pins others : List ℕ) → All (λ pin. pin < length nets) pins → All (λ pin. pin < length nets) others → (a b : Cell)
+      → CellFits (length nets) (length pins) a → CellFits (length nets) (length others) b
+      → SameCell pins a others b ↔ ((cell_source nets pins a ≡ cell_source nets others b) × (is_input_cell a ≡ is_input_cell b))
+  cells_same pins others g h (cell.Pair k d two) b x y = gate_same others h k d two x.1 b y
+  cells_same pins others g h (cell.Gate k d s) b x y = gate_same others h k d (stretch pins s) (stretch_within pins s g) b y
+  cells_same pins others g h cell.Input cell.Input x y = (λ r. (refl, refl), λ r. tt)
+  cells_same pins others g h cell.Foreign cell.Foreign x y = (λ r. (refl, refl), λ r. tt)
   cells_same pins others g h (cell.Flop a d n c) (cell.Flop b e m j) x y = (
     λ r. (let delays = r.0 in let data_same = r.1 in let clocks = r.2 in let contents = r.3 in (cc, refl)),
     λ r. (let source = r.0 in
@@ -159,16 +174,16 @@ module _ (nets : List ℕ) (up : IsStrictlyIncreasing nets) where
         (delays, place_same n m x.0 y.0 data_same, place_same c j x.1 y.1 clocks, contents)),
   )
   cells_same pins others g h cell.Input cell.Foreign x y = (λ r. absurd r, λ r. absurd (let f = r.1 in cc))
+  cells_same pins others g h cell.Input (cell.Pair l e two) x y = (λ r. absurd r, λ r. absurd (let f = r.0 in cc))
   cells_same pins others g h cell.Input (cell.Gate l e t) x y = (λ r. absurd r, λ r. absurd (let f = r.0 in cc))
   cells_same pins others g h cell.Input (cell.Flop b e m j) x y = (λ r. absurd r, λ r. absurd (let f = r.0 in cc))
   cells_same pins others g h cell.Foreign cell.Input x y = (λ r. absurd r, λ r. absurd (let f = r.1 in cc))
+  cells_same pins others g h cell.Foreign (cell.Pair l e two) x y = (λ r. absurd r, λ r. absurd (let f = r.0 in cc))
   cells_same pins others g h cell.Foreign (cell.Gate l e t) x y = (λ r. absurd r, λ r. absurd (let f = r.0 in cc))
   cells_same pins others g h cell.Foreign (cell.Flop b e m j) x y = (λ r. absurd r, λ r. absurd (let f = r.0 in cc))
-  cells_same pins others g h (cell.Gate k d s) cell.Input x y = (λ r. absurd r, λ r. absurd (let f = r.0 in cc))
-  cells_same pins others g h (cell.Gate k d s) cell.Foreign x y = (λ r. absurd r, λ r. absurd (let f = r.0 in cc))
-  cells_same pins others g h (cell.Gate k d s) (cell.Flop b e m j) x y = (λ r. absurd r, λ r. absurd (let f = r.0 in cc))
   cells_same pins others g h (cell.Flop a d n c) cell.Input x y = (λ r. absurd r, λ r. absurd (let f = r.0 in cc))
   cells_same pins others g h (cell.Flop a d n c) cell.Foreign x y = (λ r. absurd r, λ r. absurd (let f = r.0 in cc))
+  cells_same pins others g h (cell.Flop a d n c) (cell.Pair l e two) x y = (λ r. absurd r, λ r. absurd (let f = r.0 in cc))
   cells_same pins others g h (cell.Flop a d n c) (cell.Gate l e t) x y = (λ r. absurd r, λ r. absurd (let f = r.0 in cc))
 
 -- two parts with the same nets say the same of a place where their cells do

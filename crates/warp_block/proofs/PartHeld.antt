@@ -1,5 +1,5 @@
 -- What the fields of a part say of its nets.
-use Rattle.std.proofs.Common.{◌≡◌, ℕ, suc, ◌<◌, List, [], ◌∷◌, map, drop, length, get_or, refl, ap, subst, ◌∙◌, arith}
+use Rattle.std.proofs.Common.{◌≡◌, ℕ, suc, ◌<◌, ◌≤◌, List, [], ◌∷◌, map, drop, length, get_or, refl, ap, subst, ◌∙◌, arith}
 use Rattle.std.specs.List.{All}
 use Rattle.std.specs.List.Sorted.{IsStrictlyIncreasing}
 use Rattle.std.proofs.lemmas.List.{get_or-map}
@@ -10,7 +10,7 @@ use Rattle.gate_values.specs.declared.gate.Kind.{Kind}
 use Rattle.gate_values.specs.Tables.{table_of, flip_of}
 use Rattle.gate_values.specs.Behaviour.{Outside, output, next_content}
 use Rattle.warp_block.specs.declared.cell.Cell.{Cell}
-use Rattle.warp_block.specs.declared.cell.Cell.TheVariants.{Gate, Flop}
+use Rattle.warp_block.specs.declared.cell.Cell.TheVariants.{Pair, Gate, Flop}
 use Rattle.warp_block.specs.declared.part.Part.TheInside.{Inside}
 use Rattle.warp_block.specs.Inner.HeldPart.{IsHeld, portion_of, cell_source, stretch, CellFits}
 use Rattle.warp_block.specs.declared.cell.Span.{Span}
@@ -41,6 +41,13 @@ pub fits-at : (p : Inside) (i : ℕ) (e cell : Cell) → IsHeld p → i < length
     → CellFits (length p.nets.items) (length p.pins.items) cell
 fits-at p i e cell h l is = subst (CellFits (length p.nets.items) (length p.pins.items)) is (h.fit i e (omega (arith, h.cells)))
 
+-- a list of two
+pub two_are : (xs : List ℕ) → 2 ≤ length xs → length xs < 3 → xs ≡ get_or xs 0 0 ∷ get_or xs 1 0 ∷ []
+two_are [] least below = absurd (omega arith)
+two_are (x ∷ []) least below = absurd (omega arith)
+two_are (x ∷ y ∷ []) least below = refl
+two_are (x ∷ y ∷ z ∷ zs) least below = absurd (omega arith)
+
 -- the values of the nets at some places
 values-at : (nets : List ℕ) (values : List Logic) (places : List ℕ) → IsStrictlyIncreasing nets → All (λ place. place < length nets) places
     → map (value_in nets values) (map (λ place. get_or nets place 0) places) ≡ map (λ place. get_or values place X) places
@@ -58,6 +65,14 @@ module _ (p : Inside) (h : IsHeld p) (values contents : List Logic) (i : ℕ) (e
       rw (source-at p i e (Gate kind delay span) h l is)
       (ap (table_of kind) (values-at p.nets.items values (stretch p.pins.items span) h.portion.ascending
       (All-take (λ pin. pin < length p.nets.items) span.count (drop span.start p.pins.items) (All-drop (λ pin. pin < length p.nets.items) span.start p.pins.items h.pins))))
+
+  pub pair_output : (kind : Kind) (delay : ℕ) (two : List ℕ) → get_or p.cells.items i e ≡ Pair kind delay two
+      → output (get_or (portion_of p).sources i Outside) (moment_of p.nets.items values contents) (get_or p.nets.items i 0)
+      ≡ table_of kind (get_or values (get_or two 0 0) X ∷ get_or values (get_or two 1 0) X ∷ [])
+  pair_output kind delay two is =
+      let fits : CellFits (length p.nets.items) (length p.pins.items) (Pair kind delay two) = fits-at p i e (Pair kind delay two) h l is in
+      rw (source-at p i e (Pair kind delay two) h l is)
+      (ap (table_of kind) (values-at p.nets.items values two h.portion.ascending fits.1 ∙ ap (map (λ place. get_or values place X)) (two_are two (omega (arith, fits.0)) (omega (arith, fits.0)))))
 
   pub flop_output : (delay d clock : ℕ) (init : Logic) → get_or p.cells.items i e ≡ Flop init delay d clock
       → output (get_or (portion_of p).sources i Outside) (moment_of p.nets.items values contents) (get_or p.nets.items i 0) ≡ get_or contents i X

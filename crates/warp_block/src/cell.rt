@@ -42,7 +42,13 @@ pub(crate) enum Cell {
     Input,
     /// A net of another block.
     Foreign,
-    /// A gate of the block, over a stretch of the block's pins.
+    /// A gate of the block of two inputs, with its pins.
+    Pair {
+        kind: Kind,
+        delay: u32,
+        pins: [u32; 2],
+    },
+    /// Another gate of the block, over a stretch of the block's pins.
     Gate {
         kind: Kind,
         delay: u32,

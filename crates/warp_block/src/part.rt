@@ -148,7 +148,10 @@ impl Part {
         requires { slot < length self.now.nets }
         ensures { result ≡ is_driven (get_or self.now.sources slot Outside) }
     {
-        matches!(self.cells[slot], Cell::Gate { .. } | Cell::Flop { .. })
+        matches!(
+            self.cells[slot],
+            Cell::Pair { .. } | Cell::Gate { .. } | Cell::Flop { .. }
+        )
     }
 
     /// Whether the net at a place is an input of the circuit.
@@ -174,7 +177,8 @@ impl Part {
         ensures within { result ≤ 1000000 }
     {
         match self.cells[slot] {
-            Cell::Gate { delay, .. } | Cell::Flop { delay, .. } => u64::from(delay),
+            Cell::Pair { delay, .. } | Cell::Gate { delay, .. } | Cell::Flop { delay, .. } =>
+                u64::from(delay),
             Cell::Input | Cell::Foreign => 0,
         }
     }
@@ -186,7 +190,7 @@ impl Part {
     {
         match self.cells[slot] {
             Cell::Flop { init, .. } => init,
-            Cell::Input | Cell::Foreign | Cell::Gate { .. } => Logic::X,
+            Cell::Input | Cell::Foreign | Cell::Pair { .. } | Cell::Gate { .. } => Logic::X,
         }
     }
 
@@ -227,6 +231,10 @@ impl Part {
     {
         match self.cells[slot] {
             Cell::Input | Cell::Foreign => Ok(Logic::X),
+            Cell::Pair { kind, pins, .. } => {
+                let [first, second] = pins;
+                Ok(table(kind, &[values[first as usize], values[second as usize]]))
+            }
             Cell::Gate { kind, pins, .. } => {
                 let value = gate_output(kind, values, pins.of(&self.pins), operands)?;
                 Ok(value)
@@ -242,7 +250,7 @@ impl Part {
         ensures clock { option_map (slice_index self.now.nets) result ≡ clock_of (get_or self.now.sources slot Outside) }
     {
         match self.cells[slot] {
-            Cell::Input | Cell::Foreign | Cell::Gate { .. } => None,
+            Cell::Input | Cell::Foreign | Cell::Pair { .. } | Cell::Gate { .. } => None,
             Cell::Flop { clock, .. } => Some(clock as usize),
         }
     }
@@ -262,7 +270,7 @@ impl Part {
             (moment_of self.now.nets values.now contents.now) (slice_index self.now.nets slot) }
     {
         match self.cells[slot] {
-            Cell::Input | Cell::Foreign | Cell::Gate { .. } => Logic::X,
+            Cell::Input | Cell::Foreign | Cell::Pair { .. } | Cell::Gate { .. } => Logic::X,
             Cell::Flop { d, clock, .. } => flip(
                 contents[slot],
                 values[clock as usize],
@@ -338,7 +346,7 @@ impl PartialEq for Part {
     }
 }
 
-/// What a gate puts out for the values at some places. The operands are a place to work in, which one or two don't need.
+/// What a gate puts out for the values at some places. The operands are a place to work in, which one doesn't need.
 fn gate_output(
     kind: Kind,
     values: &[Logic],
@@ -351,7 +359,6 @@ fn gate_output(
 {
     match places {
         [place] => Ok(table(kind, &[values[*place as usize]])),
-        [first, second] => Ok(table(kind, &[values[*first as usize], values[*second as usize]])),
         _ => {
             pick(values, places, operands)?;
             Ok(table(kind, operands))

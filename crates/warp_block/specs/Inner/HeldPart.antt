@@ -4,7 +4,7 @@ use Rattle.std.specs.List.{All}
 use Rattle.gate_values.specs.Tables.{HasInputs}
 use Rattle.gate_values.specs.Behaviour.{Source}
 use Rattle.warp_block.specs.declared.cell.Cell.{Cell}
-use Rattle.warp_block.specs.declared.cell.Cell.TheVariants.{Input, Foreign, Gate, Flop}
+use Rattle.warp_block.specs.declared.cell.Cell.TheVariants.{Input, Foreign, Pair, Gate, Flop}
 use Rattle.warp_block.specs.declared.cell.Span.{Span}
 use Rattle.warp_block.specs.declared.part.Part.TheInside.{Inside}
 use Rattle.warp_block.specs.Portion.{Portion, IsPortion, is_used}
@@ -17,6 +17,7 @@ stretch xs span = take span.count (drop span.start xs)
 abbrev pub cell_source : List ℕ → List ℕ → Cell → Source
 cell_source nets pins Input = Source.Outside
 cell_source nets pins Foreign = Source.Outside
+cell_source nets pins (Pair kind delay two) = Source.Gate kind delay (map (slice_index nets) two)
 cell_source nets pins (Gate kind delay span) = Source.Gate kind delay (map (slice_index nets) (stretch pins span))
 cell_source nets pins (Flop init delay d clock) = Source.Flop delay (slice_index nets d) (slice_index nets clock) init
 
@@ -37,6 +38,7 @@ portion_of p = record {
 abbrev pub CellFits : ℕ → ℕ → Cell → Type 0
 CellFits nets pins Input = Unit {0}
 CellFits nets pins Foreign = Unit {0}
+CellFits nets pins (Pair kind delay two) = (length two ≡ 2) × All (λ pin. pin < nets) two × HasInputs kind 2 × (1 ≤ delay) × (delay ≤ 1000000)
 CellFits nets pins (Gate kind delay span) = (span.start + span.count ≤ pins) × HasInputs kind span.count × (1 ≤ delay) × (delay ≤ 1000000)
 CellFits nets pins (Flop init delay d clock) = (d < nets) × (clock < nets) × (1 ≤ delay) × (delay ≤ 1000000)
 

@@ -1,5 +1,6 @@
 -- What only proofs need beside `SamePart`.
 use Rattle.std.specs.Prelude.{◌≡◌, ℕ, ◌+◌, ◌≤◌, false, List, [], get_or}
+use Rattle.gate_values.specs.declared.gate.Kind.{Kind}
 use Rattle.gate_values.specs.Behaviour.{Outside}
 use Rattle.warp_block.specs.declared.cell.Cell.{Cell}
 use Rattle.warp_block.specs.declared.cell.Cell.TheVariants as cell
@@ -12,11 +13,18 @@ pub record SameAt (p q : Portion) (i : ℕ) : Type 0 where
   pub input : get_or p.inputs i false ≡ get_or q.inputs i false
   pub readers : get_or p.readers i [] ≡ get_or q.readers i []
 
+-- a cell, over its pins, is a gate of a kind, with a delay and pins
+abbrev pub IsGate : Kind → ℕ → List ℕ → List ℕ → Cell → Type 0
+IsGate kind delay pins list (cell.Pair k d two) = (kind ≡ k) × (delay ≡ d) × (pins ≡ two)
+IsGate kind delay pins list (cell.Gate k d span) = (kind ≡ k) × (delay ≡ d) × (pins ≡ stretch list span)
+IsGate _ _ _ _ _ = ⊥
+
 -- two cells, over their pins, say the same
 abbrev pub SameCell : List ℕ → Cell → List ℕ → Cell → Type 0
 SameCell pins cell.Input others cell.Input = Unit {0}
 SameCell pins cell.Foreign others cell.Foreign = Unit {0}
-SameCell pins (cell.Gate k d s) others (cell.Gate l e t) = (k ≡ l) × (d ≡ e) × (stretch pins s ≡ stretch others t)
+SameCell pins (cell.Pair k d two) others e = IsGate k d two others e
+SameCell pins (cell.Gate k d span) others e = IsGate k d (stretch pins span) others e
 SameCell pins (cell.Flop i d n c) others (cell.Flop j e m k) = (d ≡ e) × (n ≡ m) × (c ≡ k) × (i ≡ j)
 SameCell _ _ _ _ = ⊥
 

@@ -1,7 +1,9 @@
-ghost use Rattle.std.specs.Prelude.{◌≡◌, ◌<◌, ◌++◌, ℕ, [], IsTrue, IfOk, OnOk, is_some, length, map};
+ghost use Rattle.std.specs.Prelude.{◌≡◌, ◌<◌, ◌++◌, ℕ, [], IsTrue, false, IfOk, OnOk, is_some, length, map};
 ghost use Rattle.std.specs.List.{All};
 ghost use Rattle.std.specs.List.Sorted.{IsStrictlyIncreasing};
-ghost use Rattle.gate_netlist.specs.Circuit.{CutFits, nets_of, driver_of, source_of, is_input as is_outer};
+ghost use Rattle.gate_values.specs.Tables.{HasInputs};
+ghost use Rattle.gate_values.specs.Behaviour.{Gate};
+ghost use Rattle.gate_netlist.specs.Circuit.{CutFits, IsDelay, nets_of, driver_of, source_of, is_input as is_outer};
 ghost use Rattle.warp_block.specs.Portion.{slot_of};
 ghost use Rattle.warp_block.specs.PartOf.{is_own, is_used_by, part_nets, part_source};
 ghost use Rattle.warp_block.specs.Inner.Building.{driver_uses, place_of, has, IsCell, HasMore, AreCells};
@@ -9,6 +11,7 @@ ghost use Rattle.warp_block.specs.Inner.Building.{driver_uses, place_of, has, Is
 use super::slots::{is_among, place_in, settle};
 use crate::cell::{Cell, Span};
 use gate_netlist::{Circuit, Cut, Driver};
+use gate_values::Kind;
 use std::alloc::{AllocError, Global};
 
 /// Whether a block owns a net.
@@ -150,20 +153,46 @@ fn own_cell(
     };
     match circuit.driver(net) {
         Driver::Input => Ok(Cell::Input),
-        Driver::Gate { kind, inputs } => {
-            let span = add_pins(nets, inputs.as_slice(), pins)?;
-            Ok(Cell::Gate {
-                kind: *kind,
-                delay,
-                pins: span,
-            })
-        }
+        Driver::Gate { kind, inputs } => gate_cell(nets, *kind, delay, inputs.as_slice(), pins),
         Driver::Flop { d, clock, init } => Ok(Cell::Flop {
             init: *init,
             delay,
             d: place_in(nets, *d),
             clock: place_in(nets, *clock),
         }),
+    }
+}
+
+/// What the net of a gate is to the block: the pins of any but two go into the list.
+fn gate_cell(
+    nets: &[u32],
+    kind: Kind,
+    delay: u32,
+    inputs: &[u32],
+    pins: &mut Vec<u32>,
+) -> Result<Cell, AllocError>
+    requires up { IsStrictlyIncreasing nets.now }
+    requires few { length nets.now < 4294967296 }
+    requires there { All (λ u. IsTrue (is_some (slot_of nets.now u))) inputs.now }
+    requires inputs { HasInputs kind (length inputs.now) }
+    requires delay { IsDelay delay }
+    ensures cell { IfOk result (λ cell. IsCell nets.now pins.new.items (Gate kind delay inputs.now) false cell) }
+    ensures pins { OnOk result (HasMore (length nets.now) pins.old.items pins.new.items) }
+{
+    match inputs {
+        [first, second] => Ok(Cell::Pair {
+            kind,
+            delay,
+            pins: [place_in(nets, *first), place_in(nets, *second)],
+        }),
+        _ => {
+            let span = add_pins(nets, inputs, pins)?;
+            Ok(Cell::Gate {
+                kind,
+                delay,
+                pins: span,
+            })
+        }
     }
 }
 

@@ -29,6 +29,7 @@ impl Part {
     {
         match &self.cells[slot] {
             Cell::Input | Cell::Foreign => &[],
+            Cell::Pair { pins, .. } => pins.as_slice(),
             Cell::Gate { pins, .. } => pins.of(&self.pins),
             Cell::Flop { clock, .. } => slice::from_ref(clock),
         }

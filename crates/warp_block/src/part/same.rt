@@ -1,5 +1,5 @@
 ghost use Rattle.std.specs.Prelude.{◌≡◌, ◌+◌, ◌↔◌, IsTrue, length};
-ghost use Rattle.warp_block.specs.Inner.SamePart.{SameCell, Spans};
+ghost use Rattle.warp_block.specs.Inner.SamePart.{IsGate, SameCell, Spans};
 
 use crate::cell::Cell;
 use gate_values::{Kind, Logic};
@@ -32,22 +32,16 @@ pub(super) fn same_cell(first: Cell, pins: &[u32], second: Cell, others: &[u32])
     match first {
         Cell::Input => matches!(second, Cell::Input),
         Cell::Foreign => matches!(second, Cell::Foreign),
+        Cell::Pair {
+            kind,
+            delay,
+            pins: two,
+        } => is_gate(second, others, kind, delay, &two),
         Cell::Gate {
             kind,
             delay,
             pins: span,
-        } => match second {
-            Cell::Gate {
-                kind: other_kind,
-                delay: other_delay,
-                pins: other,
-            } => {
-                same_kind(kind, other_kind)
-                    && delay == other_delay
-                    && same_numbers(span.of(pins), other.of(others))
-            }
-            _ => false,
-        },
+        } => is_gate(second, others, kind, delay, span.of(pins)),
         Cell::Flop {
             init,
             delay,
@@ -67,5 +61,27 @@ pub(super) fn same_cell(first: Cell, pins: &[u32], second: Cell, others: &[u32])
             }
             _ => false,
         },
+    }
+}
+
+/// Whether a cell, over the pins of its part, is a gate of a kind, with a delay and pins.
+fn is_gate(cell: Cell, list: &[u32], kind: Kind, delay: u32, pins: &[u32]) -> bool
+    requires { Spans (length list.now) cell }
+    ensures { IsTrue result ↔ IsGate kind delay pins.now list.now cell }
+{
+    match cell {
+        Cell::Pair {
+            kind: other_kind,
+            delay: other_delay,
+            pins: two,
+        } => same_kind(kind, other_kind) && delay == other_delay && same_numbers(pins, &two),
+        Cell::Gate {
+            kind: other_kind,
+            delay: other_delay,
+            pins: span,
+        } => {
+            same_kind(kind, other_kind) && delay == other_delay && same_numbers(pins, span.of(list))
+        }
+        _ => false,
     }
 }
