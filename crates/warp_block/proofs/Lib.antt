@@ -57,3 +57,4 @@ pub mod Unsettled
 pub mod Committing
 pub mod Committed
 pub mod Laws
+pub mod Marking

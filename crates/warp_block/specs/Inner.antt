@@ -11,6 +11,7 @@ pub mod HeldBlock
 pub mod HeldPart
 pub mod Index
 pub mod Logs
+pub mod Marks
 pub mod Moments
 pub mod Placed
 pub mod Present
