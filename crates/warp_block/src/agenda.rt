@@ -5,6 +5,7 @@ ghost use Rattle.warp_block.specs.View.{IsLeast};
 ghost use Rattle.warp_block.specs.Inner.Agenda.{places_at, is_listed};
 ghost use Rattle.warp_block.specs.Inner.Building.{has};
 
+use crate::woken::Woken;
 use std::alloc::{AllocError, Global};
 use std::collections::BTreeMap;
 
@@ -55,13 +56,13 @@ impl Agenda {
         Ok(())
     }
 
-    /// Puts the places of a time into ascending order, each once.
-    pub(crate) fn settle(&mut self, time: u64)
+    /// Puts the places of a time into ascending order, each once, in a place to work in.
+    pub(crate) fn settle(&mut self, time: u64, gates: &mut Woken)
         ensures rising { IsStrictlyIncreasing (places_at self.new.times time) }
         ensures same { (t i : ℕ) → has (places_at self.new.times t) i ≡ has (places_at self.old.times t) i }
     {
         if let Some(places) = self.times.get_mut(&time) {
-            settle(places);
+            gates.put_in_order(places);
         }
     }
 

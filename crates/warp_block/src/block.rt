@@ -21,6 +21,7 @@ use crate::look::Look;
 use crate::message::Message;
 use crate::part::{Fan, Part};
 use crate::states::States;
+use crate::woken::Woken;
 use gate_values::Change;
 use gate_vcd::Stimulus;
 use std::alloc::{AllocError, Global};
@@ -35,7 +36,7 @@ pub struct Block {
     journal: Journal,
     fan: Fan,
     states: States,
-    gates: Vec<u32>,
+    gates: Woken,
 }
 
 impl Model for Block {
@@ -80,7 +81,7 @@ impl Block {
             journal,
             fan,
             states,
-            gates: Vec::new(alloc),
+            gates: Woken::new(alloc),
         })
     }
 

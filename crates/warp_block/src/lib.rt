@@ -30,6 +30,7 @@ mod queue;
 mod state;
 mod states;
 mod timed;
+mod woken;
 
 pub use block::Block;
 pub use entry::Entry;

@@ -16,6 +16,7 @@ use super::Look;
 use crate::agenda::Agenda;
 use crate::part::Fan;
 use crate::states::States;
+use crate::woken::Woken;
 use gate_values::Logic;
 use std::alloc::AllocError;
 
@@ -26,7 +27,7 @@ impl Look {
         time: u64,
         agenda: &Agenda,
         fan: &Fan,
-        gates: &mut Vec<u32>,
+        gates: &mut Woken,
         states: &mut States,
     ) -> Result<(), AllocError>
         requires fit { FitTogether states.old }
@@ -38,9 +39,9 @@ impl Look {
         requires indexed { IsIndexed self.now (now_of states.old).mark (places_at agenda.now.times) }
         requires flat { IsFlat fan.now }
         requires fan { AreWoken self.now.part (length self.now.part.nets) (fan_of fan.now) }
-        ensures rising { OnOk result (IsStrictlyIncreasing gates.new.items) }
-        ensures gates { OnOk result (All (λ gate. gate < length self.now.part.nets) gates.new.items) }
-        ensures woken { OnOk result (HasWoken self.now time gates.new.items) }
+        ensures rising { OnOk result (IsStrictlyIncreasing gates.new) }
+        ensures gates { OnOk result (All (λ gate. gate < length self.now.part.nets) gates.new) }
+        ensures woken { OnOk result (HasWoken self.now time gates.new) }
         ensures lawful { OnOk result (IsSaved self.now (record { mark = time + 1; values = (now_of states.new).values; contents = (now_of states.new).contents })) }
         ensures mark { (now_of states.new).mark ≡ (now_of states.old).mark }
         ensures since { states.new.since ≡ states.old.since }
@@ -48,7 +49,7 @@ impl Look {
         ensures fit { FitTogether states.new }
     {
         self.wake(time, agenda, fan, gates)?;
-        self.set_contents(time, gates, states)?;
+        self.set_contents(time, gates.as_slice(), states)?;
         self.set_values(time, agenda, states)?;
         Ok(())
     }
@@ -59,14 +60,14 @@ impl Look {
         time: u64,
         agenda: &Agenda,
         fan: &Fan,
-        gates: &mut Vec<u32>,
+        gates: &mut Woken,
     ) -> Result<(), AllocError>
         requires indexed { IsIndexed self.now time (places_at agenda.now.times) }
         requires flat { IsFlat fan.now }
         requires fan { AreWoken self.now.part (length self.now.part.nets) (fan_of fan.now) }
-        ensures rising { OnOk result (IsStrictlyIncreasing gates.new.items) }
-        ensures gates { OnOk result (All (λ gate. gate < length self.now.part.nets) gates.new.items) }
-        ensures woken { OnOk result (HasWoken self.now time gates.new.items) }
+        ensures rising { OnOk result (IsStrictlyIncreasing gates.new) }
+        ensures gates { OnOk result (All (λ gate. gate < length self.now.part.nets) gates.new) }
+        ensures woken { OnOk result (HasWoken self.now time gates.new) }
     {
         fan.woken(agenda.at(time), gates)?;
         Ok(())

@@ -16,6 +16,7 @@ use crate::journal::Journal;
 use crate::message::Message;
 use crate::part::Fan;
 use crate::states::States;
+use crate::woken::Woken;
 use std::alloc::AllocError;
 
 impl Look {
@@ -25,7 +26,7 @@ impl Look {
         &self,
         agenda: &Agenda,
         fan: &Fan,
-        gates: &mut Vec<u32>,
+        gates: &mut Woken,
         states: &mut States,
     ) -> Result<(), AllocError>
         requires held { AreStates self.now states.old }
@@ -49,7 +50,7 @@ impl Look {
         &self,
         agenda: &Agenda,
         fan: &Fan,
-        gates: &mut Vec<u32>,
+        gates: &mut Woken,
         states: &mut States,
     ) -> Result<bool, AllocError>
         requires held { AreStates self.now states.old }
@@ -90,7 +91,7 @@ impl Look {
         agenda: &mut Agenda,
         journal: &mut Journal,
         fan: &Fan,
-        gates: &mut Vec<u32>,
+        gates: &mut Woken,
         states: &mut States,
         out: &mut Vec<Message>,
     ) -> Result<(), AllocError>
@@ -124,7 +125,7 @@ impl Look {
         ensures fit { FitTogether states.new }
     {
         self.law();
-        agenda.settle(time);
+        agenda.settle(time, gates);
         self.go_over(time, agenda, fan, gates, states)?;
         states.reserve()?;
         self.finish(

@@ -8,8 +8,8 @@ ghost use Rattle.warp_block.specs.Inner.Woken.{wakes, AreAdded, AreWoken};
 
 use super::Part;
 use super::readers::{empty_lists, flattened};
-use crate::agenda::settle;
 use crate::cell::{Cell, Span};
+use crate::woken::Woken;
 use std::alloc::{AllocError, Global};
 use std::slice;
 
@@ -62,18 +62,18 @@ impl Fan {
     }
 
     /// The places whose output news at some places can change, each once, in ascending order, in place of what was there.
-    pub(crate) fn woken(&self, news: &[u32], gates: &mut Vec<u32>) -> Result<(), AllocError>
+    pub(crate) fn woken(&self, news: &[u32], gates: &mut Woken) -> Result<(), AllocError>
         requires flat { IsFlat self.now }
         requires news { All (λ place. place < length (fan_of self.now)) news.now }
-        ensures rising { OnOk result (IsStrictlyIncreasing gates.new.items) }
-        ensures woken { OnOk result ((i g : ℕ) → IsTrue (has news.now i) → IsTrue (has (get_or (fan_of self.now) i []) g) → IsTrue (has gates.new.items g)) }
-        ensures within { OnOk result ((g : ℕ) → IsTrue (has gates.new.items g) → (i : ℕ) × (i < length (fan_of self.now)) × IsTrue (has (get_or (fan_of self.now) i []) g)) }
+        ensures rising { OnOk result (IsStrictlyIncreasing gates.new) }
+        ensures woken { OnOk result ((i g : ℕ) → IsTrue (has news.now i) → IsTrue (has (get_or (fan_of self.now) i []) g) → IsTrue (has gates.new g)) }
+        ensures within { OnOk result ((g : ℕ) → IsTrue (has gates.new g) → (i : ℕ) × (i < length (fan_of self.now)) × IsTrue (has (get_or (fan_of self.now) i []) g)) }
     {
         gates.clear();
         for place in news {
-            gates.extend_from_slice(self.at(*place as usize))?;
+            gates.extend(self.at(*place as usize))?;
         }
-        settle(gates);
+        gates.settle();
         Ok(())
     }
 }

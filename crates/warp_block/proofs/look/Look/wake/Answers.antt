@@ -14,16 +14,16 @@ woken-requires-clause-news c =
 
 pub returns-clause-gates : goal.returns-clause-gates
 returns-clause-gates c =
-    below_from_has c.woken.new.gates.items (length c.args.self.now.part.nets)
+    below_from_has c.woken.new.gates (length c.args.self.now.part.nets)
     (λ g h. (let p = c.in_ok-woken.ensures.within g h in let less = p.1 in c.requires.fan.within p.0 g (omega (arith, less, c.requires.fan.same)) p.2))
 
 pub returns-clause-woken : goal.returns-clause-woken
 returns-clause-woken c =
     let v = c.args.self.now in
     let places = places_at c.args.agenda.now.times in
-    HasWoken-from v c.args.time c.args.time places (fan_of c.args.fan.now) c.woken.new.gates.items c.requires.indexed (omega arith) c.requires.fan
+    HasWoken-from v c.args.time c.args.time places (fan_of c.args.fan.now) c.woken.new.gates c.requires.indexed (omega arith) c.requires.fan
     (record {
-      places = below_from_has c.woken.new.gates.items (length v.part.nets)
+      places = below_from_has c.woken.new.gates (length v.part.nets)
           (λ g h. (let p = c.in_ok-woken.ensures.within g h in let less = p.1 in c.requires.fan.within p.0 g (omega (arith, less, c.requires.fan.same)) p.2));
       woken = λ i g h k. c.in_ok-woken.ensures.woken i g (ap (λ (ps : List ℕ). has ps i) c.at.ensures ∙ h) k;
     })

@@ -9,11 +9,11 @@ pub loop-place-preserved : goal.loop-place-preserved
 loop-place-preserved c =
     let lists = fan_of c.args.self.now in
     let j = c.loop-place.place-index in
-    let more : c.extend_from_slice.new.self.items ≡ c.loop-place.gates.items ++ get_or lists (get_or c.args.news.now j 0) [] =
-    c.in_ok-extend_from_slice.ensures.items ∙ ap (λ (ys : List ℕ). c.loop-place.gates.items ++ ys) c.at.ensures in
+    let more : c.extend.new.self ≡ c.loop-place.gates ++ get_or lists (get_or c.args.news.now j 0) [] =
+    c.in_ok-extend.ensures ∙ ap (λ (ys : List ℕ). c.loop-place.gates ++ ys) c.at.ensures in
     record {
-      woken = woken_more lists c.args.news.now j c.loop-place.gates.items c.extend_from_slice.new.self.items c.loop-place-test.true more c.loop-place.invariant.woken;
-      within = within_more lists (get_or c.args.news.now j 0) (c.requires.news j 0 c.loop-place-test.true) c.loop-place.gates.items c.extend_from_slice.new.self.items more c.loop-place.invariant.within;
+      woken = woken_more lists c.args.news.now j c.loop-place.gates c.extend.new.self c.loop-place-test.true more c.loop-place.invariant.woken;
+      within = within_more lists (get_or c.args.news.now j 0) (c.requires.news j 0 c.loop-place-test.true) c.loop-place.gates c.extend.new.self more c.loop-place.invariant.within;
     }
 
 pub returns-clause-woken : goal.returns-clause-woken
