@@ -56,7 +56,7 @@ impl Agenda {
         Ok(())
     }
 
-    /// Puts the places of a time into ascending order, each once, in a place to work in.
+    /// Puts the places of a time into ascending order, each once. The gates are a place to work in.
     pub(crate) fn settle(&mut self, time: u64, gates: &mut Woken)
         ensures rising { IsStrictlyIncreasing (places_at self.new.times time) }
         ensures same { (t i : ℕ) → has (places_at self.new.times t) i ≡ has (places_at self.old.times t) i }

@@ -11,7 +11,7 @@
 //! The definitions stand in `specs/`: `Portion` and `PartOf` for parts, `Entries` for what is received, `View` for what
 //! a block shows, its value and its event times, `Lawful` for the invariant, `Receive`, `Advance`, `Commit` and `Sends`
 //! for calls, `Limits` for the horizon's limit. What a block keeps so that a step costs what happens in it is `Index`, for
-//! the news and notes of its places, and `Woken`, for who looks at each.
+//! the news and notes of its places, `Woken`, for who looks at each, and `Marks`, for places put into order.
 #![tactic(auto)]
 
 mod agenda;
