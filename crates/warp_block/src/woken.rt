@@ -1,9 +1,12 @@
 //! The gates that news wakes.
-ghost use Rattle.std.specs.Prelude.{◌≡◌, ◌++◌, ℕ, [], OnOk};
+ghost use Rattle.std.specs.Prelude.{◌≡◌, ◌<◌, ◌++◌, ℕ, [], IsTrue, OnOk, length, get_or};
+ghost use Rattle.std.specs.List.{All};
 ghost use Rattle.std.specs.List.Sorted.{IsStrictlyIncreasing};
 ghost use Rattle.warp_block.specs.Inner.Building.{has};
+ghost use Rattle.warp_block.specs.Inner.Fan.{fan_of, IsFlat, AreClosed};
 
 use crate::order::Order;
+use crate::part::Fan;
 use std::alloc::{AllocError, Global};
 use std::marker::Model;
 
@@ -52,6 +55,18 @@ impl Woken {
         ensures { OnOk result (self.new ≡ self.old ++ places.now) }
     {
         self.places.extend_from_slice(places)
+    }
+
+    /// The places that look at some others, each once, in ascending order, in place of what was there.
+    pub(crate) fn list_readers(&mut self, fan: &Fan, news: &[u32]) -> Result<(), AllocError>
+        requires flat { IsFlat fan.now }
+        requires closed { AreClosed (fan_of fan.now) }
+        requires news { All (λ place. place < length (fan_of fan.now)) news.now }
+        ensures rising { OnOk result (IsStrictlyIncreasing self.new) }
+        ensures woken { OnOk result ((i g : ℕ) → IsTrue (has news.now i) → IsTrue (has (get_or (fan_of fan.now) i []) g) → IsTrue (has self.new g)) }
+        ensures within { OnOk result ((g : ℕ) → IsTrue (has self.new g) → (i : ℕ) × (i < length (fan_of fan.now)) × IsTrue (has (get_or (fan_of fan.now) i []) g)) }
+    {
+        self.order.list_readers(fan, news, &mut self.places)
     }
 
     /// Puts the places into ascending order, each once.

@@ -69,6 +69,7 @@ impl Look {
         ensures gates { OnOk result (All (λ gate. gate < length self.now.part.nets) gates.new) }
         ensures woken { OnOk result (HasWoken self.now time gates.new) }
     {
+        self.law();
         fan.woken(agenda.at(time), gates)?;
         Ok(())
     }

@@ -12,6 +12,14 @@ woken-requires-clause-news c =
     subst (λ (ps : List ℕ). All (λ p. p < n) ps) (sym c.at.ensures)
     (below_from_has (places_at c.args.agenda.now.times c.args.time) n (λ i h. (let within = c.requires.indexed.within c.args.time i h in omega (arith, within, c.requires.fan.same))))
 
+pub woken-requires-clause-closed : goal.woken-requires-clause-closed
+woken-requires-clause-closed c =
+    let fan = c.requires.fan in
+    record {
+      few = omega (arith, c.law.ensures.part.few, fan.same);
+      places = λ i g l h. (let less = fan.within i g (omega (arith, l, fan.same)) h in omega (arith, less, fan.same));
+    }
+
 pub returns-clause-gates : goal.returns-clause-gates
 returns-clause-gates c =
     below_from_has c.woken.new.gates (length c.args.self.now.part.nets)
