@@ -1,5 +1,5 @@
 -- What a search among ascending nets finds.
-use Rattle.std.proofs.Common.{◌≡◌, ◌≢◌, ℕ, ◌<◌, ◌≤◌, ◌==◌, cond, not, nat_lt, Some, None, Result, Ok, Err, List, length, get_or, inl, inr, ap, subst, ◌∙◌, arith, le-ltb}
+use Rattle.std.proofs.Common.{◌≡◌, ◌≢◌, ℕ, ◌<◌, ◌≤◌, ◌==◌, cond, not, nat_lt, Some, None, Result, Ok, Err, List, length, get_or, inl, inr, ap, sym, subst, ◌∙◌, arith, le-ltb}
 use Rattle.std.specs.List.{prefix_len}
 use Rattle.std.specs.Result.{MatchResult}
 use Rattle.std.specs.Ordering.{nat_cmp}
@@ -40,3 +40,7 @@ place_found nets n (Err i) up h =
       | inl less ↦ absurd (omega (arith, at.1 k less, e))
       | inr more ↦ absurd (omega (arith, at.2 k more l, e))
     ])
+
+-- a net whose place is its own number
+pub own_number : (nets : List ℕ) (n : ℕ) → IsStrictlyIncreasing nets → n < length nets → get_or nets n 0 ≡ n → Some n ≡ slot_of nets n
+own_number nets n up l e = sym (subst (λ m. slot_of nets m ≡ Some n) e (slot_at nets n up l))

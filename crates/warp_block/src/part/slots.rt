@@ -3,11 +3,15 @@ ghost use Rattle.std.specs.List.Sorted.{IsStrictlyIncreasing};
 ghost use Rattle.warp_block.specs.Portion.{slot_of};
 ghost use Rattle.warp_block.specs.Inner.Building.{place_of, has};
 
-/// The place of a net among others, which ascend.
+/// The place of a net among others, which ascend. Where they are all nets of a circuit, each is at its own number.
 pub(super) fn slot_in(nets: &[u32], net: u32) -> Option<usize>
     requires { IsStrictlyIncreasing nets.now }
     ensures { result ≡ slot_of nets.now net }
 {
+    let number = net as usize;
+    if number < nets.len() && nets[number] == net {
+        return Some(number);
+    }
     match nets.binary_search(&net) {
         Ok(slot) => Some(slot),
         Err(_) => None,
