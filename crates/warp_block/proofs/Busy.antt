@@ -1,10 +1,9 @@
 -- Event times found in an index.
-use Rattle.std.proofs.Common.{◌≡◌, ◌≢◌, ℕ, ◌+◌, ◌<◌, ◌≤◌, ◌&&◌, Bool, true, false, Some, None, List, length, get_or, inl, inr, sym, ◌∙◌, subst, arith, is_some, Vec}
-use Rattle.std.specs.declared.alloc.Global.{Global}
-use Rattle.std.specs.BTreeMap.{BTreeMap}
+use Rattle.std.proofs.Common.{◌≡◌, ◌≢◌, ℕ, ◌+◌, ◌<◌, ◌≤◌, ◌&&◌, Bool, true, false, Some, None, List, length, get_or, inl, inr, sym, ◌∙◌, subst, arith, is_some}
 use Rattle.std.proofs.lemmas.Bool.{cases_lt, cases_eq, true≢false, and_parts}
 use Rattle.std.proofs.lemmas.List.{get_or_default}
 use Rattle.std.proofs.lemmas.List.Folds.{Any-from_list_any}
+use Rattle.warp_block.specs.declared.agenda.Agenda.{Agenda}
 use Rattle.warp_block.specs.Inner.Agenda.{places_at, is_listed}
 use Rattle.warp_block.specs.Inner.Building.{has}
 use Rattle.warp_block.specs.Portion.{is_used}
@@ -31,25 +30,25 @@ busy_nowhere v t places all none h =
     let q = has_place places p.0 (all p.0 p.1 news) in
     true≢false (sym (subst (λ i. is_busy_place v t i ≡ true) (sym q.2) p.2) ∙ none q.0 q.1)
 
-module _ (v : View) (from : ℕ) (times : BTreeMap ℕ (Vec ℕ Global)) (index : IsIndexed v from (places_at times)) where
-  busy_listed : (t : ℕ) → from ≤ t → is_busy v t ≡ true → is_listed times t ≡ true
+module _ (v : View) (from : ℕ) (agenda : Agenda) (index : IsIndexed v from (places_at agenda)) where
+  busy_listed : (t : ℕ) → from ≤ t → is_busy v t ≡ true → is_listed agenda t ≡ true
   busy_listed t l h =
       let p = busy_place v t h in
       let news = (and_parts (is_used v.part (get_or v.part.nets p.0 0)) (is_some (news_of v (get_or v.part.nets p.0 0) t)) p.2).1 in
-      listed_from times t p.0 (index.held t p.0 l p.1 news)
+      listed_from agenda t p.0 (index.held t p.0 l p.1 news)
 
   -- nothing is busy up to a start
   abbrev pub IsPassed : ℕ → Type 0
   IsPassed start = (t : ℕ) → from ≤ t → t < start → ¬ (is_busy v t ≡ true)
 
   module _ (start : ℕ) (later : from ≤ start) (passed : IsPassed start) where
-    pub busy_none : IsLeast (λ t. (start ≤ t) × (is_listed times t ≡ true)) None → IsLeast (IsBusyFrom v from) None
+    pub busy_none : IsLeast (λ t. (start ≤ t) × (is_listed agenda t ≡ true)) None → IsLeast (IsBusyFrom v from) None
     busy_none none t h = elim (cases_lt t start) [
       | inl l ↦ passed t h.0 l h.2
       | inr m ↦ none t (m, busy_listed t h.0 h.2)
     ]
 
-    module _ (time : ℕ) (least : IsLeast (λ t. (start ≤ t) × (is_listed times t ≡ true)) (Some time)) where
+    module _ (time : ℕ) (least : IsLeast (λ t. (start ≤ t) × (is_listed agenda t ≡ true)) (Some time)) where
       before_time : (t : ℕ) → from ≤ t → t < time → ¬ (is_busy v t ≡ true)
       before_time t l k h = elim (cases_lt t start) [
         | inl b ↦ passed t l b h

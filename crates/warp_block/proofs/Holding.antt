@@ -1,6 +1,5 @@
 -- What holds of a block's index and journal, whatever is done with its states and entries.
-use Rattle.std.proofs.Common.{◌≡◌, ℕ, zero, suc, ◌+◌, ◌<◌, ◌≤◌, ◌++◌, ◌↔◌, true, List, [], ◌∷◌, take, drop, length, inl, inr, refl, ap, sym, ◌∙◌, subst, arith, IsSome}
-use Rattle.std.proofs.lemmas.Bool.{cases_lt, true≢false}
+use Rattle.std.proofs.Common.{◌≡◌, ℕ, zero, suc, ◌+◌, ◌<◌, ◌≤◌, ◌++◌, true, List, [], ◌∷◌, take, drop, length, refl, sym, ◌∙◌, subst, arith, IsSome}
 use Rattle.gate_values.specs.declared.logic.Change.{Change}
 use Rattle.gate_values.specs.Behaviour.{source_delay}
 use Rattle.gate_values.specs.Changes.{pair_at}
@@ -68,15 +67,12 @@ same_noted v w notes part floor mark logs x = record {
 }
 
 -- the floor and the mark move, and the index forgets the times below one
-pub forgotten_times : (v : View) (floor mark start low : ℕ) (old new : ℕ → List ℕ) → start ≤ low → ((t : ℕ) → low ≤ t → new t ≡ old t) → ((t : ℕ) → t < low → new t ≡ []) →
+pub forgotten_times : (v : View) (floor mark start low : ℕ) (old new : ℕ → List ℕ) → start ≤ low → ((t : ℕ) → low ≤ t → new t ≡ old t) → ((t i : ℕ) → has (new t) i ≡ true → has (old t) i ≡ true) →
     IsIndexed v start old → IsIndexed (record v { floor = floor; mark = mark }) low new
-forgotten_times v floor mark start low old new from kept gone x = record {
+forgotten_times v floor mark start low old new from kept listed x = record {
   held = λ t i l h news. subst (λ (ps : List ℕ). has ps i ≡ true) (sym (kept t l)) (x.held t i (omega (arith, from, l)) h news);
   received = λ t i l h some. subst (λ (ps : List ℕ). has ps i ≡ true) (sym (kept t l)) (x.received t i (omega (arith, from, l)) h some);
-  within = λ t i h. elim (cases_lt t low) [
-    | inl below ↦ absurd (true≢false (sym h ∙ ap (λ (ps : List ℕ). has ps i) (gone t below)))
-    | inr l ↦ x.within t i (subst (λ (ps : List ℕ). has ps i ≡ true) (kept t l) h)
-  ];
+  within = λ t i h. x.within t i (listed t i h);
 }
 
 -- the floor and the mark move, and the journal forgets the notes below the floor

@@ -1,6 +1,7 @@
 pub mod Settling
 pub mod Opened
 pub mod Late
+pub mod Near
 pub mod Newest
 pub mod Busy
 pub mod Waking

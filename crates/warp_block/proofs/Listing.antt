@@ -9,10 +9,10 @@ use Rattle.std.proofs.lemmas.List.Folds.{list_any_at, list_any-append, list_any_
 use Rattle.std.proofs.lemmas.List.Kept.{Contains-dedup_nat, Contains-from_dedup, AllPairs-from_increasing}
 use Rattle.std.specs.declared.vec.Vec.{Vec}
 use Rattle.std.specs.declared.alloc.Global.{Global}
-use Rattle.std.specs.Ordering.{nat_cmp}
-use Rattle.std.specs.BTreeMap.{BTreeMap, get}
 use Rattle.warp_block.specs.declared.journal.Note.{Note}
-use Rattle.warp_block.specs.Inner.Agenda.{places_in, places_at, is_listed}
+use Rattle.warp_block.specs.Inner.Near.{places_in, list_of}
+use Rattle.warp_block.specs.declared.agenda.Agenda.{Agenda}
+use Rattle.warp_block.specs.Inner.Agenda.{places_at, is_listed}
 use Rattle.warp_block.specs.Inner.Building.{has}
 use Rattle.warp_block.specs.Inner.Index.{has_note, IsGrown, IsNotedMore}
 
@@ -197,8 +197,8 @@ IsNotedMore-trans count time a b c x y = record {
 }
 
 -- at a time at which a place is listed a list stands
-pub listed_from : (times : BTreeMap ℕ (Vec ℕ Global)) (t i : ℕ) → has (places_at times t) i ≡ true → is_listed times t ≡ true
-listed_from times t i h = go (get nat_cmp times t) h
+pub listed_from : (agenda : Agenda) (t i : ℕ) → has (places_at agenda t) i ≡ true → is_listed agenda t ≡ true
+listed_from agenda t i h = go (list_of agenda.near.items agenda.far t) h
   where
     go : (o : Option (Vec ℕ Global)) → has (places_in o) i ≡ true → is_some o ≡ true
     go None k = k

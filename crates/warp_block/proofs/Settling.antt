@@ -1,9 +1,8 @@
 -- Entries below an end, looked at where an index lists them.
-use Rattle.std.proofs.Common.{◌≡◌, ℕ, ◌+◌, ◌<◌, ◌≤◌, true, Some, None, inl, inr, sym, subst, arith, Vec}
-use Rattle.std.specs.declared.alloc.Global.{Global}
-use Rattle.std.specs.BTreeMap.{BTreeMap}
+use Rattle.std.proofs.Common.{◌≡◌, ℕ, ◌+◌, ◌<◌, ◌≤◌, true, Some, None, inl, inr, sym, subst, arith}
 use Rattle.std.proofs.lemmas.Bool.{cases_lt}
 use Rattle.warp_block.specs.declared.entry.Entry.{Entry}
+use Rattle.warp_block.specs.declared.agenda.Agenda.{Agenda}
 use Rattle.warp_block.specs.Inner.Agenda.{places_at, is_listed}
 use Rattle.warp_block.specs.Inner.Building.{has}
 use Rattle.warp_block.specs.Commit.{IsUnsettledBelow}
@@ -19,37 +18,37 @@ use Rattle.warp_block.proofs.Settled.{settled-none}
 abbrev pub AreSettledUntil : View → ℕ → ℕ → Type 0
 AreSettledUntil v end from = (n t : ℕ) → t < from → IsUnsettledBelow v end n t → ⊥
 
-module _ (v : View) (end : ℕ) (times : BTreeMap ℕ (Vec ℕ Global)) (index : IsIndexed v v.floor (places_at times)) where
+module _ (v : View) (end : ℕ) (agenda : Agenda) (index : IsIndexed v v.floor (places_at agenda)) where
   -- the place of an unsettled entry is listed
-  unsettled_listed : (n t : ℕ) → v.floor ≤ t → IsUnsettledBelow v end n t → (i : ℕ) × (net_at v.part i ≡ n) × (has (places_at times t) i ≡ true)
+  unsettled_listed : (n t : ℕ) → v.floor ≤ t → IsUnsettledBelow v end n t → (i : ℕ) × (net_at v.part i ≡ n) × (has (places_at agenda t) i ≡ true)
   unsettled_listed n t from h =
       let at = unsettled_place v end n t h in
       (at.0, at.2, index.received t at.0 from at.1 (λ none. h.1 (subst (λ (m : ℕ). is_settled (entry_of v m t) ≡ true) at.2 (subst (λ (e : Entry). is_settled e ≡ true) (sym none) settled-none))))
 
   module _ (from : ℕ) (past : v.floor ≤ from) (before : AreSettledUntil v end from) where
     -- where no list stands, there is none
-    unlisted_until : (until : ℕ) → ((t : ℕ) → from ≤ t → t < until → ¬ (is_listed times t ≡ true)) → AreSettledUntil v end until
+    unlisted_until : (until : ℕ) → ((t : ℕ) → from ≤ t → t < until → ¬ (is_listed agenda t ≡ true)) → AreSettledUntil v end until
     unlisted_until until none n t l h = elim (cases_lt t from) [
       | inl early ↦ before n t early h
-      | inr late ↦ (let at = unsettled_listed n t (omega (arith, past, late)) h in none t late l (listed_from times t at.0 at.2))
+      | inr late ↦ (let at = unsettled_listed n t (omega (arith, past, late)) h in none t late l (listed_from agenda t at.0 at.2))
     ]
 
-    pub settled_nowhere : IsLeast (λ t. (from ≤ t) × (is_listed times t ≡ true)) None → (n t : ℕ) → IsUnsettledBelow v end n t → ⊥
+    pub settled_nowhere : IsLeast (λ t. (from ≤ t) × (is_listed agenda t ≡ true)) None → (n t : ℕ) → IsUnsettledBelow v end n t → ⊥
     settled_nowhere none n t h = unlisted_until end (λ u a b listed. none u (a, listed)) n t h.0 h
 
-    module _ (time : ℕ) (least : IsLeast (λ t. (from ≤ t) × (is_listed times t ≡ true)) (Some time)) where
+    module _ (time : ℕ) (least : IsLeast (λ t. (from ≤ t) × (is_listed agenda t ≡ true)) (Some time)) where
       settled_before : AreSettledUntil v end time
       settled_before = unlisted_until time (λ u a b listed. (let below = least.1 u (a, listed) in omega (arith, below, b)))
 
       pub settled_past : end ≤ time → (n t : ℕ) → IsUnsettledBelow v end n t → ⊥
       settled_past done n t h = settled_before n t (let below = h.0 in omega (arith, below, done)) h
 
-      pub settled_more : ((i : ℕ) → has (places_at times time) i ≡ true → is_settled (entry_of v (net_at v.part i) time) ≡ true) → AreSettledUntil v end (time + 1)
+      pub settled_more : ((i : ℕ) → has (places_at agenda time) i ≡ true → is_settled (entry_of v (net_at v.part i) time) ≡ true) → AreSettledUntil v end (time + 1)
       settled_more here n t l h = elim (cases_lt t time) [
         | inl early ↦ settled_before n t early h
         | inr late ↦ (let same : t ≡ time = omega (arith, late, l) in
             let low = least.0.0 in
             let at = unsettled_listed n t (omega (arith, past, low, same)) h in
             h.1 (subst (λ u. is_settled (entry_of v n u) ≡ true) (sym same)
-            (subst (λ (m : ℕ). is_settled (entry_of v m time) ≡ true) at.1 (here at.0 (subst (λ u. has (places_at times u) at.0 ≡ true) same at.2)))))
+            (subst (λ (m : ℕ). is_settled (entry_of v m time) ≡ true) at.1 (here at.0 (subst (λ u. has (places_at agenda u) at.0 ≡ true) same at.2)))))
       ]

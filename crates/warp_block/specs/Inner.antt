@@ -13,6 +13,7 @@ pub mod Index
 pub mod Logs
 pub mod Marks
 pub mod Moments
+pub mod Near
 pub mod Placed
 pub mod Present
 pub mod Receive

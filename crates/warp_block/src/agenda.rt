@@ -1,82 +1,308 @@
 //! Which places have news or entries at which times.
-ghost use Rattle.std.specs.Prelude.{◌≡◌, ◌≤◌, ◌<◌, ◌++◌, ◌==◌, ℕ, [], ◌∷◌, IsTrue, IfSome, option_map, if◌then◌else◌, OnOk, OnErr};
-ghost use Rattle.std.specs.List.Sorted.{IsStrictlyIncreasing};
+ghost use Rattle.std.specs.Prelude.{◌≡◌, ◌≢◌, ◌≤◌, ◌<◌, ◌++◌, ◌==◌, ◌⊎◌, ◌+◌, ℕ, [], ◌∷◌, IsTrue, IfSome, IsSome, option_map, if◌then◌else◌, is_some, false, OnOk, OnErr, length, drop, slice_index_or, vec_len, vec_capacity, None, Vec};
+ghost use Rattle.std.specs.List.{AllWithin};
+ghost use Rattle.std.specs.List.Sorted.{IsStrictlyIncreasing, IsPartitionPoint};
+ghost use Rattle.std.specs.Ordering.{nat_cmp};
+ghost use Rattle.std.specs.BTreeMap.{get, btree_map_len};
+ghost use Rattle.std.specs.declared.alloc.Global.{Global};
 ghost use Rattle.warp_block.specs.View.{IsLeast};
-ghost use Rattle.warp_block.specs.Inner.Agenda.{places_at, is_listed};
+ghost use Rattle.warp_block.specs.Inner.Near.{places_in, near_at, list_of, places_of, AreRising, AreApart, IsRelisted};
 ghost use Rattle.warp_block.specs.Inner.Building.{has};
 
 use crate::woken::Woken;
 use std::alloc::{AllocError, Global};
 use std::collections::BTreeMap;
 
-/// An index of event times: for each time the places that may have news or an entry at it.
+/// An index of event times: for each time the places that may have news or an entry at it. A time that is gone over
+/// moves to the near ones, which are a list: what is looked up stands near its end. The far ones are all later.
 #[derive(Debug, Drop)]
 pub(crate) struct Agenda {
     alloc: Global,
-    times: BTreeMap<u64, Vec<u32>>,
+    near: Vec<(u64, Vec<u32>)>,
+    far: BTreeMap<u64, Vec<u32>>,
+    ghost rising: { AreRising near.items },
+    ghost apart: { AreApart near.items far },
 }
 
 impl Agenda {
     /// No place has news.
     pub(crate) fn new(alloc: Global) -> Agenda
-        ensures { (t : ℕ) → places_at result.times t ≡ [] }
+        ensures { (t : ℕ) → places_of result.near.items result.far t ≡ [] }
     {
         Agenda {
             alloc,
-            times: BTreeMap::new(alloc),
+            near: Vec::new(alloc),
+            far: BTreeMap::new(alloc),
         }
     }
 
     /// The places that are listed at a time.
     pub(crate) fn at(&self, time: u64) -> &[u32]
-        ensures { result.now ≡ places_at self.now.times time }
+        ensures { result.now ≡ places_of self.now.near.items self.now.far time }
     {
-        match self.times.get(&time) {
-            Some(places) => places.as_slice(),
-            None => &[],
+        match self.next(time) {
+            Some((listed, places)) if listed == time => places,
+            _ => &[],
         }
     }
 
     /// The least time from a time on at which a list stands, and the places of that list.
     pub(crate) fn next(&self, from: u64) -> Option<(u64, &[u32])>
-        ensures least { IsLeast (λ t. (from ≤ t) × IsTrue (is_listed self.now.times t)) (option_map (λ p. p.0) result) }
-        ensures places { IfSome result (λ p. p.1.now ≡ places_at self.now.times p.0) }
+        ensures least { IsLeast (λ t. (from ≤ t) × IsTrue (is_some (list_of self.now.near.items self.now.far t))) (option_map (λ p. p.0) result) }
+        ensures places { IfSome result (λ p. p.1.now ≡ places_of self.now.near.items self.now.far p.0) }
     {
-        let (time, places) = self.times.range(from..).next()?;
-        Some((*time, places.as_slice()))
+        if let Some(found) = next_near(&self.near, from) {
+            return Some(found);
+        }
+        next_far(&self.far, from)
     }
 
     /// A place may have news at a time. After an error nothing has changed.
     pub(crate) fn put(&mut self, time: u64, place: u32) -> Result<(), AllocError>
-        ensures ok { OnOk result ((t : ℕ) → places_at self.new.times t ≡ (if t == time then places_at self.old.times t ++ place ∷ [] else places_at self.old.times t)) }
-        ensures err { OnErr result ((t : ℕ) → places_at self.new.times t ≡ places_at self.old.times t) }
+        ensures ok { OnOk result ((t : ℕ) → places_of self.new.near.items self.new.far t ≡ (if t == time then places_of self.old.near.items self.old.far t ++ place ∷ [] else places_of self.old.near.items self.old.far t)) }
+        ensures err { OnErr result ((t : ℕ) → places_of self.new.near.items self.new.far t ≡ places_of self.old.near.items self.old.far t) }
     {
-        let places = self.times.entry(time)?.or_insert(Vec::new(self.alloc));
-        places.push(place)?;
-        Ok(())
+        if is_near(&self.near, time) {
+            return put_near(&mut self.near, self.alloc, time, place);
+        }
+        put_far(&mut self.far, self.alloc, time, place)
     }
 
-    /// Puts the places of a time into ascending order, each once. The gates are a place to work in.
+    /// Puts the places of a time into ascending order, each once. The time and those before it are near afterwards, unless
+    /// memory is wanted. The gates are a place to work in.
     pub(crate) fn settle(&mut self, time: u64, gates: &mut Woken)
-        ensures rising { IsStrictlyIncreasing (places_at self.new.times time) }
-        ensures same { (t i : ℕ) → has (places_at self.new.times t) i ≡ has (places_at self.old.times t) i }
+        ensures rising { IsStrictlyIncreasing (places_of self.new.near.items self.new.far time) }
+        ensures same { (t i : ℕ) → has (places_of self.new.near.items self.new.far t) i ≡ has (places_of self.old.near.items self.old.far t) i }
     {
-        if let Some(places) = self.times.get_mut(&time) {
-            gates.put_in_order(places);
+        draw_near(&mut self.near, &mut self.far, time);
+        if settle_near(&mut self.near, time, gates) {
+            return;
         }
+        settle_far(&mut self.far, time, gates);
     }
 
-    /// Forgets the times below one.
+    /// Forgets the times below one: the near ones once they are as many as the others, which move to the front then, so
+    /// each is moved no more often than another one is forgotten.
     pub(crate) fn forget_below(&mut self, time: u64)
-        ensures kept { (t : ℕ) → time ≤ t → places_at self.new.times t ≡ places_at self.old.times t }
-        ensures gone { (t : ℕ) → t < time → places_at self.new.times t ≡ [] }
+        ensures kept { (t : ℕ) → time ≤ t → places_of self.new.near.items self.new.far t ≡ places_of self.old.near.items self.old.far t }
+        ensures listed { (t i : ℕ) → IsTrue (has (places_of self.new.near.items self.new.far t) i) → IsTrue (has (places_of self.old.near.items self.old.far t) i) }
     {
-        while let Some((first, _)) = self.times.first_key_value() {
-            if *first >= time {
-                return;
-            }
-            self.times.pop_first();
+        forget_near(&mut self.near, time);
+        forget_far(&mut self.far, time);
+    }
+}
+
+/// The least near time from a time on, and its places.
+fn next_near(near: &[(u64, Vec<u32>)], from: u64) -> Option<(u64, &[u32])>
+    requires { AreRising near.now }
+    ensures least { IsLeast (λ t. (from ≤ t) × IsTrue (is_some (near_at near.now t))) (option_map (λ p. p.0) result) }
+    ensures places { IfSome result (λ p. IsSome (near_at near.now p.0) × (p.1.now ≡ places_in (near_at near.now p.0))) }
+{
+    let (time, places) = near.get(count_before(near, from))?;
+    Some((*time, places.as_slice()))
+}
+
+/// The least far time from a time on, and its places.
+fn next_far(far: &BTreeMap<u64, Vec<u32>>, from: u64) -> Option<(u64, &[u32])>
+    ensures least { IsLeast (λ t. (from ≤ t) × IsTrue (is_some (get nat_cmp far.now t))) (option_map (λ p. p.0) result) }
+    ensures places { IfSome result (λ p. p.1.now ≡ places_in (get nat_cmp far.now p.0)) }
+{
+    let (time, places) = far.range(from..).next()?;
+    Some((*time, places.as_slice()))
+}
+
+/// Whether a time isn't past the last near one.
+fn is_near(near: &[(u64, Vec<u32>)], time: u64) -> bool
+    requires { AreRising near.now }
+    ensures near { IsTrue result → (t : ℕ) × (time ≤ t) × IsTrue (is_some (near_at near.now t)) }
+    ensures far { result ≡ false → (t : ℕ) → IsTrue (is_some (near_at near.now t)) → t < time }
+{
+    match near.last() {
+        Some((last, _)) => time <= *last,
+        None => false,
+    }
+}
+
+/// A place may have news at a near time. After an error nothing has changed.
+fn put_near(
+    near: &mut Vec<(u64, Vec<u32>)>,
+    alloc: Global,
+    time: u64,
+    place: u32,
+) -> Result<(), AllocError>
+    requires { AreRising near.old.items }
+    ensures rising { AreRising near.new.items }
+    ensures ok { OnOk result (IsRelisted time (places_in (near_at near.old.items time) ++ place ∷ []) (near_at near.old.items) (near_at near.new.items)) }
+    ensures err { OnErr result ((near.new.items ≡ near.old.items) ⊎ IsRelisted time (places_in (near_at near.old.items time)) (near_at near.old.items) (near_at near.new.items)) }
+{
+    let at = count_before(near, time);
+    if is_time(near, at, time) {
+        near[at].1.push(place)?;
+        return Ok(());
+    }
+    let mut places = Vec::new(alloc);
+    places.push(place)?;
+    near.insert(at, (time, places))?;
+    Ok(())
+}
+
+/// A place may have news at a far time. After an error nothing has changed.
+fn put_far(
+    far: &mut BTreeMap<u64, Vec<u32>>,
+    alloc: Global,
+    time: u64,
+    place: u32,
+) -> Result<(), AllocError>
+    ensures ok { OnOk result ((t : ℕ) → places_in (get nat_cmp far.new t) ≡ (if t == time then places_in (get nat_cmp far.old t) ++ place ∷ [] else places_in (get nat_cmp far.old t))) }
+    ensures err { OnErr result ((t : ℕ) → places_in (get nat_cmp far.new t) ≡ places_in (get nat_cmp far.old t)) }
+    ensures more { (t : ℕ) → IsTrue (is_some (get nat_cmp far.new t)) → IsTrue (is_some (get nat_cmp far.old t)) ⊎ (t ≡ time) }
+{
+    let places = far.entry(time)?.or_insert(Vec::new(alloc));
+    places.push(place)?;
+    Ok(())
+}
+
+/// Moves the far times up to one to the near ones, unless memory is wanted.
+fn draw_near(near: &mut Vec<(u64, Vec<u32>)>, far: &mut BTreeMap<u64, Vec<u32>>, time: u64)
+    requires rising { AreRising near.old.items }
+    requires apart { AreApart near.old.items far.old }
+    ensures rising { AreRising near.new.items }
+    ensures apart { AreApart near.new.items far.new }
+    ensures same { (t : ℕ) → list_of near.new.items far.new t ≡ list_of near.old.items far.old t }
+{
+    while starts_by(far, time) {
+        if near.reserve(1).is_err() {
+            return;
         }
+        draw_first(near, far);
+    }
+}
+
+/// Whether the first far time isn't past a time.
+fn starts_by(far: &BTreeMap<u64, Vec<u32>>, time: u64) -> bool
+    ensures { IsTrue result → 0 < btree_map_len far.now }
+{
+    match far.first_key_value() {
+        Some((first, _)) => *first <= time,
+        None => false,
+    }
+}
+
+/// Moves the first far time to the near ones, where there is room.
+fn draw_first(near: &mut Vec<(u64, Vec<u32>)>, far: &mut BTreeMap<u64, Vec<u32>>)
+    requires room { vec_len near.old < vec_capacity near.old }
+    requires some { 0 < btree_map_len far.old }
+    requires rising { AreRising near.old.items }
+    requires apart { AreApart near.old.items far.old }
+    ensures less { btree_map_len far.new + 1 ≡ btree_map_len far.old }
+    ensures rising { AreRising near.new.items }
+    ensures apart { AreApart near.new.items far.new }
+    ensures same { (t : ℕ) → list_of near.new.items far.new t ≡ list_of near.old.items far.old t }
+{
+    if let Some(listed) = far.pop_first() {
+        near.push_reserved(listed);
+    }
+}
+
+/// Puts the places of a near time into ascending order, each once; answers whether the time is near.
+fn settle_near(near: &mut Vec<(u64, Vec<u32>)>, time: u64, gates: &mut Woken) -> bool
+    requires { AreRising near.old.items }
+    ensures rising { AreRising near.new.items }
+    ensures times { (t : ℕ) → is_some (near_at near.new.items t) ≡ is_some (near_at near.old.items t) }
+    ensures near { IsTrue result → IsSome (near_at near.new.items time) × IsStrictlyIncreasing (places_in (near_at near.new.items time)) }
+    ensures far { result ≡ false → near_at near.new.items time ≡ None }
+    ensures same { (t i : ℕ) → has (places_in (near_at near.new.items t)) i ≡ has (places_in (near_at near.old.items t)) i }
+{
+    let at = count_before(near, time);
+    if !is_time(near, at, time) {
+        return false;
+    }
+    gates.put_in_order(&mut near[at].1);
+    true
+}
+
+/// Puts the places of a far time into ascending order, each once.
+fn settle_far(far: &mut BTreeMap<u64, Vec<u32>>, time: u64, gates: &mut Woken)
+    ensures rising { IsStrictlyIncreasing (places_in (get nat_cmp far.new time)) }
+    ensures times { (t : ℕ) → is_some (get nat_cmp far.new t) ≡ is_some (get nat_cmp far.old t) }
+    ensures same { (t i : ℕ) → has (places_in (get nat_cmp far.new t)) i ≡ has (places_in (get nat_cmp far.old t)) i }
+{
+    if let Some(places) = far.get_mut(&time) {
+        gates.put_in_order(places);
+    }
+}
+
+/// Forgets the near times below one, once they are as many as the others.
+fn forget_near(near: &mut Vec<(u64, Vec<u32>)>, time: u64)
+    requires { AreRising near.old.items }
+    ensures rising { AreRising near.new.items }
+    ensures kept { (t : ℕ) → time ≤ t → near_at near.new.items t ≡ near_at near.old.items t }
+    ensures gone { (t : ℕ) → t < time → (near_at near.new.items t ≡ near_at near.old.items t) ⊎ (near_at near.new.items t ≡ None) }
+{
+    let count = count_before(near, time);
+    if count >= near.len() - count {
+        drop_first(near, count);
+    }
+}
+
+/// Drops the first so many near times.
+fn drop_first(near: &mut Vec<(u64, Vec<u32>)>, count: usize)
+    requires { count ≤ length near.old.items }
+    ensures { near.new.items ≡ drop count near.old.items }
+{
+    near.drain(..count);
+}
+
+/// Forgets the far times below one.
+fn forget_far(far: &mut BTreeMap<u64, Vec<u32>>, time: u64)
+    ensures kept { (t : ℕ) → time ≤ t → get nat_cmp far.new t ≡ get nat_cmp far.old t }
+    ensures gone { (t : ℕ) → t < time → get nat_cmp far.new t ≡ None }
+{
+    while let Some((first, _)) = far.first_key_value() {
+        if *first >= time {
+            return;
+        }
+        far.pop_first();
+    }
+}
+
+/// How many near times are before one.
+fn count_before(near: &[(u64, Vec<u32>)], time: u64) -> usize
+    requires { AreRising near.now }
+    ensures within { result ≤ length near.now }
+    ensures split { IsPartitionPoint (λ listed. listed.0 < time) (λ listed. time ≤ listed.0) near.now result }
+{
+    let start = late_start(near, time);
+    start + near[start..].partition_point(|listed| listed.0 < time)
+}
+
+/// A place before which all near times are before one. It is at most twice as far from the end as the last of these, so
+/// what stands near the end is found in a few steps, however long the list is.
+fn late_start(near: &[(u64, Vec<u32>)], time: u64) -> usize
+    requires { AreRising near.now }
+    ensures within { result ≤ length near.now }
+    ensures early { AllWithin (λ listed. listed.0 < time) near.now 0 result }
+{
+    let mut reach = 1;
+    while reach < near.len() {
+        let start = near.len() - reach;
+        if near[start].0 < time {
+            return start;
+        }
+        reach = reach.saturating_mul(2);
+    }
+    0
+}
+
+/// Whether a near time stands at a place.
+fn is_time(near: &[(u64, Vec<u32>)], at: usize, time: u64) -> bool
+    ensures some { IsTrue result → at < length near.now }
+    ensures here { IsTrue result → (d : ℕ × Vec ℕ Global) → (slice_index_or near.now at d).0 ≡ time }
+    ensures other { result ≡ false → (d : ℕ × Vec ℕ Global) → at < length near.now → (slice_index_or near.now at d).0 ≢ time }
+{
+    match near.get(at) {
+        Some((listed, _)) => *listed == time,
+        None => false,
     }
 }
 

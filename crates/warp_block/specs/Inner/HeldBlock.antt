@@ -15,7 +15,7 @@ process_of block = record { seen = block.look; saved = saved_by block.states }
 -- what is true of the fields of every block
 pub record IsHeldBlock (block : Inside) : Type 0 where
   pub states : AreStates block.look block.states
-  pub indexed : IsIndexed block.look (oldest_of (saved_by block.states)) (places_at block.agenda.times)
+  pub indexed : IsIndexed block.look (oldest_of (saved_by block.states)) (places_at block.agenda)
   pub noted : IsNoted block.look block.journal.notes.items
   pub flat : IsFlat block.fan
   pub woken : AreWoken block.look.part (length block.look.part.nets) (fan_of block.fan)

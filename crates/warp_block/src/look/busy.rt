@@ -13,7 +13,7 @@ impl Look {
     /// The least time from one on to the horizon at which something happens to a net that a gate of the block reads,
     /// found in the agenda.
     pub(crate) fn next_busy(&self, agenda: &Agenda, from: u64) -> Option<u64>
-        requires { IsIndexed self.now from (places_at agenda.now.times) }
+        requires { IsIndexed self.now from (places_at agenda.now) }
         ensures { IsLeast (IsBusyFrom self.now from) result }
     {
         self.law();

@@ -14,7 +14,7 @@ use crate::queue;
 impl Look {
     /// Whether what is below a floor can be committed; the first cause to refuse it.
     pub(crate) fn may_commit(&self, agenda: &Agenda, floor: u64) -> Result<(), BlockFault>
-        requires { IsIndexed self.now self.now.floor (places_at agenda.now.times) }
+        requires { IsIndexed self.now self.now.floor (places_at agenda.now) }
         ensures ok { OnOk result (IsCommittable self.now floor) }
         ensures err { IfErr result (IsCommitRefusal self.now floor) }
     {
@@ -45,7 +45,7 @@ impl Look {
 
     /// Whether an event time is below a time.
     fn has_event_below(&self, agenda: &Agenda, time: u64) -> bool
-        requires { IsIndexed self.now self.now.mark (places_at agenda.now.times) }
+        requires { IsIndexed self.now self.now.mark (places_at agenda.now) }
         ensures { IsTrue result ↔ ((t : ℕ) × IsEventBelow self.now time t) }
     {
         match self.next_busy(agenda, self.mark()) {
@@ -56,7 +56,7 @@ impl Look {
 
     /// Whether the entries below a time are settled: those of the places that are listed from the floor on.
     fn are_settled(&self, agenda: &Agenda, end: u64) -> bool
-        requires { IsIndexed self.now self.now.floor (places_at agenda.now.times) }
+        requires { IsIndexed self.now self.now.floor (places_at agenda.now) }
         ensures { IsTrue result → (n t : ℕ) → IsUnsettledBelow self.now end n t → ⊥ }
     {
         self.law();

@@ -52,7 +52,7 @@ impl Look {
         ensures queues { self.new.queues ≡ self.old.queues }
         ensures mark { OnOk result (self.new.mark ≡ time + 1) }
         ensures sends { OnOk result (SendsOnce self.old self.new Plus (λ t. time < t) out.old.items out.new.items) }
-        ensures indexed { (start : ℕ) → IsIndexed self.old start (places_at agenda.old.times) → IsIndexed self.new start (places_at agenda.new.times) }
+        ensures indexed { (start : ℕ) → IsIndexed self.old start (places_at agenda.old) → IsIndexed self.new start (places_at agenda.new) }
         ensures noted { IsNoted self.new journal.new.notes.items }
         ensures err { OnErr result (self.new ≡ self.old) }
         ensures untold { OnErr result (out.new.items ≡ out.old.items) }
@@ -109,9 +109,9 @@ fn emit_woken(
     ensures ok { OnOk result (AreStepped (with_emitted part.now (moment_of part.now.nets values.now contents.now) time horizon) gates.now logs.old.items logs.new.items) }
     ensures sends { OnOk result (out.new.items ≡ out.old.items ++ told_of Plus part.now
         (λ i. emitted part.now (moment_of part.now.nets values.now contents.now) i (log_at logs.old.items i) time horizon) gates.now) }
-    ensures found { OnOk result (AreFound part.now time logs.old.items logs.new.items (places_at agenda.new.times) journal.new.notes.items) }
+    ensures found { OnOk result (AreFound part.now time logs.old.items logs.new.items (places_at agenda.new) journal.new.notes.items) }
     ensures err { OnErr result ((j : ℕ) × (j ≤ length gates.now) × AreStepped (with_emitted part.now (moment_of part.now.nets values.now contents.now) time horizon) (take j gates.now) logs.old.items logs.new.items) }
-    ensures listed { IsGrown (length part.now.nets) (places_at agenda.old.times) (places_at agenda.new.times) }
+    ensures listed { IsGrown (length part.now.nets) (places_at agenda.old) (places_at agenda.new) }
     ensures noted { IsNotedMore (length part.now.nets) time journal.old.notes.items journal.new.notes.items }
     ensures extends { Extends out.old.items out.new.items }
     ensures len { vec_len logs.new ≡ vec_len logs.old }
@@ -184,9 +184,9 @@ fn put_change(
     requires earlier { (t i : ℕ) → IsTrue (has_note journal.old.notes.items t i) → t ≤ time }
     ensures log { OnOk result (log.new ≡ log.old ++ option_to_list change) }
     ensures sends { OnOk result (out.new.items ≡ out.old.items ++ flat_map (sent Plus (net_at part.now place) (get_or part.now.readers place [])) (option_to_list change)) }
-    ensures found { OnOk result ((log.new ≡ log.old) ⊎ IsFound part.now time place (places_at agenda.new.times) journal.new.notes.items) }
+    ensures found { OnOk result ((log.new ≡ log.old) ⊎ IsFound part.now time place (places_at agenda.new) journal.new.notes.items) }
     ensures err { OnErr result (log.new ≡ log.old) }
-    ensures listed { IsGrown (length part.now.nets) (places_at agenda.old.times) (places_at agenda.new.times) }
+    ensures listed { IsGrown (length part.now.nets) (places_at agenda.old) (places_at agenda.new) }
     ensures noted { IsNotedMore (length part.now.nets) time journal.old.notes.items journal.new.notes.items }
     ensures extends { Extends out.old.items out.new.items }
 {
@@ -209,8 +209,8 @@ fn enter(
     journal: &mut Journal,
 ) -> Result<(), AllocError>
     requires { (t i : ℕ) → IsTrue (has_note journal.old.notes.items t i) → t ≤ because }
-    ensures ok { OnOk result (IsTrue (has (places_at agenda.new.times time) place) × IsTrue (has_note journal.new.notes.items because place)) }
-    ensures listed { (count : ℕ) → place < count → IsGrown count (places_at agenda.old.times) (places_at agenda.new.times) }
+    ensures ok { OnOk result (IsTrue (has (places_at agenda.new time) place) × IsTrue (has_note journal.new.notes.items because place)) }
+    ensures listed { (count : ℕ) → place < count → IsGrown count (places_at agenda.old) (places_at agenda.new) }
     ensures noted { (count : ℕ) → place < count → IsNotedMore count because journal.old.notes.items journal.new.notes.items }
 {
     agenda.put(time, place)?;

@@ -42,7 +42,7 @@ impl Look {
         ensures put { OnOk result (IsPut self.old self.new (slice_index self.old.part.nets slot) time entry) }
         ensures mark { self.new.mark ≡ self.old.mark }
         ensures logs { self.new.logs ≡ self.old.logs }
-        ensures indexed { (start : ℕ) → IsIndexed self.old start (places_at agenda.old.times) → IsIndexed self.new start (places_at agenda.new.times) }
+        ensures indexed { (start : ℕ) → IsIndexed self.old start (places_at agenda.old) → IsIndexed self.new start (places_at agenda.new) }
         ensures err { OnErr result (self.new ≡ self.old) }
     {
         self.law();
@@ -89,7 +89,7 @@ impl Look {
         ensures put { OnOk result (IsPut self.old self.new (slice_index self.old.part.nets slot) time entry) }
         ensures mark { OnOk result (self.new.mark ≡ time) }
         ensures sends { OnOk result (SendsOnce self.old self.new Minus (λ t. time < t) out.old.items out.new.items) }
-        ensures indexed { (start : ℕ) → IsIndexed self.old start (places_at agenda.old.times) → IsIndexed self.new start (places_at agenda.new.times) }
+        ensures indexed { (start : ℕ) → IsIndexed self.old start (places_at agenda.old) → IsIndexed self.new start (places_at agenda.new) }
         ensures noted { IsNoted self.new journal.new.notes.items }
         ensures err { OnErr result (self.new ≡ self.old) }
         ensures untold { OnErr result (out.new.items ≡ out.old.items) }

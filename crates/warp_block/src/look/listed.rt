@@ -13,7 +13,7 @@ use std::alloc::AllocError;
 impl Look {
     /// An index of all that is received and logged.
     pub(crate) fn opening_agenda(&self) -> Result<Agenda, AllocError>
-        ensures { IfOk result (λ agenda. IsIndexed self.now 0 (places_at agenda.times)) }
+        ensures { IfOk result (λ agenda. IsIndexed self.now 0 (places_at agenda)) }
     {
         self.law();
         let mut agenda = Agenda::new(*self.queues.allocator());
@@ -27,8 +27,8 @@ impl Look {
 
 /// Lists a place at the times of its entries.
 fn list_entries(place: u32, queue: &[Timed], agenda: &mut Agenda) -> Result<(), AllocError>
-    ensures listed { OnOk result (All (λ e. IsTrue (has (places_at agenda.new.times e.time) place)) queue.now) }
-    ensures grown { (count : ℕ) → place < count → IsGrown count (places_at agenda.old.times) (places_at agenda.new.times) }
+    ensures listed { OnOk result (All (λ e. IsTrue (has (places_at agenda.new e.time) place)) queue.now) }
+    ensures grown { (count : ℕ) → place < count → IsGrown count (places_at agenda.old) (places_at agenda.new) }
 {
     for timed in queue {
         agenda.put(timed.time(), place)?;
@@ -38,8 +38,8 @@ fn list_entries(place: u32, queue: &[Timed], agenda: &mut Agenda) -> Result<(), 
 
 /// Lists a place at the times of its changes.
 fn list_changes(place: u32, log: &[Change], agenda: &mut Agenda) -> Result<(), AllocError>
-    ensures listed { OnOk result (All (λ c. IsTrue (has (places_at agenda.new.times c.time) place)) log.now) }
-    ensures grown { (count : ℕ) → place < count → IsGrown count (places_at agenda.old.times) (places_at agenda.new.times) }
+    ensures listed { OnOk result (All (λ c. IsTrue (has (places_at agenda.new c.time) place)) log.now) }
+    ensures grown { (count : ℕ) → place < count → IsGrown count (places_at agenda.old) (places_at agenda.new) }
 {
     for change in log {
         agenda.put(change.time, place)?;

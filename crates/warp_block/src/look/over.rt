@@ -36,7 +36,7 @@ impl Look {
         requires from { (now_of states.old).mark ≤ time }
         requires until { time ≤ self.now.horizon }
         requires quiet { (t : ℕ) → (now_of states.old).mark ≤ t → t < time → ¬ IsTrue (is_busy self.now t) }
-        requires indexed { IsIndexed self.now (now_of states.old).mark (places_at agenda.now.times) }
+        requires indexed { IsIndexed self.now (now_of states.old).mark (places_at agenda.now) }
         requires flat { IsFlat fan.now }
         requires fan { AreWoken self.now.part (length self.now.part.nets) (fan_of fan.now) }
         ensures rising { OnOk result (IsStrictlyIncreasing gates.new) }
@@ -62,7 +62,7 @@ impl Look {
         fan: &Fan,
         gates: &mut Woken,
     ) -> Result<(), AllocError>
-        requires indexed { IsIndexed self.now time (places_at agenda.now.times) }
+        requires indexed { IsIndexed self.now time (places_at agenda.now) }
         requires flat { IsFlat fan.now }
         requires fan { AreWoken self.now.part (length self.now.part.nets) (fan_of fan.now) }
         ensures rising { OnOk result (IsStrictlyIncreasing gates.new) }
@@ -129,7 +129,7 @@ impl Look {
         requires from { (now_of states.old).mark ≤ time }
         requires until { time ≤ self.now.horizon }
         requires quiet { (t : ℕ) → (now_of states.old).mark ≤ t → t < time → ¬ IsTrue (is_busy self.now t) }
-        requires indexed { IsIndexed self.now (now_of states.old).mark (places_at agenda.now.times) }
+        requires indexed { IsIndexed self.now (now_of states.old).mark (places_at agenda.now) }
         ensures values { OnOk result ((now_of states.new).values ≡ map (moment_before self.now (time + 1)).value self.now.part.nets) }
         ensures contents { (now_of states.new).contents ≡ (now_of states.old).contents }
         ensures mark { (now_of states.new).mark ≡ (now_of states.old).mark }

@@ -30,7 +30,7 @@ impl Look {
         states: &mut States,
     ) -> Result<(), AllocError>
         requires held { AreStates self.now states.old }
-        requires indexed { IsIndexed self.now (oldest_of (saved_by states.old)) (places_at agenda.now.times) }
+        requires indexed { IsIndexed self.now (oldest_of (saved_by states.old)) (places_at agenda.now) }
         requires flat { IsFlat fan.now }
         requires fan { AreWoken self.now.part (length self.now.part.nets) (fan_of fan.now) }
         ensures held { AreStates self.now states.new }
@@ -54,7 +54,7 @@ impl Look {
         states: &mut States,
     ) -> Result<bool, AllocError>
         requires held { AreStates self.now states.old }
-        requires indexed { IsIndexed self.now (oldest_of (saved_by states.old)) (places_at agenda.now.times) }
+        requires indexed { IsIndexed self.now (oldest_of (saved_by states.old)) (places_at agenda.now) }
         requires flat { IsFlat fan.now }
         requires fan { AreWoken self.now.part (length self.now.part.nets) (fan_of fan.now) }
         ensures held { AreStates self.now states.new }
@@ -103,7 +103,7 @@ impl Look {
         requires until { time ≤ self.old.horizon }
         requires quiet { IsQuiet self.old time }
         requires caught { IsCaughtUp self.old (now_of states.old).mark }
-        requires indexed { IsIndexed self.old (now_of states.old).mark (places_at agenda.old.times) }
+        requires indexed { IsIndexed self.old (now_of states.old).mark (places_at agenda.old) }
         requires noted { IsNoted self.old journal.old.notes.items }
         requires flat { IsFlat fan.now }
         requires fan { AreWoken self.old.part (length self.old.part.nets) (fan_of fan.now) }
@@ -113,7 +113,7 @@ impl Look {
         ensures queues { self.new.queues ≡ self.old.queues }
         ensures mark { OnOk result (self.new.mark ≡ time + 1) }
         ensures sends { OnOk result (SendsOnce self.old self.new Plus (λ t. time < t) out.old.items out.new.items) }
-        ensures indexed { (start : ℕ) → IsIndexed self.old start (places_at agenda.old.times) → IsIndexed self.new start (places_at agenda.new.times) }
+        ensures indexed { (start : ℕ) → IsIndexed self.old start (places_at agenda.old) → IsIndexed self.new start (places_at agenda.new) }
         ensures noted { IsNoted self.new journal.new.notes.items }
         ensures err { OnErr result (self.new ≡ self.old) }
         ensures untold { OnErr result (out.new.items ≡ out.old.items) }

@@ -40,7 +40,7 @@ still_lawful v floor can old new law k =
 pub may_commit-requires : goal.may_commit-requires
 may_commit-requires c =
     let v = c.self.inside.look in
-    IsIndexed-later v (oldest_of (saved_by c.self.inside.states)) v.floor (places_at c.self.inside.agenda.times) (oldest_committed v (saved_by c.self.inside.states) c.self.invariant.states.law.saved) c.self.invariant.indexed
+    IsIndexed-later v (oldest_of (saved_by c.self.inside.states)) v.floor (places_at c.self.inside.agenda) (oldest_committed v (saved_by c.self.inside.states) c.self.invariant.states.law.saved) c.self.invariant.indexed
 
 pub oldest-requires : goal.oldest-requires
 oldest-requires c =
@@ -61,8 +61,8 @@ invariant_of-self c =
     let later : oldest_of (saved_by old) ≤ oldest_of (saved_by new) = subst (λ (ss : List Saved). oldest_of (saved_by old) ≤ oldest_of ss) (sym k.2)
     (oldest_dropped v (saved_by old) (k.0 - 1) c.self.invariant.states.law.saved (omega (arith, some, within))) in
     let forgets = c.forget_below.ensures in
-    let indexed : IsIndexed w c.oldest.result (places_at c.forget_below.new.self.times) =
-    forgotten_times v c.args.floor mark (oldest_of (saved_by old)) c.oldest.result (places_at c.self.inside.agenda.times) (places_at c.forget_below.new.self.times) (omega (arith, later, c.oldest.ensures)) forgets.kept forgets.gone
+    let indexed : IsIndexed w c.oldest.result (places_at c.forget_below.new.self) =
+    forgotten_times v c.args.floor mark (oldest_of (saved_by old)) c.oldest.result (places_at c.self.inside.agenda) (places_at c.forget_below.new.self) (omega (arith, later, c.oldest.ensures)) forgets.kept forgets.listed
     c.self.invariant.indexed in
     record {
       states = rw c.commit.ensures (record {
@@ -73,7 +73,7 @@ invariant_of-self c =
             (subst (λ n. IsPresent w (drop (k.0 - 1) (saved_by old)) (now_of old) n) (sym c.keep_from.ensures.since)
             (present_dropped v c.args.floor (max v.mark c.args.floor) (saved_by old) (now_of old) old.since k.0 c.self.invariant.states.law.saved k.1 (omega arith) c.self.invariant.states.present)));
       });
-      indexed = rw c.commit.ensures (subst (λ (m : ℕ). IsIndexed w m (places_at c.forget_below.new.self.times)) c.oldest.ensures indexed);
+      indexed = rw c.commit.ensures (subst (λ (m : ℕ). IsIndexed w m (places_at c.forget_below.new.self)) c.oldest.ensures indexed);
       noted = rw c.commit.ensures (forgotten_notes v c.args.floor mark c.self.inside.journal.notes.items c.forget_below-2.new.self.notes.items c.in_ok-may_commit.ensures.ok.forward (omega arith) c.forget_below-2.ensures.kept c.forget_below-2.ensures.noted c.self.invariant.noted);
       flat = c.self.invariant.flat;
       woken = rw c.commit.ensures c.self.invariant.woken;

@@ -21,7 +21,7 @@ invariant_of-result c =
     let first : oldest_of (saved_by c.in_ok-states.states) ≡ 0 = ap oldest_of s.saved ∙ s.mark in
     record {
       states = begun v c.in_ok-states.states c.law.ensures mark (ap (λ (w : View). w.floor) opened) s.mark s.lawful s.saved s.since s.fit;
-      indexed = subst (λ (m : ℕ). IsIndexed v m (places_at c.in_ok-agenda.agenda.times)) (sym first) c.in_ok-agenda.ensures;
+      indexed = subst (λ (m : ℕ). IsIndexed v m (places_at c.in_ok-agenda.agenda)) (sym first) c.in_ok-agenda.ensures;
       noted = subst (IsNoted v) (sym c.new-journal.ensures) (IsNoted-new v c.law.ensures mark);
       flat = c.in_ok-fan.ensures.flat;
       woken = subst (λ (p : Portion). AreWoken p (length p.nets) (fan_of c.in_ok-fan.fan)) c.part.ensures c.in_ok-fan.ensures.woken;

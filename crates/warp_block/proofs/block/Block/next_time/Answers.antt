@@ -12,4 +12,4 @@ next_busy-requires c =
     let states = c.self.invariant.states in
     let low = oldest_low v c.self.inside.states states in
     let until = states.present.until in
-    IsIndexed-later v (oldest_of (saved_by c.self.inside.states)) c.mark.result (places_at c.self.inside.agenda.times) (omega (arith, low, until, c.mark.ensures)) c.self.invariant.indexed
+    IsIndexed-later v (oldest_of (saved_by c.self.inside.states)) c.mark.result (places_at c.self.inside.agenda) (omega (arith, low, until, c.mark.ensures)) c.self.invariant.indexed

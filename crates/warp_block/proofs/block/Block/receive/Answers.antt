@@ -73,7 +73,7 @@ invariant_of-self-then-is_straggler c =
     let saved : AreSaved w (saved_by new) = subst (λ (ss : List Saved). AreSaved w ss) (sym k.3) both.1 in
     record {
       states = at_newest w new (record { seen = c.law.ensures; states = states; saved = saved }) c.roll_back.ensures.now c.roll_back.ensures.since c.roll_back.ensures.within;
-      indexed = same_oldest w (places_at c.receive_late.new.agenda.times) (saved_by old) (saved_by new) (ap oldest_of k.3 ∙ oldest_taken (saved_by old) k.0 k.1)
+      indexed = same_oldest w (places_at c.receive_late.new.agenda) (saved_by old) (saved_by new) (ap oldest_of k.3 ∙ oldest_taken (saved_by old) k.0 k.1)
           (c.receive_late.ensures.indexed (oldest_of (saved_by old)) c.self.invariant.indexed);
       noted = c.receive_late.ensures.noted;
       flat = c.self.invariant.flat;

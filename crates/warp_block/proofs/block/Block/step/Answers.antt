@@ -16,7 +16,7 @@ use Rattle.warp_block.proofs.block.Block.step.Goals as goal
 pub invariant_of-self : goal.invariant_of-self
 invariant_of-self c = record {
   states = c.coast.ensures.held;
-  indexed = same_oldest c.self.inside.look (places_at c.self.inside.agenda.times) (saved_by c.self.inside.states) (saved_by c.coast.new.states) (ap oldest_of c.coast.ensures.saved) c.self.invariant.indexed;
+  indexed = same_oldest c.self.inside.look (places_at c.self.inside.agenda) (saved_by c.self.inside.states) (saved_by c.coast.new.states) (ap oldest_of c.coast.ensures.saved) c.self.invariant.indexed;
   noted = c.self.invariant.noted;
   flat = c.self.invariant.flat;
   woken = c.self.invariant.woken;
@@ -44,7 +44,7 @@ pub pass-requires-clause-indexed : goal.pass-requires-clause-indexed
 pass-requires-clause-indexed c =
     let same = ap oldest_of c.coast.ensures.saved in
     let low = oldest_low c.self.inside.look c.coast.new.states c.coast.ensures.held in
-    IsIndexed-later c.self.inside.look (oldest_of (saved_by c.self.inside.states)) c.coast.new.states.mark (places_at c.self.inside.agenda.times) (omega (arith, same, low)) c.self.invariant.indexed
+    IsIndexed-later c.self.inside.look (oldest_of (saved_by c.self.inside.states)) c.coast.new.states.mark (places_at c.self.inside.agenda) (omega (arith, same, low)) c.self.invariant.indexed
 
 pub pass-requires-clause-quiet : goal.pass-requires-clause-quiet
 pass-requires-clause-quiet c = quiet_before_least c.self.inside.look c.args.time (rw (← c.self.view_is) at c.requires)
@@ -74,7 +74,7 @@ pub invariant_of-self-in-Err : goal.invariant_of-self-in-Err
 invariant_of-self-in-Err c = record {
   states = subst (λ (v : View). AreStates v c.roll_back.new.self) (sym c.in-Err.ensures.err)
       (back_again c.self.inside.look c.coast.new.states c.pass.new.states c.roll_back.new.self c.coast.ensures.held c.pass.ensures.saved (kept_at c) c.roll_back.ensures.now c.roll_back.ensures.since c.roll_back.ensures.within);
-  indexed = same_oldest c.pass.new.self (places_at c.pass.new.agenda.times) (saved_by c.self.inside.states) (saved_by c.roll_back.new.self) (ap oldest_of (still_saved c))
+  indexed = same_oldest c.pass.new.self (places_at c.pass.new.agenda) (saved_by c.self.inside.states) (saved_by c.roll_back.new.self) (ap oldest_of (still_saved c))
       (c.pass.ensures.indexed (oldest_of (saved_by c.self.inside.states)) c.self.invariant.indexed);
   noted = c.pass.ensures.noted;
   flat = c.self.invariant.flat;
@@ -98,7 +98,7 @@ invariant_of-self-then-is_due c =
       states = saved_too c.self.inside.look c.pass.new.self c.coast.new.states c.pass.new.states c.coast.ensures.held c.law.ensures c.pass.ensures.part c.pass.ensures.horizon c.pass.ensures.floor c.pass.ensures.queues
           c.args.time p.mark (rw (← c.self.view_is) at c.requires) c.in_ok-coast.ensures.caught c.pass.ensures.saved p.held p.now p.since
           c.save.new.self due c.save.ensures.now c.save.ensures.saved c.save.ensures.since c.save.ensures.within;
-      indexed = same_oldest c.pass.new.self (places_at c.pass.new.agenda.times) (saved_by c.self.inside.states) (saved_by c.save.new.self) oldest
+      indexed = same_oldest c.pass.new.self (places_at c.pass.new.agenda) (saved_by c.self.inside.states) (saved_by c.save.new.self) oldest
           (c.pass.ensures.indexed (oldest_of (saved_by c.self.inside.states)) c.self.invariant.indexed);
       noted = c.pass.ensures.noted;
       flat = c.self.invariant.flat;
@@ -121,7 +121,7 @@ invariant_of-self-else-is_due c =
       states = stepped c.self.inside.look c.pass.new.self c.coast.new.states c.pass.new.states c.coast.ensures.held c.law.ensures c.pass.ensures.part c.pass.ensures.horizon c.pass.ensures.floor c.pass.ensures.queues
           c.args.time p.mark (rw (← c.self.view_is) at c.requires) c.in_ok-coast.ensures.caught c.pass.ensures.saved p.held p.now p.since
           c.pass.ensures.fit other;
-      indexed = same_oldest c.pass.new.self (places_at c.pass.new.agenda.times) (saved_by c.self.inside.states) (saved_by c.pass.new.states) (ap oldest_of (c.pass.ensures.saved ∙ c.coast.ensures.saved))
+      indexed = same_oldest c.pass.new.self (places_at c.pass.new.agenda) (saved_by c.self.inside.states) (saved_by c.pass.new.states) (ap oldest_of (c.pass.ensures.saved ∙ c.coast.ensures.saved))
           (c.pass.ensures.indexed (oldest_of (saved_by c.self.inside.states)) c.self.invariant.indexed);
       noted = c.pass.ensures.noted;
       flat = c.self.invariant.flat;

@@ -9,5 +9,5 @@ pub loop-preserved : goal.loop-preserved
 loop-preserved c = record {
   held = c.coast_once.ensures.held;
   saved = c.coast_once.ensures.saved ∙ c.loop.invariant.saved;
-  indexed = same_oldest c.args.self.now (places_at c.args.agenda.now.times) (saved_by c.loop.states) (saved_by c.coast_once.new.states) (ap oldest_of c.coast_once.ensures.saved) c.loop.invariant.indexed;
+  indexed = same_oldest c.args.self.now (places_at c.args.agenda.now) (saved_by c.loop.states) (saved_by c.coast_once.new.states) (ap oldest_of c.coast_once.ensures.saved) c.loop.invariant.indexed;
 }

@@ -9,7 +9,7 @@ abbrev pub invariant-loop : goal.invariant-loop
 invariant-loop l = record {
   held : AreStates l.self l.states;
   saved : saved_by l.states ≡ saved_by l.fn.states;
-  indexed : IsIndexed l.self (oldest_of (saved_by l.states)) (places_at l.agenda.times);
+  indexed : IsIndexed l.self (oldest_of (saved_by l.states)) (places_at l.agenda);
 }
 
 abbrev pub decreases-loop : goal.decreases-loop

@@ -44,11 +44,11 @@ returns-in-Ok-clause-held c =
 pub next_busy-requires : goal.next_busy-requires
 next_busy-requires c =
     let low = oldest_low c.args.self.now c.args.states.now c.requires.held in
-    IsIndexed-later c.args.self.now (oldest_of (saved_by c.args.states.now)) c.mark-from.result (places_at c.args.agenda.now.times) (omega (arith, low, c.mark-from.ensures)) c.requires.indexed
+    IsIndexed-later c.args.self.now (oldest_of (saved_by c.args.states.now)) c.mark-from.result (places_at c.args.agenda.now) (omega (arith, low, c.mark-from.ensures)) c.requires.indexed
 
 pub go_over-requires-clause-indexed : goal.go_over-requires-clause-indexed
 go_over-requires-clause-indexed c =
-    IsIndexed-later c.args.self.now (oldest_of (saved_by c.args.states.now)) (now_of c.args.states.now).mark (places_at c.args.agenda.now.times) (oldest_low c.args.self.now c.args.states.now c.requires.held) c.requires.indexed
+    IsIndexed-later c.args.self.now (oldest_of (saved_by c.args.states.now)) (now_of c.args.states.now).mark (places_at c.args.agenda.now) (oldest_low c.args.self.now c.args.states.now c.requires.held) c.requires.indexed
 
 kept_at : (c : goal.After-roll_back) → AreKept (saved_by c.go_over.new.states) (saved_by c.roll_back.new.self) c.args.self.now.mark
 kept_at c = subst (AreKept (saved_by c.go_over.new.states) (saved_by c.roll_back.new.self)) c.mark-end.ensures c.roll_back.ensures.kept

@@ -64,7 +64,7 @@ returns-in-Ok-clause-indexed c = λ start old.
     let lawful = finish_lawful (view_of c.self.inside) c.self.invariant (record { mark = c.args.time + 1; values = c.args.values.now; contents = c.args.contents.now }) (rw (← c.self.view_is) at c.requires.lawful) c.args.time refl
     (rw (← c.self.view_is) at c.requires.from) (rw (← c.self.view_is) at c.requires.until) (rw (← c.self.view_is) at c.requires.quiet) c.emit_woken.new.logs.items len emitted in
     IsIndexed-step (view_of c.self.inside) c.self.invariant (moment_of c.self.inside.part.nets c.args.values.now c.args.contents.now) c.args.time c.emit_woken.new.logs.items (rw (← c.self.view_is) at c.requires.from) emitted lawful
-    start (places_at c.args.agenda.now.times) (places_at c.emit_woken.new.agenda.times) c.emit_woken.new.journal.notes.items c.in-Ok.ensures.found c.emit_woken.ensures.listed (rw (← c.self.view_is) at old))
+    start (places_at c.args.agenda.now) (places_at c.emit_woken.new.agenda) c.emit_woken.new.journal.notes.items c.in-Ok.ensures.found c.emit_woken.ensures.listed (rw (← c.self.view_is) at old))
 
 pub returns-in-Ok-clause-noted : goal.returns-in-Ok-clause-noted
 returns-in-Ok-clause-noted c =
@@ -72,11 +72,11 @@ returns-in-Ok-clause-noted c =
     (rw (← c.self.view_is) at c.requires.from) (rw (← c.self.view_is) at c.requires.until) (rw (← c.self.view_is) at c.requires.quiet) c.args.gates.now c.requires.rising (rw (← c.self.view_is) at c.requires.gates)
     (rw (← c.self.view_is) at c.requires.woken) c.emit_woken.new.logs.items c.in-Ok.ensures.ok in
     IsNoted-step (view_of c.self.inside) c.self.invariant (moment_of c.self.inside.part.nets c.args.values.now c.args.contents.now) c.args.time c.emit_woken.new.logs.items (rw (← c.self.view_is) at c.requires.from) emitted
-    (places_at c.emit_woken.new.agenda.times) c.args.journal.now.notes.items c.emit_woken.new.journal.notes.items c.in-Ok.ensures.found c.emit_woken.ensures.noted (rw (← c.self.view_is) at c.requires.noted)
+    (places_at c.emit_woken.new.agenda) c.args.journal.now.notes.items c.emit_woken.new.journal.notes.items c.in-Ok.ensures.found c.emit_woken.ensures.noted (rw (← c.self.view_is) at c.requires.noted)
 
 pub returns-in-Err-clause-indexed : goal.returns-in-Err-clause-indexed
 returns-in-Err-clause-indexed c = λ start old.
-    rw (restored c) (IsIndexed-grown (view_of c.self.inside) start (places_at c.args.agenda.now.times) (places_at c.emit_woken.new.agenda.times) c.emit_woken.ensures.listed (rw (← c.self.view_is) at old))
+    rw (restored c) (IsIndexed-grown (view_of c.self.inside) start (places_at c.args.agenda.now) (places_at c.emit_woken.new.agenda) c.emit_woken.ensures.listed (rw (← c.self.view_is) at old))
 
 pub returns-in-Err-clause-noted : goal.returns-in-Err-clause-noted
 returns-in-Err-clause-noted c =

@@ -15,10 +15,10 @@ pub returns-clause-lawful : goal.returns-clause-lawful
 returns-clause-lawful c = record { values = c.in_ok-set_values.ensures.values; contents = c.set_values.ensures.contents ∙ c.in_ok-set_contents.ensures.contents }
 
 pub wake-requires-clause-indexed : goal.wake-requires-clause-indexed
-wake-requires-clause-indexed c = IsIndexed-later c.args.self.now (now_of c.args.states.now).mark c.args.time (places_at c.args.agenda.now.times) c.requires.from c.requires.indexed
+wake-requires-clause-indexed c = IsIndexed-later c.args.self.now (now_of c.args.states.now).mark c.args.time (places_at c.args.agenda.now) c.requires.from c.requires.indexed
 
 pub set_values-requires-clause-indexed : goal.set_values-requires-clause-indexed
-set_values-requires-clause-indexed c = subst (λ (m : ℕ). IsIndexed c.args.self.now m (places_at c.args.agenda.now.times)) (sym c.set_contents.ensures.mark) c.requires.indexed
+set_values-requires-clause-indexed c = subst (λ (m : ℕ). IsIndexed c.args.self.now m (places_at c.args.agenda.now)) (sym c.set_contents.ensures.mark) c.requires.indexed
 
 pub set_values-requires-clause-quiet : goal.set_values-requires-clause-quiet
 set_values-requires-clause-quiet c = λ t from below. c.requires.quiet t (omega (arith, from, c.set_contents.ensures.mark)) below

@@ -9,18 +9,18 @@ overflow_add-time c = omega (arith, c.requires.until, c.law.ensures.horizon)
 
 pub go_over-requires-clause-indexed : goal.go_over-requires-clause-indexed
 go_over-requires-clause-indexed c =
-    same_places c.args.self.now (now_of c.args.states.now).mark (places_at c.args.agenda.now.times) (places_at c.settle.new.self.times) c.settle.ensures.same c.requires.indexed
+    same_places c.args.self.now (now_of c.args.states.now).mark (places_at c.args.agenda.now) (places_at c.settle.new.self) c.settle.ensures.same c.requires.indexed
 
 pub returns-in_err-go_over-clause-indexed : goal.returns-in_err-go_over-clause-indexed
-returns-in_err-go_over-clause-indexed c = λ start x. same_places c.args.self.now start (places_at c.args.agenda.now.times) (places_at c.settle.new.self.times) c.settle.ensures.same x
+returns-in_err-go_over-clause-indexed c = λ start x. same_places c.args.self.now start (places_at c.args.agenda.now) (places_at c.settle.new.self) c.settle.ensures.same x
 
 pub returns-in_err-reserve-clause-indexed : goal.returns-in_err-reserve-clause-indexed
-returns-in_err-reserve-clause-indexed c = λ start x. same_places c.args.self.now start (places_at c.args.agenda.now.times) (places_at c.settle.new.self.times) c.settle.ensures.same x
+returns-in_err-reserve-clause-indexed c = λ start x. same_places c.args.self.now start (places_at c.args.agenda.now) (places_at c.settle.new.self) c.settle.ensures.same x
 
 pub returns-in_err-finish-clause-indexed : goal.returns-in_err-finish-clause-indexed
 returns-in_err-finish-clause-indexed c = λ start x.
-    c.finish.ensures.indexed start (same_places c.args.self.now start (places_at c.args.agenda.now.times) (places_at c.settle.new.self.times) c.settle.ensures.same x)
+    c.finish.ensures.indexed start (same_places c.args.self.now start (places_at c.args.agenda.now) (places_at c.settle.new.self) c.settle.ensures.same x)
 
 pub returns-clause-indexed : goal.returns-clause-indexed
 returns-clause-indexed c = λ start x.
-    c.finish.ensures.indexed start (same_places c.args.self.now start (places_at c.args.agenda.now.times) (places_at c.settle.new.self.times) c.settle.ensures.same x)
+    c.finish.ensures.indexed start (same_places c.args.self.now start (places_at c.args.agenda.now) (places_at c.settle.new.self) c.settle.ensures.same x)

@@ -18,11 +18,11 @@ pub returns-clause-indexed : goal.returns-clause-indexed
 returns-clause-indexed c = λ start old.
     (let v = c.args.self.now in
     let w = c.roll_back_places.new.self in
-    let grown = IsGrown-put (length v.part.nets) (places_at c.args.agenda.now.times) (places_at c.put.new.self.times) c.args.time c.args.slot c.requires.slot c.in_ok-put.ensures.ok in
-    let listed = has-put (length v.part.nets) (places_at c.args.agenda.now.times) (places_at c.put.new.self.times) c.args.time c.args.slot c.requires.slot c.in_ok-put.ensures.ok in
+    let grown = IsGrown-put (length v.part.nets) (places_at c.args.agenda.now) (places_at c.put.new.self) c.args.time c.args.slot c.requires.slot c.in_ok-put.ensures.ok in
+    let listed = has-put (length v.part.nets) (places_at c.args.agenda.now) (places_at c.put.new.self) c.args.time c.args.slot c.requires.slot c.in_ok-put.ensures.ok in
     IsIndexed-put v w c.law.ensures c.law-2.ensures c.args.slot c.requires.slot c.args.time c.args.entry c.in_ok-roll_back_places.ensures.put
     (was_logged v c.args.time c.deref.result.now w.logs c.in_ok-roll_back_places.ensures.logs)
-    start (places_at c.args.agenda.now.times) (places_at c.put.new.self.times) grown listed old)
+    start (places_at c.args.agenda.now) (places_at c.put.new.self) grown listed old)
 
 pub returns-clause-noted : goal.returns-clause-noted
 returns-clause-noted c =

@@ -7,7 +7,7 @@ use Rattle.warp_block.proofs.look.Look.set_values.Given as goal
 
 abbrev pub invariant-loop-from : goal.invariant-loop-from
 invariant-loop-from l = record {
-  set : IsSetAt (IsListed (places_at l.agenda.times) (now_of l.fn.states).mark l.from) (now_of l.fn.states).values (map (moment_before l.self (l.time + 1)).value l.self.part.nets) (now_of l.states).values;
+  set : IsSetAt (IsListed (places_at l.agenda) (now_of l.fn.states).mark l.from) (now_of l.fn.states).values (map (moment_before l.self (l.time + 1)).value l.self.part.nets) (now_of l.states).values;
   start : (now_of l.fn.states).mark ≤ l.from;
   end : l.from ≤ l.time + 1;
   contents : (now_of l.states).contents ≡ (now_of l.fn.states).contents;

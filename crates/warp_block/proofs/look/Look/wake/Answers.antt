@@ -10,7 +10,7 @@ pub woken-requires-clause-news : goal.woken-requires-clause-news
 woken-requires-clause-news c =
     let n = length (fan_of c.args.fan.now) in
     subst (λ (ps : List ℕ). All (λ p. p < n) ps) (sym c.at.ensures)
-    (below_from_has (places_at c.args.agenda.now.times c.args.time) n (λ i h. (let within = c.requires.indexed.within c.args.time i h in omega (arith, within, c.requires.fan.same))))
+    (below_from_has (places_at c.args.agenda.now c.args.time) n (λ i h. (let within = c.requires.indexed.within c.args.time i h in omega (arith, within, c.requires.fan.same))))
 
 pub woken-requires-clause-closed : goal.woken-requires-clause-closed
 woken-requires-clause-closed c =
@@ -28,7 +28,7 @@ returns-clause-gates c =
 pub returns-clause-woken : goal.returns-clause-woken
 returns-clause-woken c =
     let v = c.args.self.now in
-    let places = places_at c.args.agenda.now.times in
+    let places = places_at c.args.agenda.now in
     HasWoken-from v c.args.time c.args.time places (fan_of c.args.fan.now) c.woken.new.gates c.requires.indexed (omega arith) c.requires.fan
     (record {
       places = below_from_has c.woken.new.gates (length v.part.nets)

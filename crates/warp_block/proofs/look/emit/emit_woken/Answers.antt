@@ -58,7 +58,7 @@ loop-gate-preserved c =
           (c.in_ok-put_change.ensures.log ∙ ap (λ (cs : List Change). c.index_mut-log.result.now ++ cs) change);
       sends = told_of-more Plus part (λ k. emitted part moment k (log_at before k) c.args.time c.args.horizon) c.args.gates.now j c.args.out.now.items c.loop-gate.out.items c.put_change.new.out.items
           _ _ _ c.loop-gate-test.true refl refl (change ∙ ap (λ (log : List Change). emitted part moment i log c.args.time c.args.horizon) (sym row ∙ same)) c.loop-gate.invariant.sends c.in_ok-put_change.ensures.sends;
-      found = AreFound-more part c.args.time i before c.loop-gate.logs.items c.index_mut-log.result.now c.put_change.new.log (places_at c.loop-gate.agenda.times) (places_at c.put_change.new.agenda.times)
+      found = AreFound-more part c.args.time i before c.loop-gate.logs.items c.index_mut-log.result.now c.put_change.new.log (places_at c.loop-gate.agenda) (places_at c.put_change.new.agenda)
           c.loop-gate.journal.notes.items c.put_change.new.journal.notes.items in_logs row same c.loop-gate.invariant.found c.put_change.ensures.listed c.put_change.ensures.noted c.in_ok-put_change.ensures.found;
       listed = IsGrown-trans (length part.nets) _ _ _ c.loop-gate.invariant.listed c.put_change.ensures.listed;
       noted = IsNotedMore-trans (length part.nets) c.args.time _ _ _ c.loop-gate.invariant.noted c.put_change.ensures.noted;

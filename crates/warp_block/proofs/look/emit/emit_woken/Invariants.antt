@@ -11,8 +11,8 @@ invariant-loop-gate l = record {
   added : AreStepped (with_emitted l.part (moment_of l.part.nets l.values l.contents) l.time l.horizon) (take l.gate-index l.gates) l.fn.logs.items l.logs.items;
   sends : l.out.items ≡ l.fn.out.items ++ told_of Plus l.part
       (λ i. emitted l.part (moment_of l.part.nets l.values l.contents) i (log_at l.fn.logs.items i) l.time l.horizon) (take l.gate-index l.gates);
-  found : AreFound l.part l.time l.fn.logs.items l.logs.items (places_at l.agenda.times) l.journal.notes.items;
-  listed : IsGrown (length l.part.nets) (places_at l.fn.agenda.times) (places_at l.agenda.times);
+  found : AreFound l.part l.time l.fn.logs.items l.logs.items (places_at l.agenda) l.journal.notes.items;
+  listed : IsGrown (length l.part.nets) (places_at l.fn.agenda) (places_at l.agenda);
   noted : IsNotedMore (length l.part.nets) l.time l.fn.journal.notes.items l.journal.notes.items;
   len : vec_len l.logs ≡ vec_len l.fn.logs;
 }

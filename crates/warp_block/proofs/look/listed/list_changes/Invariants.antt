@@ -7,6 +7,6 @@ use Rattle.warp_block.proofs.look.listed.list_changes.Given as goal
 
 abbrev pub invariant-loop-change : goal.invariant-loop-change
 invariant-loop-change l = record {
-  listed : (k : ℕ) (d : Change) → k < l.change-index → has (places_at l.agenda.times (get_or l.log k d).time) l.place ≡ true;
-  grown : (count : ℕ) → l.place < count → IsGrown count (places_at l.fn.agenda.times) (places_at l.agenda.times);
+  listed : (k : ℕ) (d : Change) → k < l.change-index → has (places_at l.agenda (get_or l.log k d).time) l.place ≡ true;
+  grown : (count : ℕ) → l.place < count → IsGrown count (places_at l.fn.agenda) (places_at l.agenda);
 }

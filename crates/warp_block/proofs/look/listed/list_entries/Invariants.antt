@@ -7,6 +7,6 @@ use Rattle.warp_block.proofs.look.listed.list_entries.Given as goal
 
 abbrev pub invariant-loop-timed : goal.invariant-loop-timed
 invariant-loop-timed l = record {
-  listed : (k : ℕ) (d : Received) → k < l.timed-index → has (places_at l.agenda.times (get_or l.queue k d).time) l.place ≡ true;
-  grown : (count : ℕ) → l.place < count → IsGrown count (places_at l.fn.agenda.times) (places_at l.agenda.times);
+  listed : (k : ℕ) (d : Received) → k < l.timed-index → has (places_at l.agenda (get_or l.queue k d).time) l.place ≡ true;
+  grown : (count : ℕ) → l.place < count → IsGrown count (places_at l.fn.agenda) (places_at l.agenda);
 }
