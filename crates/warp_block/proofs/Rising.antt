@@ -49,30 +49,6 @@ module _ {X : Type 0} (time : X → ℕ) where
       rest : (k : ℕ) (d : X) → first ≤ k → get_or (drop first xs) (k - first) d ≡ get_or xs k d
       rest k d ge = get_or-drop first xs (k - first) d ∙ ap (λ (i : ℕ). get_or xs i d) (let e : first + (k - first) ≡ k = omega arith in e)
 
-  -- what stands before an item before a time is before it too
-  pub before-it : (xs : List X) (t i : ℕ) (e : X) → Rises xs → i < length xs → time (get_or xs i e) < t → AllWithin (λ x. time x < t) xs 0 i
-  before-it xs t i e r within early k d low high =
-      let same : time (get_or xs i d) ≡ time (get_or xs i e) = ap time (get_or_default xs i d e within) in
-      let before : time (get_or xs k d) < time (get_or xs i d) = r k i d high within in
-      omega arith
-
-  -- where the first items are all before a time, it is enough to look at the others
-  pub split-after : (xs : List X) (t first count : ℕ) → AllWithin (λ x. time x < t) xs 0 first
-      → IsPartitionPoint (λ x. time x < t) (λ x. t ≤ time x) (drop first xs) count
-      → IsPartitionPoint (λ x. time x < t) (λ x. t ≤ time x) xs (first + count)
-  split-after xs t first count early (low, high) = (
-    λ k d a b. elim (cases_lt k first) [
-      | inl lt ↦ early k d a lt
-      | inr ge ↦ subst (λ (x : X). time x < t) (rest k d ge) (low (k - first) d (omega arith) (omega arith))
-    ],
-    λ k d a b.
-        let l : length (drop first xs) ≡ length xs - first = length-drop first xs in
-        subst (λ (x : X). t ≤ time x) (rest k d (omega arith)) (high (k - first) d (omega arith) (omega arith)),
-  )
-    where
-      rest : (k : ℕ) (d : X) → first ≤ k → get_or (drop first xs) (k - first) d ≡ get_or xs k d
-      rest k d ge = get_or-drop first xs (k - first) d ∙ ap (λ (i : ℕ). get_or xs i d) (let e : first + (k - first) ≡ k = omega arith in e)
-
   pub rising-tail : (x : X) (xs : List X) → Rises (x ∷ xs) → Rises xs
   rising-tail x xs r i j d h l = r (suc i) (suc j) d (omega arith) (omega arith)
 

@@ -1,7 +1,6 @@
 //! Which places have news or entries at which times.
 ghost use Rattle.std.specs.Prelude.{◌≡◌, ◌≢◌, ◌≤◌, ◌<◌, ◌++◌, ◌==◌, ◌⊎◌, ◌+◌, ℕ, [], ◌∷◌, IsTrue, IfSome, IsSome, option_map, if◌then◌else◌, is_some, false, OnOk, OnErr, length, drop, slice_index_or, vec_len, vec_capacity, None, Vec};
-ghost use Rattle.std.specs.List.{AllWithin};
-ghost use Rattle.std.specs.List.Sorted.{IsStrictlyIncreasing, IsPartitionPoint};
+ghost use Rattle.std.specs.List.Sorted.{IsStrictlyIncreasing};
 ghost use Rattle.std.specs.Ordering.{nat_cmp};
 ghost use Rattle.std.specs.BTreeMap.{get, btree_map_len};
 ghost use Rattle.std.specs.declared.alloc.Global.{Global};
@@ -9,6 +8,7 @@ ghost use Rattle.warp_block.specs.View.{IsLeast};
 ghost use Rattle.warp_block.specs.Inner.Near.{places_in, near_at, list_of, places_of, AreRising, AreApart, IsRelisted};
 ghost use Rattle.warp_block.specs.Inner.Building.{has};
 
+use crate::dated::count_before;
 use crate::woken::Woken;
 use std::alloc::{AllocError, Global};
 use std::collections::BTreeMap;
@@ -264,34 +264,6 @@ fn forget_far(far: &mut BTreeMap<u64, Vec<u32>>, time: u64)
         }
         far.pop_first();
     }
-}
-
-/// How many near times are before one.
-fn count_before(near: &[(u64, Vec<u32>)], time: u64) -> usize
-    requires { AreRising near.now }
-    ensures within { result ≤ length near.now }
-    ensures split { IsPartitionPoint (λ listed. listed.0 < time) (λ listed. time ≤ listed.0) near.now result }
-{
-    let start = late_start(near, time);
-    start + near[start..].partition_point(|listed| listed.0 < time)
-}
-
-/// A place before which all near times are before one. It is at most twice as far from the end as the last of these, so
-/// what stands near the end is found in a few steps, however long the list is.
-fn late_start(near: &[(u64, Vec<u32>)], time: u64) -> usize
-    requires { AreRising near.now }
-    ensures within { result ≤ length near.now }
-    ensures early { AllWithin (λ listed. listed.0 < time) near.now 0 result }
-{
-    let mut reach = 1;
-    while reach < near.len() {
-        let start = near.len() - reach;
-        if near[start].0 < time {
-            return start;
-        }
-        reach = reach.saturating_mul(2);
-    }
-    0
 }
 
 /// Whether a near time stands at a place.

@@ -17,6 +17,7 @@
 mod agenda;
 mod block;
 mod cell;
+mod dated;
 mod entry;
 mod fault;
 mod journal;

@@ -1,12 +1,11 @@
-ghost use Rattle.std.specs.Prelude.{◌≡◌, ◌<◌, ◌≤◌, ◌++◌, [], ◌∷◌, IfOk, OnOk, OnErr, IsSome, length};
-ghost use Rattle.std.specs.List.{AllWithin};
-ghost use Rattle.std.specs.List.Sorted.{IsPartitionPoint};
+ghost use Rattle.std.specs.Prelude.{◌≡◌, ◌≤◌, ◌++◌, [], ◌∷◌, IfOk, OnOk, OnErr, IsSome};
 ghost use Rattle.gate_values.specs.declared.logic.Logic.TheVariants.{X};
 ghost use Rattle.gate_values.specs.Changes.{latest, last_value as value_after, pair_at, before_time};
 ghost use Rattle.warp_block.specs.View.{IsLeast};
 ghost use Rattle.warp_block.specs.Inner.Logs.{IsLog, last_change};
 ghost use Rattle.warp_block.specs.Inner.Step.{since_time};
 
+use crate::dated::{count_before, count_until};
 use gate_values::{Change, Logic};
 use std::alloc::{AllocError, Global};
 use std::marker::Model;
@@ -143,46 +142,6 @@ fn last_change(changes: &[Change]) -> Change
     match changes.last() {
         Some(change) => *change,
         None => NO_CHANGE,
-    }
-}
-
-/// A place before which no change of a log is past a time. It is at most twice as far from the end as the last of these,
-/// so what stands near the end is found in a few steps, however long the log is.
-fn late_start(log: &[Change], time: u64) -> usize
-    requires { IsLog log.now }
-    ensures within { result ≤ length log.now }
-    ensures early { AllWithin (λ c. c.time ≤ time) log.now 0 result }
-{
-    let mut reach = 1;
-    while reach < log.len() {
-        let start = log.len() - reach;
-        if log[start].time <= time {
-            return start;
-        }
-        reach = reach.saturating_mul(2);
-    }
-    0
-}
-
-/// How many changes of a log aren't past a time.
-fn count_until(log: &[Change], time: u64) -> usize
-    requires { IsLog log.now }
-    ensures within { result ≤ length log.now }
-    ensures split { IsPartitionPoint (λ c. c.time ≤ time) (λ c. time < c.time) log.now result }
-{
-    let start = late_start(log, time);
-    start + log[start..].partition_point(|change| change.time <= time)
-}
-
-/// How many changes of a log are before a time.
-fn count_before(log: &[Change], time: u64) -> usize
-    requires { IsLog log.now }
-    ensures within { result ≤ length log.now }
-    ensures split { IsPartitionPoint (λ c. c.time < time) (λ c. time ≤ c.time) log.now result }
-{
-    match time.checked_sub(1) {
-        Some(last) => count_until(log, last),
-        None => 0,
     }
 }
 
