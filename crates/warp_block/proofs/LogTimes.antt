@@ -2,13 +2,14 @@
 use Rattle.std.proofs.Common.{◌≡◌, ℕ, zero, suc, ◌-◌, ◌<◌, ◌≤◌, Bool, true, false, cond, List, [], ◌∷◌, length, get_or, take, drop, Some, None, IsSome, inl, inr, refl, ap, ◌∙◌, sym, subst, arith, nat_lt, nat_le, nat_eq}
 use Rattle.std.specs.List.Sorted.{IsPartitionPoint}
 use Rattle.std.proofs.lemmas.Bool.{cases_lt, false≢true, lt-ltb, le-ltb, le-leb, lt-leb, eq-eqb, eqb-true}
-use Rattle.std.proofs.lemmas.List.{get_or_default, take_all}
+use Rattle.std.proofs.lemmas.List.{get_or_default, take_all, get_or-take, length-take-le}
 use Rattle.gate_values.specs.declared.logic.Logic.{Logic}
 use Rattle.gate_values.specs.declared.logic.Logic.TheVariants.{X}
 use Rattle.gate_values.specs.declared.logic.Change.{Change}
 use Rattle.gate_values.specs.Changes.{before_time, latest, last_value, pair_at}
 use Rattle.warp_block.specs.View.{IsLeast}
 use Rattle.warp_block.specs.Inner.Logs.{IsLog, last_change}
+use Rattle.warp_block.specs.Inner.LastTwo.{earlier_change}
 use Rattle.warp_block.specs.Inner.Step.{since_time}
 use Rattle.warp_block.proofs.Rising.{not_below, least_rising, filter-front, filter-rest}
 
@@ -102,3 +103,42 @@ latest-last cs t log past =
 pub next_change-past : (cs : List Change) (t : ℕ) → IsLog cs → (last_change cs).time < t → IsLeast (λ u. (t ≤ u) × IsSome (pair_at cs u)) None
 next_change-past cs t log past =
     next_change-none cs t (length cs) (λ k d a b. (let h = by_last cs log k d b in omega (arith, h, past)), λ k d a b. absurd (omega (arith, a, b))) (omega arith)
+
+IsLog-take : (cs : List Change) (n : ℕ) → n ≤ length cs → IsLog cs → IsLog (take n cs)
+IsLog-take cs n within log = record {
+  in_order = λ i j d l h. (
+      let short = length-take-le n cs within in
+      rw (get_or-take n cs i d (omega (arith, short)), get_or-take n cs j d (omega (arith, short))) (log.in_order i j d l (omega (arith, short))));
+}
+
+-- where the last change has a time, those before it are all others
+some : (cs : List Change) → 0 < (last_change cs).time → 0 < length cs
+some [] h = h
+some (c ∷ cs) h = omega arith
+
+-- no change but the last is after the one before it
+by_earlier : (cs : List Change) → IsLog cs → (k : ℕ) (d : Change) → k < length cs - 1 → (get_or cs k d).time ≤ (earlier_change cs).time
+by_earlier cs log k d l =
+    let within : length cs - 1 ≤ length cs = omega arith in
+    let short = length-take-le (length cs - 1) cs within in
+    rw (← get_or-take (length cs - 1) cs k d l) (by_last (take (length cs - 1) cs) (IsLog-take cs (length cs - 1) within log) k d (omega (arith, short, l)))
+
+at_last : (cs : List Change) (k : ℕ) (d : Change) → 0 < length cs → length cs - 1 ≤ k → k < length cs → (get_or cs k d).time ≡ (last_change cs).time
+at_last cs k d more a b =
+    let here : k ≡ length cs - 1 = omega (arith, more, a, b) in
+    ap (λ i. (get_or cs i d).time) here ∙ ap time_of (get_or_default cs (length cs - 1) d (record { time = 0; value = X }) (omega (arith, more)))
+
+-- from the change before the last on, up to the last, the value is its
+pub latest-earlier : (cs : List Change) (t : ℕ) → IsLog cs → (earlier_change cs).time ≤ t → t < (last_change cs).time → (earlier_change cs).value ≡ latest X cs t
+latest-earlier cs t log from until =
+    let more = some cs (omega (arith, until)) in
+    last_change-value (take (length cs - 1) cs)
+    ∙ latest-take X cs t (length cs - 1) (λ k d a b. (let h = by_earlier cs log k d b in omega (arith, h, from)), λ k d a b. (let h = at_last cs k d more a b in omega (arith, h, until)))
+
+-- past the change before the last, up to the last, the last is the next
+pub next_change-last : (cs : List Change) (t : ℕ) → IsLog cs → (earlier_change cs).time < t → t ≤ (last_change cs).time → IsLeast (λ u. (t ≤ u) × IsSome (pair_at cs u)) (Some (last_change cs).time)
+next_change-last cs t log past until =
+    let more = some cs (omega (arith, past, until)) in
+    next_change-some cs t (length cs - 1) (last_change cs) log
+    (λ k d a b. (let h = by_earlier cs log k d b in omega (arith, h, past)), λ k d a b. (let h = at_last cs k d more a b in omega (arith, h, until)))
+    (omega (arith, more)) (get_or_default cs (length cs - 1) (record { time = 0; value = X }) (last_change cs) (omega (arith, more)))

@@ -10,6 +10,7 @@ pub mod Held
 pub mod HeldBlock
 pub mod HeldPart
 pub mod Index
+pub mod LastTwo
 pub mod Logs
 pub mod Marks
 pub mod Moments

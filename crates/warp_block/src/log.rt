@@ -3,6 +3,7 @@ ghost use Rattle.gate_values.specs.declared.logic.Logic.TheVariants.{X};
 ghost use Rattle.gate_values.specs.Changes.{latest, last_value as value_after, pair_at, before_time};
 ghost use Rattle.warp_block.specs.View.{IsLeast};
 ghost use Rattle.warp_block.specs.Inner.Logs.{IsLog, last_change};
+ghost use Rattle.warp_block.specs.Inner.LastTwo.{last_two};
 ghost use Rattle.warp_block.specs.Inner.Step.{since_time};
 
 use crate::dated::{count_before, count_until};
@@ -11,24 +12,33 @@ use std::alloc::{AllocError, Global};
 use std::marker::Model;
 use std::mem;
 
-/// The changes of a net, and the last of them beside: what a log leaves in the end is read without a look at its list,
-/// which may lie anywhere in memory.
+/// The changes of a net, and the last two of them beside: what a log gives near its end is read without a look at its
+/// list, which may lie anywhere in memory.
 #[derive(Debug, Drop)]
 pub(crate) struct Log {
     changes: Vec<Change>,
-    last: Change,
+    ends: LastTwo,
+}
+
+/// The last change of a log, and the one before it: times and values apart, since that takes less room.
+#[derive(Clone, Copy, Debug)]
+struct LastTwo {
+    last_time: u64,
+    earlier_time: u64,
+    last_value: Logic,
+    earlier_value: Logic,
 }
 
 impl Model for Log {
     ghost use Rattle.std.specs.Prelude.{◌≡◌, List};
     ghost use Rattle.gate_values.specs.declared.logic.Change.{Change};
-    ghost use Rattle.warp_block.specs.Inner.Logs.{last_change};
+    ghost use Rattle.warp_block.specs.Inner.LastTwo.{last_two};
 
     ghost Value = { List Change };
 
     ghost view = { λ log. log.changes.items };
 
-    ghost invariant = { λ log. log.last ≡ last_change log.changes.items };
+    ghost invariant = { λ log. log.ends ≡ last_two log.changes.items };
 }
 
 impl Log {
@@ -38,7 +48,7 @@ impl Log {
     {
         Log {
             changes: Vec::new(alloc),
-            last: NO_CHANGE,
+            ends: LastTwo::of(NO_CHANGE, NO_CHANGE),
         }
     }
 
@@ -53,7 +63,7 @@ impl Log {
     pub(crate) fn last_value(&self) -> Logic
         ensures { result ≡ value_after X self.now }
     {
-        self.last.value
+        self.ends.last_value
     }
 
     /// The value that the log gives at a time.
@@ -61,8 +71,11 @@ impl Log {
         requires { IsLog self.now }
         ensures { result ≡ latest X self.now time }
     {
-        if self.last.time <= time {
-            return self.last.value;
+        if self.ends.last_time <= time {
+            return self.ends.last_value;
+        }
+        if self.ends.earlier_time <= time {
+            return self.ends.earlier_value;
         }
         let count = count_until(&self.changes, time);
         last_change(&self.changes[..count]).value
@@ -73,8 +86,11 @@ impl Log {
         requires { IsLog self.now }
         ensures { IsLeast (λ t. (from ≤ t) × IsSome (pair_at self.now t)) result }
     {
-        if self.last.time < from {
+        if self.ends.last_time < from {
             return None;
+        }
+        if self.ends.earlier_time < from {
+            return Some(self.ends.last_time);
         }
         let change = self.changes.get(count_before(&self.changes, from))?;
         Some(change.time)
@@ -94,7 +110,7 @@ impl Log {
         ensures err { OnErr result (self.new ≡ self.old) }
     {
         self.changes.push(change)?;
-        self.last = change;
+        self.ends = self.ends.then(change);
         Ok(())
     }
 
@@ -105,7 +121,7 @@ impl Log {
     {
         let count = count_before(&self.changes, end);
         self.changes.truncate(count);
-        self.last = last_change(&self.changes);
+        self.ends = last_two(&self.changes);
     }
 
     /// Puts the changes into a list, and takes what was there for them.
@@ -114,7 +130,7 @@ impl Log {
         ensures taken { self.new ≡ list.old.items }
     {
         mem::swap(&mut self.changes, list);
-        self.last = last_change(&self.changes);
+        self.ends = last_two(&self.changes);
     }
 
     /// A copy.
@@ -124,12 +140,38 @@ impl Log {
         let changes = Vec::from_slice(alloc, &self.changes)?;
         Ok(Log {
             changes,
-            last: self.last,
+            ends: self.ends,
         })
     }
 }
 
-/// What stands for the last change where there is none.
+impl LastTwo {
+    /// A last change, and the one before it.
+    fn of(last: Change, earlier: Change) -> LastTwo
+        ensures { result ≡ record { last_time = last.time; earlier_time = earlier.time; last_value = last.value; earlier_value = earlier.value } }
+    {
+        LastTwo {
+            last_time: last.time,
+            earlier_time: earlier.time,
+            last_value: last.value,
+            earlier_value: earlier.value,
+        }
+    }
+
+    /// Those after one change more.
+    fn then(self, change: Change) -> LastTwo
+        ensures { result ≡ record { last_time = change.time; earlier_time = self.last_time; last_value = change.value; earlier_value = self.last_value } }
+    {
+        LastTwo {
+            last_time: change.time,
+            earlier_time: self.last_time,
+            last_value: change.value,
+            earlier_value: self.last_value,
+        }
+    }
+}
+
+/// What stands for a last change where there is none.
 const NO_CHANGE: Change = Change {
     time: 0,
     value: Logic::X,
@@ -142,6 +184,16 @@ fn last_change(changes: &[Change]) -> Change
     match changes.last() {
         Some(change) => *change,
         None => NO_CHANGE,
+    }
+}
+
+/// The last two of some changes.
+fn last_two(changes: &[Change]) -> LastTwo
+    ensures { result ≡ last_two changes.now }
+{
+    match changes.split_last() {
+        Some((last, earlier)) => LastTwo::of(*last, last_change(earlier)),
+        None => LastTwo::of(NO_CHANGE, NO_CHANGE),
     }
 }
 

@@ -1,14 +1,20 @@
 use Rattle.std.proofs.Common.{ap, ◌∙◌, List, take}
 use Rattle.gate_values.specs.declared.logic.Logic.TheVariants.{X}
 use Rattle.gate_values.specs.declared.logic.Change.{Change}
+use Rattle.warp_block.specs.declared.log.LastTwo.{LastTwo}
 use Rattle.gate_values.specs.Changes.{last_value, latest}
-use Rattle.warp_block.proofs.LogTimes.{latest-take, latest-last, last_change-value}
+use Rattle.warp_block.proofs.LogTimes.{latest-take, latest-last, latest-earlier, last_change-value}
 use Rattle.warp_block.proofs.log.Log.value_at.Goals as goal
 
 pub returns-then-self-time : goal.returns-then-self-time
 returns-then-self-time c =
-    ap (λ (e : Change). e.value) c.self.invariant
+    ap (λ (e : LastTwo). e.last_value) c.self.invariant
     ∙ rw (← c.self.view_is) (latest-last c.self.inside.changes.items c.args.time (rw (← c.self.view_is) at c.requires) (rw c.self.invariant at c.if-self-time.true))
+
+pub returns-then-self-time-2 : goal.returns-then-self-time-2
+returns-then-self-time-2 c =
+    ap (λ (e : LastTwo). e.earlier_value) c.self.invariant
+    ∙ rw (← c.self.view_is) (latest-earlier c.self.inside.changes.items c.args.time (rw (← c.self.view_is) at c.requires) (rw c.self.invariant at c.if-self-time-2.true) (rw c.self.invariant at c.if-self-time.false))
 
 pub returns : goal.returns
 returns c =
