@@ -216,6 +216,13 @@ module _ {X : Type 0} where
   pub last_of : (es : List (ℕ × X)) (e : ℕ × X) → slice_get es (length es - 1) ≡ Some e → (0 < length es) × (get_or es (length es - 1) e ≡ e)
   last_of es e h = (let l = slice_get_within es (length es - 1) e h in (omega (arith, l), get_or_from_slice_get es (length es - 1) e e h))
 
+  -- it is found at its time
+  pub last_found : (es : List (ℕ × X)) (last : ℕ × X) → AreInOrder es → slice_get es (length es - 1) ≡ Some last → list_at es last.0 ≡ Some last.1
+  last_found es last r h =
+      let end = last_of es last h in
+      let some = end.0 in
+      subst (λ (e : ℕ × X). list_at es e.0 ≡ Some e.1) end.1 (found es (length es - 1) last r (omega (arith, some)))
+
   -- what stands at a place of a time, and another list written there
   module _ (es : List (ℕ × X)) (i time : ℕ) (r : AreInOrder es) (l : i < length es) (e : ℕ × X) (is : e ≡ get_or es i e) (here : (d : ℕ × X) → (get_or es i d).0 ≡ time) where
     pub stands_at : list_at es time ≡ Some e.1

@@ -98,6 +98,13 @@ fn next_near(near: &[(u64, Vec<u32>)], from: u64) -> Option<(u64, &[u32])>
     ensures least { IsLeast (λ t. (from ≤ t) × IsTrue (is_some (near_at near.now t))) (option_map (λ p. p.0) result) }
     ensures places { IfSome result (λ p. IsSome (near_at near.now p.0) × (p.1.now ≡ places_in (near_at near.now p.0))) }
 {
+    let (last, places) = near.last()?;
+    if *last < from {
+        return None;
+    }
+    if *last == from {
+        return Some((*last, places.as_slice()));
+    }
     let (time, places) = near.get(count_before(near, from))?;
     Some((*time, places.as_slice()))
 }
@@ -107,6 +114,10 @@ fn next_far(far: &BTreeMap<u64, Vec<u32>>, from: u64) -> Option<(u64, &[u32])>
     ensures least { IsLeast (λ t. (from ≤ t) × IsTrue (is_some (get nat_cmp far.now t))) (option_map (λ p. p.0) result) }
     ensures places { IfSome result (λ p. p.1.now ≡ places_in (get nat_cmp far.now p.0)) }
 {
+    let (first, places) = far.first_key_value()?;
+    if *first >= from {
+        return Some((*first, places.as_slice()));
+    }
     let (time, places) = far.range(from..).next()?;
     Some((*time, places.as_slice()))
 }
@@ -170,7 +181,10 @@ fn draw_near(near: &mut Vec<(u64, Vec<u32>)>, far: &mut BTreeMap<u64, Vec<u32>>,
     ensures apart { AreApart near.new.items far.new }
     ensures same { (t : ℕ) → list_of near.new.items far.new t ≡ list_of near.old.items far.old t }
 {
-    while starts_by(far, time) {
+    while !is_near(near, time) {
+        if !starts_by(far, time) {
+            return;
+        }
         if near.reserve(1).is_err() {
             return;
         }
