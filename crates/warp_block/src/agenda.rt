@@ -12,14 +12,20 @@ use crate::dated::count_before;
 use crate::woken::Woken;
 use std::alloc::{AllocError, Global};
 use std::collections::BTreeMap;
+use std::collections::btree_map::Entry;
+
+/// A list with room for more places isn't kept as spare.
+const MOST_SPARE_ROOM: usize = 64;
 
 /// An index of event times: for each time the places that may have news or an entry at it. A time that is gone over
-/// moves to the near ones, which are a list: what is looked up stands near its end. The far ones are all later.
+/// moves to the near ones, which are a list: what is looked up stands near its end. The far ones are all later. A list
+/// that is forgotten is spare: a new time takes it, and with it its room.
 #[derive(Debug, Drop)]
 pub(crate) struct Agenda {
     alloc: Global,
     near: Vec<(u64, Vec<u32>)>,
     far: BTreeMap<u64, Vec<u32>>,
+    spare: Vec<Vec<u32>>,
     ghost rising: { AreRising near.items },
     ghost apart: { AreApart near.items far },
 }
@@ -33,6 +39,7 @@ impl Agenda {
             alloc,
             near: Vec::new(alloc),
             far: BTreeMap::new(alloc),
+            spare: Vec::new(alloc),
         }
     }
 
@@ -63,9 +70,9 @@ impl Agenda {
         ensures err { OnErr result ((t : ℕ) → places_of self.new.near.items self.new.far t ≡ places_of self.old.near.items self.old.far t) }
     {
         if is_near(&self.near, time) {
-            return put_near(&mut self.near, self.alloc, time, place);
+            return put_near(&mut self.near, &mut self.spare, self.alloc, time, place);
         }
-        put_far(&mut self.far, self.alloc, time, place)
+        put_far(&mut self.far, &mut self.spare, self.alloc, time, place)
     }
 
     /// Puts the places of a time into ascending order, each once. The time and those before it are near afterwards, unless
@@ -75,6 +82,8 @@ impl Agenda {
         ensures same { (t i : ℕ) → has (places_of self.new.near.items self.new.far t) i ≡ has (places_of self.old.near.items self.old.far t) i }
     {
         draw_near(&mut self.near, &mut self.far, time);
+        // Room for the near lists to be spare, since to forget them takes no memory.
+        let _ = self.spare.reserve(self.near.len());
         if settle_near(&mut self.near, time, gates) {
             return;
         }
@@ -87,7 +96,7 @@ impl Agenda {
         ensures kept { (t : ℕ) → time ≤ t → places_of self.new.near.items self.new.far t ≡ places_of self.old.near.items self.old.far t }
         ensures listed { (t i : ℕ) → IsTrue (has (places_of self.new.near.items self.new.far t) i) → IsTrue (has (places_of self.old.near.items self.old.far t) i) }
     {
-        forget_near(&mut self.near, time);
+        forget_near(&mut self.near, &mut self.spare, time);
         forget_far(&mut self.far, time);
     }
 }
@@ -137,6 +146,7 @@ fn is_near(near: &[(u64, Vec<u32>)], time: u64) -> bool
 /// A place may have news at a near time. After an error nothing has changed.
 fn put_near(
     near: &mut Vec<(u64, Vec<u32>)>,
+    spare: &mut Vec<Vec<u32>>,
     alloc: Global,
     time: u64,
     place: u32,
@@ -151,7 +161,7 @@ fn put_near(
         near[at].1.push(place)?;
         return Ok(());
     }
-    let mut places = Vec::new(alloc);
+    let mut places = empty_list(spare, alloc);
     places.push(place)?;
     near.insert(at, (time, places))?;
     Ok(())
@@ -160,6 +170,7 @@ fn put_near(
 /// A place may have news at a far time. After an error nothing has changed.
 fn put_far(
     far: &mut BTreeMap<u64, Vec<u32>>,
+    spare: &mut Vec<Vec<u32>>,
     alloc: Global,
     time: u64,
     place: u32,
@@ -168,9 +179,29 @@ fn put_far(
     ensures err { OnErr result ((t : ℕ) → places_in (get nat_cmp far.new t) ≡ places_in (get nat_cmp far.old t)) }
     ensures more { (t : ℕ) → IsTrue (is_some (get nat_cmp far.new t)) → IsTrue (is_some (get nat_cmp far.old t)) ⊎ (t ≡ time) }
 {
-    let places = far.entry(time)?.or_insert(Vec::new(alloc));
-    places.push(place)?;
-    Ok(())
+    match far.entry(time)? {
+        Entry::Occupied(entry) => {
+            entry.into_mut().push(place)?;
+            Ok(())
+        }
+        Entry::Vacant(entry) => {
+            entry.insert(empty_list(spare, alloc)).push(place)?;
+            Ok(())
+        }
+    }
+}
+
+/// An empty list, with room where one is spare.
+fn empty_list(spare: &mut Vec<Vec<u32>>, alloc: Global) -> Vec<u32>
+    ensures { result.items ≡ [] }
+{
+    match spare.pop() {
+        Some(mut places) => {
+            places.clear();
+            places
+        }
+        None => Vec::new(alloc),
+    }
 }
 
 /// Moves the far times up to one to the near ones, unless memory is wanted.
@@ -247,7 +278,7 @@ fn settle_far(far: &mut BTreeMap<u64, Vec<u32>>, time: u64, gates: &mut Woken)
 }
 
 /// Forgets the near times below one, once they are as many as the others.
-fn forget_near(near: &mut Vec<(u64, Vec<u32>)>, time: u64)
+fn forget_near(near: &mut Vec<(u64, Vec<u32>)>, spare: &mut Vec<Vec<u32>>, time: u64)
     requires { AreRising near.old.items }
     ensures rising { AreRising near.new.items }
     ensures kept { (t : ℕ) → time ≤ t → near_at near.new.items t ≡ near_at near.old.items t }
@@ -255,16 +286,26 @@ fn forget_near(near: &mut Vec<(u64, Vec<u32>)>, time: u64)
 {
     let count = count_before(near, time);
     if count >= near.len() - count {
-        drop_first(near, count);
+        drop_first(near, spare, count);
     }
 }
 
-/// Drops the first so many near times.
-fn drop_first(near: &mut Vec<(u64, Vec<u32>)>, count: usize)
+/// Drops the first so many near times. Their lists are spare then.
+fn drop_first(near: &mut Vec<(u64, Vec<u32>)>, spare: &mut Vec<Vec<u32>>, count: usize)
     requires { count ≤ length near.old.items }
     ensures { near.new.items ≡ drop count near.old.items }
 {
-    near.drain(..count);
+    for (_, places) in near.drain(..count) {
+        keep(spare, places);
+    }
+}
+
+/// Keeps a list as spare where there is room, if its own is small: much room would stay taken, and making it is little
+/// beside filling it. Takes no memory.
+fn keep(spare: &mut Vec<Vec<u32>>, places: Vec<u32>) {
+    if places.capacity() <= MOST_SPARE_ROOM && spare.len() < spare.capacity() {
+        spare.push_reserved(places);
+    }
 }
 
 /// Forgets the far times below one.

@@ -52,6 +52,6 @@ returns-clause-ok c =
     let none = not_here near c.args.time at c.requires split other in
     record {
       list = c.push-2.new.self;
-      holds = c.in_ok-push-2.ensures.items ∙ (ap (λ (ps : List ℕ). ps ++ c.args.place ∷ []) c.new-places.ensures.items ∙ sym (ap (λ (o : Option (Vec ℕ Global)). places_in o ++ c.args.place ∷ []) none));
+      holds = c.in_ok-push-2.ensures.items ∙ (ap (λ (ps : List ℕ). ps ++ c.args.place ∷ []) c.empty_list-places.ensures ∙ sym (ap (λ (o : Option (Vec ℕ Global)). places_in o ++ c.args.place ∷ []) none));
       each = rw c.in_ok-insert.ensures.items (list_at-insert near at c.args.time c.push-2.new.self none);
     }
