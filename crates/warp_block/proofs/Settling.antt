@@ -1,18 +1,28 @@
 -- Entries below an end, looked at where an index lists them.
-use Rattle.std.proofs.Common.{◌≡◌, ℕ, ◌+◌, ◌<◌, ◌≤◌, true, Some, None, inl, inr, sym, subst, arith}
+use Rattle.std.proofs.Common.{◌≡◌, ℕ, ◌+◌, ◌<◌, ◌≤◌, true, List, length, Some, None, inl, inr, ap, sym, ◌∙◌, subst, arith}
 use Rattle.std.proofs.lemmas.Bool.{cases_lt}
 use Rattle.warp_block.specs.declared.entry.Entry.{Entry}
 use Rattle.warp_block.specs.declared.agenda.Agenda.{Agenda}
 use Rattle.warp_block.specs.Inner.Agenda.{places_at, is_listed}
 use Rattle.warp_block.specs.Inner.Building.{has}
 use Rattle.warp_block.specs.Commit.{IsUnsettledBelow}
-use Rattle.warp_block.specs.Entries.{is_settled}
+use Rattle.warp_block.specs.Entries.{Received, entry_in, no_messages, is_settled}
 use Rattle.warp_block.specs.Inner.Index.{IsIndexed}
-use Rattle.warp_block.specs.Inner.Step.{net_at}
+use Rattle.warp_block.specs.Inner.Step.{net_at, source_at}
+use Rattle.warp_block.specs.Lawful.{IsLawful}
+use Rattle.warp_block.specs.Portion.{is_driven}
 use Rattle.warp_block.specs.View.{View, IsLeast, entry_of}
 use Rattle.warp_block.proofs.Committing.{unsettled_place}
 use Rattle.warp_block.proofs.Listing.{listed_from}
+use Rattle.warp_block.proofs.Rows.{source_here, entry_here}
 use Rattle.warp_block.proofs.Settled.{settled-none}
+
+-- nothing is received of an own net
+pub settled_own : (v : View) (i t : ℕ) → IsLawful v → i < length v.part.nets → is_driven (source_at v.part i) ≡ true → is_settled (entry_of v (net_at v.part i) t) ≡ true
+settled_own v i t is l own =
+    let none = is.own i l (ap is_driven (source_here v is i l) ∙ own) in
+    let empty : entry_of v (net_at v.part i) t ≡ no_messages = entry_here v is i l t ∙ ap (λ (q : List Received). entry_in q t) none in
+    subst (λ (e : Entry). is_settled e ≡ true) (sym empty) settled-none
 
 -- the entries at times before one, and below an end, are settled
 abbrev pub AreSettledUntil : View → ℕ → ℕ → Type 0

@@ -82,11 +82,20 @@ impl Look {
         ensures { IsTrue result → (i : ℕ) → IsTrue (has places.now i) → IsTrue (is_settled (entry_of self.now (slice_index self.now.part.nets i) time)) }
     {
         for place in places {
-            if !self.entry_at(*place as usize, time).is_settled() {
+            if !self.is_settled_at(*place as usize, time) {
                 return false;
             }
         }
         true
+    }
+
+    /// Whether the entry at a place and time is settled. No message comes for an own net, so its queue isn't looked at.
+    fn is_settled_at(&self, slot: usize, time: u64) -> bool
+        requires { slot < length self.now.part.nets }
+        ensures { IsTrue result → IsTrue (is_settled (entry_of self.now (slice_index self.now.part.nets slot) time)) }
+    {
+        self.law();
+        self.part.is_own(slot) || self.entry_at(slot, time).is_settled()
     }
 
     /// The first entry below a time that isn't settled, by net, then time.

@@ -1,18 +1,16 @@
 use Rattle.std.proofs.Common.{◌≡◌, ◌≢◌, true, get_or, inl, inr, sym, subst, arith}
 use Rattle.std.proofs.lemmas.Bool.{cases_eq}
-use Rattle.warp_block.specs.declared.entry.Entry.{Entry}
 use Rattle.warp_block.specs.Entries.{is_settled}
 use Rattle.warp_block.specs.View.{entry_of}
 use Rattle.warp_block.proofs.Listing.{has_at, has_place}
 use Rattle.warp_block.proofs.look.Look.are_settled_at.Goals as goal
 
-pub entry_at-requires : goal.entry_at-requires
-entry_at-requires c = c.requires (get_or c.args.places.now c.loop-place.place-index 0) (has_at c.args.places.now c.loop-place.place-index c.loop-place-test.true)
+pub is_settled_at-requires : goal.is_settled_at-requires
+is_settled_at-requires c = c.requires (get_or c.args.places.now c.loop-place.place-index 0) (has_at c.args.places.now c.loop-place.place-index c.loop-place-test.true)
 
 pub loop-place-preserved : goal.loop-place-preserved
 loop-place-preserved c = λ k l. elim (cases_eq k c.loop-place.place-index) [
-  | inl same ↦ subst (λ j. is_settled (entry_of c.args.self.now (get_or c.args.self.now.part.nets (get_or c.args.places.now j 0) 0) c.args.time) ≡ true) (sym same)
-      (subst (λ (e : Entry). is_settled e ≡ true) c.entry_at.ensures (c.is_settled.ensures.0 c.if-not-is_settled.false))
+  | inl same ↦ subst (λ j. is_settled (entry_of c.args.self.now (get_or c.args.self.now.part.nets (get_or c.args.places.now j 0) 0) c.args.time) ≡ true) (sym same) (c.is_settled_at.ensures c.if-not-is_settled_at.false)
   | inr other ↦ (let ne : k ≢ c.loop-place.place-index = other in c.loop-place.invariant k (omega (arith, l, ne)))
 ]
 
