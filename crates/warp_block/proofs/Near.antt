@@ -146,6 +146,19 @@ module _ {X : Type 0} where
         let low = split.0 p.0 p.1 (omega arith) (omega (arith, within, end)) in
         omega (arith, low, p.3, from)
 
+    -- with it one more is before the times that come after
+    pub split_after : (d : ℕ × X) → k < length es → IsPartitionPoint (λ (e : ℕ × X). e.0 < (get_or es k d).0 + 1) (λ (e : ℕ × X). (get_or es k d).0 + 1 ≤ e.0) es (k + 1)
+    split_after d l =
+        let here : (b : ℕ × X) → (get_or es k b).0 ≡ (get_or es k d).0 = λ b. ap (λ (e : ℕ × X). e.0) (get_or_default es k b d l) in (
+          (λ i b low high. elim (cases_lt i k) [
+            | inl early ↦ (let below = r i k b early l in omega (arith, below, here b))
+            | inr late ↦ (let at : i ≡ k = omega (arith, late, high) in
+                let is : (get_or es i b).0 ≡ (get_or es k d).0 = ap (λ (j : ℕ). (get_or es j b).0) at ∙ here b in
+                omega (arith, is))
+          ]),
+          λ i b low high. (let above = r k i b (omega (arith, low)) high in omega (arith, above, here b)),
+        )
+
     -- where another time stands, the time is not there
     pub not_here : ((d : ℕ × X) → k < length es → (get_or es k d).0 ≢ time) → list_at es time ≡ None
     not_here other = absent es time (λ i d l same. elim (cases_lt i k) [
@@ -201,6 +214,10 @@ module _ {X : Type 0} where
             let above = r p.0 (length es - 1) p.1 (omega (arith, apart, within)) (omega (arith, some)) in
             omega (arith, above, end, p.3))
       ]
+
+  -- where all are before a time, they are before the times that come after
+  pub split_all : (es : List (ℕ × X)) (t k : ℕ) → ((i : ℕ) (d : ℕ × X) → i < length es → (get_or es i d).0 < t) → length es ≤ k → k ≤ length es → IsPartitionPoint (λ (e : ℕ × X). e.0 < t + 1) (λ (e : ℕ × X). t + 1 ≤ e.0) es k
+  split_all es t k below all within = (λ i d low high. (let less = below i d (omega (arith, high, within)) in omega (arith, less)), λ i d low high. absurd (omega (arith, all, low, high)))
 
   -- one more after the last
   pub rising-push : (es : List (ℕ × X)) (e : ℕ × X) → AreInOrder es → ((t : ℕ) → is_some (list_at es t) ≡ true → t < e.0) → AreInOrder (es ++ e ∷ [])

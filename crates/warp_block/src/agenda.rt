@@ -1,11 +1,11 @@
 //! Which places have news or entries at which times.
-ghost use Rattle.std.specs.Prelude.{◌≡◌, ◌≢◌, ◌≤◌, ◌<◌, ◌++◌, ◌==◌, ◌⊎◌, ◌+◌, ℕ, [], ◌∷◌, IsTrue, IfSome, IsSome, option_map, if◌then◌else◌, is_some, false, OnOk, OnErr, length, drop, slice_index_or, vec_len, vec_capacity, None, Vec};
+ghost use Rattle.std.specs.Prelude.{◌≡◌, ◌≢◌, ◌≤◌, ◌<◌, ◌++◌, ◌==◌, ◌⊎◌, ◌+◌, ℕ, [], ◌∷◌, IsTrue, IfSome, IfNone, IsSome, option_map, if◌then◌else◌, is_some, false, OnOk, OnErr, length, drop, slice_index_or, vec_len, vec_capacity, None, Vec};
 ghost use Rattle.std.specs.List.Sorted.{IsStrictlyIncreasing};
 ghost use Rattle.std.specs.Ordering.{nat_cmp};
 ghost use Rattle.std.specs.BTreeMap.{get, btree_map_len};
 ghost use Rattle.std.specs.declared.alloc.Global.{Global};
 ghost use Rattle.warp_block.specs.View.{IsLeast};
-ghost use Rattle.warp_block.specs.Inner.Near.{places_in, near_at, list_of, places_of, AreRising, AreApart, IsRelisted};
+ghost use Rattle.warp_block.specs.Inner.Near.{places_in, near_at, list_of, places_of, AreRising, AreBefore, AreApart, IsRelisted};
 ghost use Rattle.warp_block.specs.Inner.Building.{has};
 
 use crate::dated::count_before;
@@ -64,6 +64,28 @@ impl Agenda {
         next_far(&self.far, from)
     }
 
+    /// How many near times are before a time.
+    pub(crate) fn near_before(&self, time: u64) -> usize
+        ensures { AreBefore self.now.near.items time result }
+    {
+        count_before(&self.near, time)
+    }
+
+    /// What `next` gives, without a search: so many near times are before the time. Beside it, how many are before the
+    /// times that come after.
+    pub(crate) fn next_after(&self, from: u64, before: usize) -> Option<(u64, &[u32], usize)>
+        requires { AreBefore self.now.near.items from before }
+        ensures least { IsLeast (λ t. (from ≤ t) × IsTrue (is_some (list_of self.now.near.items self.now.far t))) (option_map (λ p. p.0) result) }
+        ensures places { IfSome result (λ p. p.1.now ≡ places_of self.now.near.items self.now.far p.0) }
+        ensures before { IfSome result (λ p. AreBefore self.now.near.items (p.0 + 1) p.2) }
+    {
+        if let Some((time, places)) = near_after(&self.near, from, before) {
+            return Some((time, places, before + 1));
+        }
+        let (time, places) = next_far(&self.far, from)?;
+        Some((time, places, before))
+    }
+
     /// A place may have news at a time. After an error nothing has changed.
     pub(crate) fn put(&mut self, time: u64, place: u32) -> Result<(), AllocError>
         ensures ok { OnOk result ((t : ℕ) → places_of self.new.near.items self.new.far t ≡ (if t == time then places_of self.old.near.items self.old.far t ++ place ∷ [] else places_of self.old.near.items self.old.far t)) }
@@ -114,7 +136,19 @@ fn next_near(near: &[(u64, Vec<u32>)], from: u64) -> Option<(u64, &[u32])>
     if *last == from {
         return Some((*last, places.as_slice()));
     }
-    let (time, places) = near.get(count_before(near, from))?;
+    near_after(near, from, count_before(near, from))
+}
+
+/// The least near time from a time on, and its places, where so many are before that time.
+fn near_after(near: &[(u64, Vec<u32>)], from: u64, before: usize) -> Option<(u64, &[u32])>
+    requires rising { AreRising near.now }
+    requires before { AreBefore near.now from before }
+    ensures least { IsLeast (λ t. (from ≤ t) × IsTrue (is_some (near_at near.now t))) (option_map (λ p. p.0) result) }
+    ensures places { IfSome result (λ p. IsSome (near_at near.now p.0) × (p.1.now ≡ places_in (near_at near.now p.0))) }
+    ensures some { IfSome result (λ p. AreBefore near.now (p.0 + 1) (before + 1)) }
+    ensures none { IfNone result (length near.now ≤ before) }
+{
+    let (time, places) = near.get(before)?;
     Some((*time, places.as_slice()))
 }
 

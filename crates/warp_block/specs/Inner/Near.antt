@@ -1,7 +1,8 @@
 -- Lists of places by time: near times in a list, far ones in a tree.
-use Rattle.std.specs.Prelude.{◌≡◌, ℕ, ◌<◌, ◌==◌, IsTrue, Option, Some, None, is_some, List, [], Vec, if◌then◌else◌}
+use Rattle.std.specs.Prelude.{◌≡◌, ℕ, ◌<◌, ◌≤◌, ◌==◌, IsTrue, Option, Some, None, is_some, List, [], Vec, length, if◌then◌else◌}
 use Rattle.std.specs.declared.alloc.Global.{Global}
 use Rattle.std.specs.List.{AllPairs}
+use Rattle.std.specs.List.Sorted.{IsPartitionPoint}
 use Rattle.std.specs.Map.{lookup}
 use Rattle.std.specs.Option.{option_or}
 use Rattle.std.specs.Ordering.{nat_cmp}
@@ -27,6 +28,11 @@ places_of near far t = places_in (list_of near far t)
 -- near times rise
 abbrev pub AreRising : List (ℕ × Vec ℕ Global) → Type 0
 AreRising near = AllPairs (λ a b. a.0 < b.0) near
+
+-- so many near times, the first ones, are before a time, and the others aren't
+pub record AreBefore (near : List (ℕ × Vec ℕ Global)) (time count : ℕ) : Type 0 where
+  pub within : count ≤ length near
+  pub split : IsPartitionPoint (λ e. e.0 < time) (λ e. time ≤ e.0) near count
 
 -- each near time is below each far one
 abbrev pub AreApart : List (ℕ × Vec ℕ Global) → BTreeMap ℕ (Vec ℕ Global) → Type 0

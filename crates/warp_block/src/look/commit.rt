@@ -61,8 +61,9 @@ impl Look {
     {
         self.law();
         let mut from = self.floor();
+        let mut before = agenda.near_before(from);
         while from < end {
-            let Some((time, places)) = agenda.next(from) else {
+            let Some((time, places, after)) = agenda.next_after(from, before) else {
                 return true;
             };
             if time >= end {
@@ -72,6 +73,7 @@ impl Look {
                 return false;
             }
             from = time + 1;
+            before = after;
         }
         true
     }

@@ -17,6 +17,7 @@ returns-then-time-end c = λ yes_.
 pub loop-from-preserved : goal.loop-from-preserved
 loop-from-preserved c = record {
   past = (let low = c.in-Some.ensures.least.0.0 in omega (arith, low, c.loop-from.invariant.past));
+  split = c.in-Some.ensures.before;
   settled = settled_more c.args.self.now c.args.end c.args.agenda.now c.requires c.loop-from.from c.loop-from.invariant.past c.loop-from.invariant.settled c.in-Some.time c.in-Some.ensures.least
       (subst (λ (places : List ℕ). (i : ℕ) → has places i ≡ true → is_settled (entry_of c.args.self.now (net_at c.args.self.now.part i) c.in-Some.time) ≡ true) c.in-Some.ensures.places (c.are_settled_at.ensures c.if-not-are_settled_at.false));
 }
