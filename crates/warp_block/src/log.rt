@@ -10,7 +10,7 @@ use crate::dated::{count_before, count_until};
 use gate_values::{Change, Logic};
 use std::alloc::{AllocError, Global};
 use std::marker::Model;
-use std::mem;
+use std::mem::{self, size_of};
 
 /// The changes of a net, and the last two of them beside: what a log gives near its end is read without a look at its
 /// list, which may lie anywhere in memory.
@@ -28,6 +28,8 @@ struct LastTwo {
     last_value: Logic,
     earlier_value: Logic,
 }
+
+const _: () = prove!(size_of::<Log>() <= 48);
 
 impl Model for Log {
     ghost use Rattle.std.specs.Prelude.{◌≡◌, List};
