@@ -10,12 +10,14 @@ pub mod PlacingLaws
 pub mod TimelineLaws
 pub mod MergeLaws
 pub mod Stops
+pub mod PackedLaws
 pub mod WaveValues
 pub mod DumpLaws
 pub mod Walking
 pub mod Arrays
 pub mod Coding
 pub mod Waving
+pub mod PackedWalk
 pub mod Following
 pub mod Places
 pub mod TokenLaws

@@ -15,20 +15,20 @@ use Rattle.gate_vcd.proofs.Counting.{count-append}
 use Rattle.gate_vcd.proofs.Walking.{walked-append, last_stop-append}
 use Rattle.gate_vcd.proofs.Compared.{eq_true, eq_false, lt_true, lt_false, cases_eq, cases_below}
 
-All-append : {X : Type 0} (P : X → Type 0) (xs ys : List X) → AllByRecursion P xs → AllByRecursion P ys → AllByRecursion P (xs ++ ys)
+pub All-append : {X : Type 0} (P : X → Type 0) (xs ys : List X) → AllByRecursion P xs → AllByRecursion P ys → AllByRecursion P (xs ++ ys)
 All-append P [] ys a b = b
 All-append P (x ∷ xs) ys a b = (a.0, All-append P xs ys a.1 b)
 
-All-weaker : {X : Type 0} (P Q : X → Type 0) (xs : List X) → ((x : X) → P x → Q x) → AllByRecursion P xs → AllByRecursion Q xs
+pub All-weaker : {X : Type 0} (P Q : X → Type 0) (xs : List X) → ((x : X) → P x → Q x) → AllByRecursion P xs → AllByRecursion Q xs
 All-weaker P Q [] h a = tt
 All-weaker P Q (x ∷ xs) h a = (h x a.0, All-weaker P Q xs h a.1)
 
-rising-push : (xs : List Stop) (y : Stop) → IsRising xs → AllByRecursion (λ x. Before x y) xs → IsRising (xs ++ y ∷ [])
+pub rising-push : (xs : List Stop) (y : Stop) → IsRising xs → AllByRecursion (λ x. Before x y) xs → IsRising (xs ++ y ∷ [])
 rising-push [] y s a = (tt, tt)
 rising-push (x ∷ xs) y s a = (All-append (Before x) xs (y ∷ []) s.0 (a.0, tt), rising-push xs y s.1 a.1)
 
 -- a stop that is earlier than net n at time t
-abbrev Earlier : ℕ → ℕ → Stop → Type 0
+abbrev pub Earlier : ℕ → ℕ → Stop → Type 0
 Earlier t n s = (s.time < t) ⊎ ((s.time ≡ t) × (s.net < n))
 
 -- `value n t` is the value of net n at time t

@@ -55,7 +55,7 @@ walked_end old new from to first last rest all w e =
     let text : w.text ≡ walked first all = sym (append-nil w.text) ∙ ap (λ (r : List Stop). w.text ++ walked last r) (sym e) ∙ w.whole in
     (rw (← text) w.written, ap (last_stop last) (sym e) ∙ w.end)
 
-All-parts : {X : Type 0} (P : X → Type 0) (xs ys : List X) → AllByRecursion P (xs ++ ys) → AllByRecursion P xs × AllByRecursion P ys
+pub All-parts : {X : Type 0} (P : X → Type 0) (xs ys : List X) → AllByRecursion P (xs ++ ys) → AllByRecursion P xs × AllByRecursion P ys
 All-parts P [] ys a = (tt, a)
 All-parts P (x ∷ xs) ys a = let rest = All-parts P xs ys a.1 in ((a.0, rest.0), rest.1)
 

@@ -1,4 +1,5 @@
 -- What only the proofs of this crate need: no contract of a public call speaks of it.
+pub mod ByTime
 pub mod Commands
 pub mod Grown
 pub mod Headers
@@ -9,6 +10,7 @@ pub mod Known
 pub mod Lists
 pub mod Lots
 pub mod Merging
+pub mod Packed
 pub mod Pairs
 pub mod Placing
 pub mod Reading

@@ -1,6 +1,6 @@
 //! The dump of waves, as one text.
 
-ghost use Rattle.std.specs.Prelude.{◌≡◌, ℕ, ◌+◌, ◌*◌, ◌<◌, ◌≤◌, ◌^◌, ◌++◌, ◌↔◌, false, length, take, IsTrue, IsErr, IfErr, OnOk};
+ghost use Rattle.std.specs.Prelude.{◌≡◌, ℕ, ◌+◌, ◌*◌, ◌<◌, ◌≤◌, ◌^◌, ◌++◌, ◌↔◌, false, length, map, take, IsTrue, IsErr, IfErr, OnOk};
 ghost use Rattle.std.specs.List.{AllByRecursion};
 ghost use Rattle.gate_vcd.specs.declared.timeline.Stop.{Stop};
 ghost use Rattle.gate_netlist.specs.Circuit.{nets_of};
@@ -10,15 +10,19 @@ ghost use Rattle.gate_vcd.specs.Inner.Sink.{Writes};
 ghost use Rattle.gate_vcd.specs.Inner.Lots.{Passes};
 ghost use Rattle.gate_vcd.specs.Waves.{wave_of, wave_value, IsWave, IsUntil};
 ghost use Rattle.gate_vcd.specs.Dump.{header, var_lines, first_lines, moments, dump_text, vcd_text};
+ghost use Rattle.gate_vcd.specs.Inner.Packed.{told, all_told};
+ghost use Rattle.gate_vcd.specs.Inner.Waves.{AreStopsOf};
 ghost use Rattle.gate_vcd.specs.Inner.Walk.{stop_lines, walked, last_stop, tail_line};
 
+use crate::by_time::ByTime;
 use crate::fault::WriteFault;
 use crate::lines::{put_scope, put_stamp, put_timescale, put_value, put_var};
 use crate::lot::Lot;
 use crate::merging::next_chunk;
+use crate::packed::{Packed, stop_at};
 use crate::sink::Sink;
 use crate::stimulus::Stimulus;
-use crate::timeline::Stop;
+use crate::timeline::{Stop, Timeline};
 use crate::timescale::Timescale;
 use crate::waves::Waves;
 use gate_netlist::Circuit;
@@ -131,8 +135,49 @@ fn put_moments<S: Sink>(sink: &mut S, lot: &mut Lot, waves: &Waves, horizon: u64
     requires until { (n : ℕ) → IsUntil horizon (wave_of waves.now n) }
     ensures { Passes (S.held sink.old) (S.held sink.new) lot.old (moments (wave_value waves.now) (length waves.now) horizon horizon) lot.new }
 {
+    match waves.by_time() {
+        ByTime::Words(packed) => put_words(sink, lot, waves, packed, horizon),
+        ByTime::Runs(timeline) => put_runs(sink, lot, waves, timeline, horizon),
+    }
+}
+
+/// Puts what changes after 0, which words tell, and the horizon.
+fn put_words<S: Sink>(sink: &mut S, lot: &mut Lot, waves: &Waves, packed: &Packed, horizon: u64)
+    requires few { length waves.now ≤ 1000000 }
+    requires until { (n : ℕ) → IsUntil horizon (wave_of waves.now n) }
+    requires stops { AreStopsOf waves.now (all_told packed.now) }
+    ensures { Passes (S.held sink.old) (S.held sink.new) lot.old (moments (wave_value waves.now) (length waves.now) horizon horizon) lot.new }
+{
     waves.law();
-    let timeline = waves.timeline();
+    packed.law();
+    let mut last = 0;
+    for time in 0..packed.times() {
+        last = put_told(sink, lot, last, time as u64, packed.words(time));
+    }
+    put_tail(sink, lot, last, horizon);
+}
+
+/// Puts the stops that words tell at a time, which follow one at the time `last`. Returns the last time.
+fn put_told<S: Sink>(sink: &mut S, lot: &mut Lot, mut last: u64, time: u64, words: &[u32]) -> u64
+    requires { AllByRecursion (λ (s : Stop). s.net < 1000000) (map (told time) words.now) }
+    ensures text { Passes (S.held sink.old) (S.held sink.new) lot.old (walked last (map (told time) words.now)) lot.new }
+    ensures last { result ≡ last_stop last (map (told time) words.now) }
+{
+    for word in words {
+        put_stop(sink, lot, last, stop_at(time, *word));
+        last = time;
+    }
+    last
+}
+
+/// Puts what changes after 0, which is in runs, and the horizon.
+fn put_runs<S: Sink>(sink: &mut S, lot: &mut Lot, waves: &Waves, timeline: &Timeline, horizon: u64)
+    requires few { length waves.now ≤ 1000000 }
+    requires until { (n : ℕ) → IsUntil horizon (wave_of waves.now n) }
+    requires stops { AreStopsOf waves.now timeline.now.stops }
+    ensures { Passes (S.held sink.old) (S.held sink.new) lot.old (moments (wave_value waves.now) (length waves.now) horizon horizon) lot.new }
+{
+    waves.law();
     let mut all = timeline.all_runs();
     let runs = &mut all[..timeline.runs()];
     let mut last = 0;

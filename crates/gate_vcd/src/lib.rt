@@ -7,6 +7,7 @@
 #![tactic(auto)]
 
 mod buckets;
+mod by_time;
 mod changes;
 mod codes;
 mod declarations;
@@ -23,6 +24,8 @@ mod lines;
 mod lot;
 mod merging;
 mod numbers;
+mod packed;
+mod packing;
 mod placing;
 mod put;
 mod reading;

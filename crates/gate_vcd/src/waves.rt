@@ -1,8 +1,10 @@
 ghost use Rattle.std.specs.Prelude.{◌≡◌, ◌≢◌, ℕ, ◌<◌, ◌≤◌, ◌++◌, [], ◌∷◌, length, IfOk, OnOk, OnErr, IsTrue, ◌↔◌, slice_set, replicate};
 ghost use Rattle.gate_vcd.specs.Waves.{lists_in, wave_of, Follows, IsWave};
 ghost use Rattle.gate_vcd.specs.Inner.Waves.{AreStopsOf};
+ghost use Rattle.gate_vcd.specs.Inner.ByTime.{stops_in};
 
-use crate::timeline::{Stop, Timeline};
+use crate::by_time::ByTime;
+use crate::timeline::Stop;
 use gate_values::{Change, Logic};
 use std::alloc::{AllocError, Global};
 use std::marker::Model;
@@ -12,7 +14,7 @@ use std::marker::Model;
 #[derive(Drop)]
 pub struct Waves {
     lists: Vec<Vec<Change>>,
-    timeline: Timeline,
+    by_time: ByTime,
 }
 
 impl Model for Waves {
@@ -22,10 +24,11 @@ impl Model for Waves {
     ghost Value = { List (List Change) };
 
     ghost use Rattle.gate_vcd.specs.Inner.HeldWaves.{lists_of, IsInStep};
+    ghost use Rattle.gate_vcd.specs.Inner.ByTime.{stops_in};
 
     ghost view = { lists_of };
 
-    ghost invariant = { λ w. IsInStep (lists_of w) w.timeline.stops };
+    ghost invariant = { λ w. IsInStep (lists_of w) (stops_in w.by_time) };
 }
 
 fn differs(value: Logic, other: Logic) -> bool
@@ -85,7 +88,7 @@ impl Waves {
         }
         Ok(Waves {
             lists,
-            timeline: Timeline::new(alloc),
+            by_time: ByTime::new(alloc),
         })
     }
 
@@ -95,8 +98,8 @@ impl Waves {
         requires waves { (n : ℕ) → IsWave (wave_of (lists_in lists.items) n) }
         ensures { IfOk result (λ waves. waves ≡ lists_in lists.items) }
     {
-        let timeline = Timeline::of(alloc, lists.as_slice())?;
-        Ok(Waves { lists, timeline })
+        let by_time = ByTime::of(alloc, lists.as_slice())?;
+        Ok(Waves { lists, by_time })
     }
 
     /// What is true of all waves.
@@ -138,7 +141,7 @@ impl Waves {
     {
         let at = net as usize;
         self.lists[at].reserve(1)?;
-        self.timeline.push(Stop {
+        self.by_time.push(Stop {
             time: change.time,
             net,
             value: change.value,
@@ -148,9 +151,9 @@ impl Waves {
     }
 
     /// All changes by time.
-    pub(crate) fn timeline(&self) -> &Timeline
-        ensures { AreStopsOf self.now result.now.stops }
+    pub(crate) fn by_time(&self) -> &ByTime
+        ensures { AreStopsOf self.now (stops_in result.now) }
     {
-        &self.timeline
+        &self.by_time
     }
 }

@@ -1,7 +1,6 @@
-use Rattle.std.proofs.Common.{arith, ap}
-use Rattle.gate_vcd.specs.Inner.Timeline.{Timeline}
+use Rattle.std.proofs.Common.{arith}
 use Rattle.gate_vcd.proofs.Waving.{in_step-none}
 use Rattle.gate_vcd.proofs.waves.Waves.new.Goals as goal
 
 pub invariant_of-result : goal.invariant_of-result
-invariant_of-result c = in_step-none c.loop-net._net _ _ (omega arith) c.loop-net.invariant (ap (λ (t : Timeline). t.stops) c.new-2.ensures)
+invariant_of-result c = in_step-none c.loop-net._net _ _ (omega arith) c.loop-net.invariant c.new-2.ensures

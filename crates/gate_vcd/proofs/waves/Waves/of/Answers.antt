@@ -1,11 +1,12 @@
 use Rattle.std.proofs.Common.{length, ◌≡◌, sym, arith}
 use Rattle.std.proofs.lemmas.List.{length-map}
 use Rattle.gate_vcd.specs.Waves.{lists_in}
+use Rattle.gate_vcd.specs.Inner.ByTime.{stops_in}
 use Rattle.gate_vcd.proofs.Waving.{in_step-of}
 use Rattle.gate_vcd.proofs.waves.Waves.of.Goals as goal
 
 pub invariant_of-result : goal.invariant_of-result
 invariant_of-result c =
     let long : length (lists_in c.args.lists.items) ≡ length c.args.lists.items = length-map c.args.lists.items (λ v. v.items) in
-    in_step-of (lists_in c.args.lists.items) c.in_ok-timeline.timeline.stops (omega (arith, long, c.requires.few)) c.requires.waves
-    (λ s. rw (long, sym c.as_slice.ensures.value) (c.in_ok-timeline.ensures s))
+    in_step-of (lists_in c.args.lists.items) (stops_in c.in_ok-by_time.by_time) (omega (arith, long, c.requires.few)) c.requires.waves
+    (λ s. rw (long, sym c.as_slice.ensures.value) (c.in_ok-by_time.ensures s))

@@ -5,7 +5,7 @@ use Rattle.gate_vcd.proofs.Passing.{passes_then}
 use Rattle.gate_vcd.proofs.Stops.{moments-walked, known_below, all_stops, all_stops-rising}
 use Rattle.gate_vcd.proofs.WaveValues.{stops_are}
 use Rattle.gate_vcd.proofs.MergeLaws.{merged_start, merged_known, merged_step, merged_smaller, merged_end}
-use Rattle.gate_vcd.proofs.dump.put_moments.Goals as goal
+use Rattle.gate_vcd.proofs.dump.put_runs.Goals as goal
 
 pub slice_bounds-all-end : goal.slice_bounds-all-end
 slice_bounds-all-end g c = omega (arith, c.runs.ensures, c.all_runs-all.ensures.room, c.all_runs-all.ensures.law.few)
@@ -16,9 +16,9 @@ slice_bounds-runs-end g c = omega (arith, c.runs.ensures, c.all_runs-all.ensures
 pub loop-run-init : goal.loop-run-init
 loop-run-init g c =
     let lists = c.args.waves.now in
-    merged_start _ _ c.timeline-timeline.result.now c.all_runs-all.result c.runs.result (all_stops (wave_value lists) (length lists) (suc c.args.horizon)) c.all_runs-all.ensures.law c.runs.ensures
+    merged_start _ _ c.args.timeline.now c.all_runs-all.result c.runs.result (all_stops (wave_value lists) (length lists) (suc c.args.horizon)) c.all_runs-all.ensures.law c.runs.ensures
     (omega (arith, c.all_runs-all.ensures.room, c.all_runs-all.ensures.law.few)) c.all_runs-all.ensures.runs (all_stops-rising (wave_value lists) (length lists) (suc c.args.horizon))
-    (stops_are lists c.timeline-timeline.result.now.stops c.args.horizon c.timeline-timeline.ensures c.law.ensures c.requires.until)
+    (stops_are lists c.args.timeline.now.stops c.args.horizon c.requires.stops c.law.ensures c.requires.until)
     (known_below (wave_value lists) (length lists) 1000000 (suc c.args.horizon) c.requires.few)
 
 pub put_stops-last-requires : goal.put_stops-last-requires

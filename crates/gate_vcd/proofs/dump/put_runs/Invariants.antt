@@ -2,7 +2,7 @@ use Rattle.std.proofs.Common.{suc, length}
 use Rattle.gate_vcd.specs.Waves.{wave_value}
 use Rattle.gate_vcd.specs.Inner.Merging.{lefts, flat, IsMerged}
 use Rattle.gate_vcd.proofs.Stops.{all_stops}
-use Rattle.gate_vcd.proofs.dump.put_moments.Given as goal
+use Rattle.gate_vcd.proofs.dump.put_runs.Given as goal
 
 -- the stops so far
 abbrev pub invariant-loop-run : goal.invariant-loop-run

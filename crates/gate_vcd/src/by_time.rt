@@ -1,0 +1,57 @@
+//! All changes by time: in a word each where times are dense, and else in runs, as also once a change is pushed.
+
+ghost use Rattle.std.specs.Prelude.{◌≡◌, ◌≤◌, ◌+◌, [], IfOk, OnOk, OnErr, length};
+ghost use Rattle.gate_vcd.specs.declared.timeline.Stop.{Stop};
+ghost use Rattle.gate_vcd.specs.Waves.{lists_in};
+ghost use Rattle.gate_vcd.specs.Inner.Timeline.{count, one};
+ghost use Rattle.gate_vcd.specs.Inner.Waves.{stops_below};
+ghost use Rattle.gate_vcd.specs.Inner.ByTime.{stops_in};
+
+use crate::packed::Packed;
+use crate::packing::pack;
+use crate::timeline::{Stop, Timeline};
+use gate_values::Change;
+use std::alloc::{AllocError, Global};
+
+/// Changes in the order of time.
+#[derive(Drop)]
+pub enum ByTime {
+    Words(Packed),
+    Runs(Timeline),
+}
+
+impl ByTime {
+    /// No change.
+    pub fn new(alloc: Global) -> ByTime
+        ensures { stops_in result ≡ [] }
+    {
+        ByTime::Runs(Timeline::new(alloc))
+    }
+
+    /// The changes in a list for each net. An error is a refused growth.
+    pub fn of(alloc: Global, lists: &[Vec<Change>]) -> Result<ByTime, AllocError>
+        requires { length lists.now ≤ 4294967295 }
+        ensures { IfOk result (λ all. (s : Stop) → count s (stops_in all) ≡ count s (stops_below (lists_in lists.now) (length lists.now))) }
+    {
+        match pack(alloc, lists)? {
+            Some(packed) => Ok(ByTime::Words(packed)),
+            None => Ok(ByTime::Runs(Timeline::of(alloc, lists)?)),
+        }
+    }
+
+    /// Adds a change. An error is a refused growth; after it there are the same changes.
+    pub fn push(&mut self, stop: Stop) -> Result<(), AllocError>
+        ensures ok { (s : Stop) → OnOk result (count s (stops_in self.new) ≡ one s stop + count s (stops_in self.old)) }
+        ensures err { (s : Stop) → OnErr result (count s (stops_in self.new) ≡ count s (stops_in self.old)) }
+    {
+        match self {
+            ByTime::Runs(timeline) => timeline.push(stop),
+            ByTime::Words(packed) => {
+                let mut timeline = Timeline::of_stops(packed.stops()?)?;
+                timeline.push(stop)?;
+                *self = ByTime::Runs(timeline);
+                Ok(())
+            }
+        }
+    }
+}
