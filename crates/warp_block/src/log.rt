@@ -31,6 +31,9 @@ struct LastTwo {
 
 const _: () = prove!(size_of::<Log>() <= 48);
 
+/// The room of a log's first list.
+const LEAST_ROOM: usize = 4;
+
 impl Model for Log {
     ghost use Rattle.std.specs.Prelude.{◌≡◌, List};
     ghost use Rattle.gate_values.specs.declared.logic.Change.{Change};
@@ -111,6 +114,9 @@ impl Log {
         ensures ok { OnOk result (self.new ≡ self.old ++ change ∷ []) }
         ensures err { OnErr result (self.new ≡ self.old) }
     {
+        if self.changes.len() == self.changes.capacity() {
+            make_room(&mut self.changes)?;
+        }
         self.changes.push(change)?;
         self.ends = self.ends.then(change);
         Ok(())
@@ -171,6 +177,18 @@ impl LastTwo {
             earlier_value: self.last_value,
         }
     }
+}
+
+/// Moves a full list to twice the room, which the thread asks for anew: what a list grows by where it lies is asked of the
+/// part of the heap that first gave it, which all threads may wait for. An error is a refused growth.
+fn make_room(changes: &mut Vec<Change>) -> Result<(), AllocError>
+    ensures { changes.new.items ≡ changes.old.items }
+{
+    let room = changes.capacity().saturating_mul(2).max(LEAST_ROOM);
+    let mut grown = Vec::with_capacity(*changes.allocator(), room)?;
+    grown.extend_from_slice(changes)?;
+    *changes = grown;
+    Ok(())
 }
 
 /// What stands for a last change where there is none.
