@@ -1,4 +1,5 @@
 -- What only the proofs of this crate need: no contract of a public call speaks of it.
+pub mod Buckets
 pub mod ByTime
 pub mod Commands
 pub mod Grown
