@@ -32,6 +32,24 @@ module _ {X : Type 0} (time : X → ℕ) where
       let before : time (get_or xs k d) < time (get_or xs i d) = r k i d high within in
       omega arith
 
+  -- items up to one that is before a time are before it
+  pub up_to-before : (xs : List X) (t i : ℕ) (e : X) → Rises xs → i < length xs → time (get_or xs i e) < t → AllWithin (λ x. time x < t) xs 0 (i + 1)
+  up_to-before xs t i e r within early k d low high =
+      let same : time (get_or xs i d) ≡ time (get_or xs i e) = ap time (get_or_default xs i d e within) in
+      elim (cases_lt k i) [
+        | inl lt ↦ (let before : time (get_or xs k d) < time (get_or xs i d) = r k i d lt within in omega arith)
+        | inr ge ↦ (let here : k ≡ i = omega arith in rw here (omega arith))
+      ]
+
+  -- no item from one on that isn't before a time is before it
+  pub from-late : (xs : List X) (t i : ℕ) (e : X) → Rises xs → i < length xs → t ≤ time (get_or xs i e) → AllWithin (λ x. t ≤ time x) xs i (length xs)
+  from-late xs t i e r within late k d low high =
+      let same : time (get_or xs i d) ≡ time (get_or xs i e) = ap time (get_or_default xs i d e within) in
+      elim (cases_lt i k) [
+        | inl lt ↦ (let after : time (get_or xs i d) < time (get_or xs k d) = r i k d lt high in omega arith)
+        | inr ge ↦ (let here : k ≡ i = omega arith in rw here (omega arith))
+      ]
+
   -- where none of the first items is past a time, it is enough to look at the others
   pub split-late : (xs : List X) (t first count : ℕ) → AllWithin (λ x. time x ≤ t) xs 0 first
       → IsPartitionPoint (λ x. time x ≤ t) (λ x. t < time x) (drop first xs) count

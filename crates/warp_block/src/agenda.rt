@@ -8,7 +8,7 @@ ghost use Rattle.warp_block.specs.View.{IsLeast};
 ghost use Rattle.warp_block.specs.Inner.Near.{places_in, near_at, list_of, places_of, AreRising, AreBefore, AreApart, IsRelisted};
 ghost use Rattle.warp_block.specs.Inner.Building.{has};
 
-use crate::dated::count_before;
+use crate::dated::{count_before, count_before_at};
 use crate::woken::Woken;
 use std::alloc::{AllocError, Global};
 use std::collections::BTreeMap;
@@ -17,13 +17,19 @@ use std::collections::btree_map::Entry;
 /// A list with room for more places isn't kept as spare.
 const MOST_SPARE_ROOM: usize = 64;
 
-/// An index of event times: for each time the places that may have news or an entry at it. A time that is gone over
-/// moves to the near ones, which are a list: what is looked up stands near its end. The far ones are all later. A list
-/// that is forgotten is spare: a new time takes it, and with it its room.
+/// Times up to so many after the one that is gone over become near.
+const AHEAD: u64 = 64;
+
+/// An index of event times: for each time the places that may have news or an entry at it. The times that were gone over
+/// and a few after them are near: they stand in a list. The present one is the last that was gone over; it stands there at
+/// `here`, if nothing was put before it or forgotten since. The far ones are all later. A list that is forgotten is spare:
+/// a new time takes it, and with it its room.
 #[derive(Debug, Drop)]
 pub(crate) struct Agenda {
     alloc: Global,
     near: Vec<(u64, Vec<u32>)>,
+    present: u64,
+    here: usize,
     far: BTreeMap<u64, Vec<u32>>,
     spare: Vec<Vec<u32>>,
     ghost rising: { AreRising near.items },
@@ -38,6 +44,8 @@ impl Agenda {
         Agenda {
             alloc,
             near: Vec::new(alloc),
+            present: 0,
+            here: 0,
             far: BTreeMap::new(alloc),
             spare: Vec::new(alloc),
         }
@@ -58,7 +66,7 @@ impl Agenda {
         ensures least { IsLeast (λ t. (from ≤ t) × IsTrue (is_some (list_of self.now.near.items self.now.far t))) (option_map (λ p. p.0) result) }
         ensures places { IfSome result (λ p. p.1.now ≡ places_of self.now.near.items self.now.far p.0) }
     {
-        if let Some(found) = next_near(&self.near, from) {
+        if let Some(found) = next_near(&self.near, from, self.here) {
             return Some(found);
         }
         next_far(&self.far, from)
@@ -92,21 +100,33 @@ impl Agenda {
         ensures err { OnErr result ((t : ℕ) → places_of self.new.near.items self.new.far t ≡ places_of self.old.near.items self.old.far t) }
     {
         if is_near(&self.near, time) {
-            return put_near(&mut self.near, &mut self.spare, self.alloc, time, place);
+            // Where it stands, if each time from the present one up to it does.
+            let ahead = time.saturating_sub(self.present) as usize;
+            let guess = self.here.saturating_add(ahead);
+            return put_near(
+                &mut self.near,
+                &mut self.spare,
+                self.alloc,
+                time,
+                place,
+                guess,
+            );
         }
         put_far(&mut self.far, &mut self.spare, self.alloc, time, place)
     }
 
-    /// Puts the places of a time into ascending order, each once. The time and those before it are near afterwards, unless
-    /// memory is wanted. The gates are a place to work in.
+    /// Puts the places of a time into ascending order, each once. The time and those up to a few after it are near
+    /// afterwards, unless memory is wanted. The gates are a place to work in.
     pub(crate) fn settle(&mut self, time: u64, gates: &mut Woken)
         ensures rising { IsStrictlyIncreasing (places_of self.new.near.items self.new.far time) }
         ensures same { (t i : ℕ) → has (places_of self.new.near.items self.new.far t) i ≡ has (places_of self.old.near.items self.old.far t) i }
     {
-        draw_near(&mut self.near, &mut self.far, time);
+        draw_near(&mut self.near, &mut self.far, time.saturating_add(AHEAD));
+        self.present = time;
+        self.here = count_before_at(&self.near, time, self.here);
         // Room for the near lists to be spare, since to forget them takes no memory.
         let _ = self.spare.reserve(self.near.len());
-        if settle_near(&mut self.near, time, gates) {
+        if settle_near(&mut self.near, time, self.here, gates) {
             return;
         }
         settle_far(&mut self.far, time, gates);
@@ -123,20 +143,13 @@ impl Agenda {
     }
 }
 
-/// The least near time from a time on, and its places.
-fn next_near(near: &[(u64, Vec<u32>)], from: u64) -> Option<(u64, &[u32])>
+/// The least near time from a time on, and its places; it is looked for at a place first.
+fn next_near(near: &[(u64, Vec<u32>)], from: u64, hint: usize) -> Option<(u64, &[u32])>
     requires { AreRising near.now }
     ensures least { IsLeast (λ t. (from ≤ t) × IsTrue (is_some (near_at near.now t))) (option_map (λ p. p.0) result) }
     ensures places { IfSome result (λ p. IsSome (near_at near.now p.0) × (p.1.now ≡ places_in (near_at near.now p.0))) }
 {
-    let (last, places) = near.last()?;
-    if *last < from {
-        return None;
-    }
-    if *last == from {
-        return Some((*last, places.as_slice()));
-    }
-    near_after(near, from, count_before(near, from))
+    near_after(near, from, count_before_at(near, from, hint))
 }
 
 /// The least near time from a time on, and its places, where so many are before that time.
@@ -177,20 +190,21 @@ fn is_near(near: &[(u64, Vec<u32>)], time: u64) -> bool
     }
 }
 
-/// A place may have news at a near time. After an error nothing has changed.
+/// A place may have news at a near time, which is looked for at a place first. After an error nothing has changed.
 fn put_near(
     near: &mut Vec<(u64, Vec<u32>)>,
     spare: &mut Vec<Vec<u32>>,
     alloc: Global,
     time: u64,
     place: u32,
+    hint: usize,
 ) -> Result<(), AllocError>
     requires { AreRising near.old.items }
     ensures rising { AreRising near.new.items }
     ensures ok { OnOk result (IsRelisted time (places_in (near_at near.old.items time) ++ place ∷ []) (near_at near.old.items) (near_at near.new.items)) }
     ensures err { OnErr result ((near.new.items ≡ near.old.items) ⊎ IsRelisted time (places_in (near_at near.old.items time)) (near_at near.old.items) (near_at near.new.items)) }
 {
-    let at = count_before(near, time);
+    let at = count_before_at(near, time, hint);
     if is_time(near, at, time) {
         near[at].1.push(place)?;
         return Ok(());
@@ -283,8 +297,9 @@ fn draw_first(near: &mut Vec<(u64, Vec<u32>)>, far: &mut BTreeMap<u64, Vec<u32>>
     }
 }
 
-/// Puts the places of a near time into ascending order, each once; answers whether the time is near.
-fn settle_near(near: &mut Vec<(u64, Vec<u32>)>, time: u64, gates: &mut Woken) -> bool
+/// Puts the places of a near time, which is looked for at a place first, into ascending order, each once; answers whether
+/// the time is near.
+fn settle_near(near: &mut Vec<(u64, Vec<u32>)>, time: u64, hint: usize, gates: &mut Woken) -> bool
     requires { AreRising near.old.items }
     ensures rising { AreRising near.new.items }
     ensures times { (t : ℕ) → is_some (near_at near.new.items t) ≡ is_some (near_at near.old.items t) }
@@ -292,7 +307,7 @@ fn settle_near(near: &mut Vec<(u64, Vec<u32>)>, time: u64, gates: &mut Woken) ->
     ensures far { result ≡ false → near_at near.new.items time ≡ None }
     ensures same { (t i : ℕ) → has (places_in (near_at near.new.items t)) i ≡ has (places_in (near_at near.old.items t)) i }
 {
-    let at = count_before(near, time);
+    let at = count_before_at(near, time, hint);
     if !is_time(near, at, time) {
         return false;
     }

@@ -1,5 +1,5 @@
 //! Lists in order of time, searched from their ends.
-ghost use Rattle.std.specs.Prelude.{◌≡◌, ◌<◌, ◌≤◌, ℕ, length};
+ghost use Rattle.std.specs.Prelude.{◌≡◌, ◌<◌, ◌≤◌, ℕ, IsTrue, length};
 ghost use Rattle.std.specs.List.{AllPairs, AllWithin};
 ghost use Rattle.std.specs.List.Sorted.{IsPartitionPoint};
 
@@ -50,6 +50,49 @@ pub(crate) fn count_before<T: Dated>(items: &[T], time: u64) -> usize
         Some(last) => count_until(items, last),
         None => 0,
     }
+}
+
+/// How many items are before a time, which is looked for at a place and at the one after it first.
+pub(crate) fn count_before_at<T: Dated>(items: &[T], time: u64, place: usize) -> usize
+    requires { AllPairs (λ a b. T.time_of a < T.time_of b) items.now }
+    ensures within { result ≤ length items.now }
+    ensures split { IsPartitionPoint (λ item. T.time_of item < time) (λ item. time ≤ T.time_of item) items.now result }
+{
+    if is_split(items, time, place) {
+        return place;
+    }
+    let next = place.saturating_add(1);
+    if is_split(items, time, next) {
+        return next;
+    }
+    count_before(items, time)
+}
+
+/// Whether the items before a time are those before a place.
+fn is_split<T: Dated>(items: &[T], time: u64, place: usize) -> bool
+    requires { AllPairs (λ a b. T.time_of a < T.time_of b) items.now }
+    ensures within { IsTrue result → place ≤ length items.now }
+    ensures split { IsTrue result → IsPartitionPoint (λ item. T.time_of item < time) (λ item. time ≤ T.time_of item) items.now place }
+{
+    place <= items.len() && are_before(items, time, place) && are_from(items, time, place)
+}
+
+/// Whether all items in front of a place are before a time.
+fn are_before<T: Dated>(items: &[T], time: u64, place: usize) -> bool
+    requires rising { AllPairs (λ a b. T.time_of a < T.time_of b) items.now }
+    requires within { place ≤ length items.now }
+    ensures { IsTrue result → AllWithin (λ item. T.time_of item < time) items.now 0 place }
+{
+    place == 0 || items[place - 1].time() < time
+}
+
+/// Whether no item from a place on is before a time.
+fn are_from<T: Dated>(items: &[T], time: u64, place: usize) -> bool
+    requires rising { AllPairs (λ a b. T.time_of a < T.time_of b) items.now }
+    requires within { place ≤ length items.now }
+    ensures { IsTrue result → AllWithin (λ item. time ≤ T.time_of item) items.now place (length items.now) }
+{
+    place == items.len() || time <= items[place].time()
 }
 
 /// A place before which no item is past a time. It is at most twice as far from the end as the last of these, so what

@@ -15,7 +15,7 @@ returns-in_err-push-clause-err c =
     let within = rw c.deref-2.ensures.value at (c.is_time.ensures.some c.if-is_time.true) in
     let same = rw c.deref-2.ensures.value at (c.is_time.ensures.here c.if-is_time.true) in
     let near = c.args.near.now.items in
-    let at = c.count_before-at.result in
+    let at = c.count_before_at-at.result in
     err_from c.from_residual.result (inr (record {
       list = c.push.new.self;
       holds = c.in_err-push.ensures.items ∙ sym (ap places_in (stands_at near at c.args.time c.requires within c.index_mut.result.now c.index_mut.ensures.value same));
@@ -27,7 +27,7 @@ returns-then-is_time-clause-ok c =
     let within = rw c.deref-2.ensures.value at (c.is_time.ensures.some c.if-is_time.true) in
     let same = rw c.deref-2.ensures.value at (c.is_time.ensures.here c.if-is_time.true) in
     let near = c.args.near.now.items in
-    let at = c.count_before-at.result in
+    let at = c.count_before_at-at.result in
     record {
       list = c.push.new.self;
       holds = c.in_ok-push.ensures.items ∙ sym (ap (λ (o : Option (Vec ℕ Global)). places_in o ++ c.args.place ∷ []) (stands_at near at c.args.time c.requires within c.index_mut.result.now c.index_mut.ensures.value same));
@@ -37,17 +37,17 @@ returns-then-is_time-clause-ok c =
 pub returns-clause-rising : goal.returns-clause-rising
 returns-clause-rising c =
     let near = c.args.near.now.items in
-    let at = c.count_before-at.result in
-    let split = rw c.deref.ensures.value at c.count_before-at.ensures.split in
+    let at = c.count_before_at-at.result in
+    let split = rw c.deref.ensures.value at c.count_before_at-at.ensures.split in
     let other = rw c.deref-2.ensures.value at (c.is_time.ensures.other c.if-is_time.false) in
-    subst AreRising (sym c.in_ok-insert.ensures.items) (rising-insert (λ (e : ℕ × Vec ℕ Global). e.0) near at (c.args.time, c.push-2.new.self) c.requires (rw c.deref.ensures.value at c.count_before-at.ensures.within)
+    subst AreRising (sym c.in_ok-insert.ensures.items) (rising-insert (λ (e : ℕ × Vec ℕ Global). e.0) near at (c.args.time, c.push-2.new.self) c.requires (rw c.deref.ensures.value at c.count_before_at-at.ensures.within)
     (λ k d lt. split.0 k d (omega arith) lt) (λ k d late l. after_here near c.args.time at c.requires split (λ e h. other e h) k d late l))
 
 pub returns-clause-ok : goal.returns-clause-ok
 returns-clause-ok c =
     let near = c.args.near.now.items in
-    let at = c.count_before-at.result in
-    let split = rw c.deref.ensures.value at c.count_before-at.ensures.split in
+    let at = c.count_before_at-at.result in
+    let split = rw c.deref.ensures.value at c.count_before_at-at.ensures.split in
     let other = rw c.deref-2.ensures.value at (c.is_time.ensures.other c.if-is_time.false) in
     let none = not_here near c.args.time at c.requires split other in
     record {
