@@ -1,0 +1,81 @@
+"""What is reached from a definition: the definitions that it names, and what these name in turn."""
+
+from definitions import CRATES, file_of, home_of, meant_by, names_in, origin, spoken_in
+from sources import models, parts_of, said_of, types
+
+
+class Walk:
+    """The definitions that are reached, of crate, file and name, each after those that it names, with its lines; and the
+    types and the words that have no definition here."""
+
+    def __init__(self):
+        self.reached, self.types, self.words = {}, {}, set()
+        self.known, self.facts = set(), []
+
+    def name(self, path, word):
+        """Follows a name that stands under a path."""
+        path, word = origin(path, word)
+        steps, home = path.split("."), home_of(path, word)
+        if home:
+            self.definition(*home)
+        elif "declared" in steps:
+            self.declared(steps[1], [step for step in (*steps[steps.index("declared") + 1 :], word)])
+        else:
+            self.words.add(f"{path.removeprefix('Rattle.')}.{word}")
+
+    def definition(self, crate, file, word):
+        """Follows a definition; a member stands for the one that it is a member of."""
+        blocks = file_of(crate, file).blocks
+        word = word if word in blocks else file_of(crate, file).members.get(word, word)
+        key = (crate, file, word)
+        if key in self.reached or word not in blocks:
+            return
+        self.reached[key] = None
+        for path, name in spoken_in(*key):
+            self.name(path, name)
+        del self.reached[key]
+        self.reached[key] = sum(1 for line in blocks[word] if line.strip())
+
+    def declared(self, crate, steps):
+        """Follows what the sources declare: of a type its fields, and of a model what contracts see of it."""
+        names = [step for step in steps if not step.startswith("The")]
+        is_own = (CRATES / crate).is_dir()
+        name = next((step for step in names if is_own and step in types(crate)), None)
+        plain = names[:-1] if "TheVariants" in steps or "TheInside" in steps else names
+        key = ".".join([crate, *dict.fromkeys(plain)])
+        if key not in self.types:
+            self.types[key] = is_own
+            if name:
+                self.type(crate, name)
+
+    def type(self, crate, name):
+        """Follows the view of a type, and its fields. The facts that it states of itself are kept for `facts_too`."""
+        if (crate, name) in self.known:
+            return
+        self.known.add((crate, name))
+        views, facts, spoken = said_of(crate, name)
+        self.text("\n".join(views), spoken)
+        self.facts += [(fact, spoken) for fact in facts]
+        for part in parts_of(crate, name):
+            self.type(*part)
+
+    def facts_too(self):
+        """Follows the invariants of the types that were reached, and of those that these reach."""
+        while self.facts:
+            self.text(*self.facts.pop(0))
+
+    def text(self, text, spoken):
+        """Follows the names of a clause, where a source brings these in."""
+        for found in meant_by(text, spoken):
+            self.name(*found)
+
+    def start(self, crate, file, word):
+        """Follows a definition, and what contracts see of the models whose values it is said of."""
+        blocks = file_of(crate, file).blocks
+        head = next(line for line in blocks[word] if not line.lstrip().startswith("--"))
+        said = {home_of(*found) for found in meant_by(head.replace(" : ", " "), file_of(crate, file).imports)}
+        said |= {(crate, file, name) for name in names_in(head.replace(" : ", " ")) if name in blocks and name != word}
+        for owner, name, value, spoken in models():
+            if said & {home_of(*found) for found in meant_by(value, spoken)} - {None}:
+                self.type(owner, name)
+        self.definition(crate, file, word)
