@@ -59,15 +59,19 @@ def types(crate):
     return found
 
 
+FIELD = re.compile(r"^\s*(?:pub(?:\(crate\))? )?(\w+):? ?(.*)$")
+
+
 def parts_of(crate, name):
-    """The types of the repository that a type's fields have, as crates and names."""
+    """The types of the repository that a type is made of, as field, crate and name."""
     made = types(crate)[name]
-    fields = re.sub(r"(?m)^\s*(?:pub(?:\(crate\))? )?\w+", "", made.declaration.partition("{")[2] or made.declaration)
-    for word in dict.fromkeys(re.findall(r"\b[A-Z]\w*", fields)):
-        path, real = made.source.used.get(word, ("", word))
-        home = path.split(".")[0] if path.split(".")[0] in listed() else crate
-        if word != name and real in types(home):
-            yield home, real
+    lines = made.declaration.partition("{")[2].splitlines() or [f"0: {made.declaration.partition('(')[2]}"]
+    for field, kind in (FIELD.match(line).groups() for line in lines if FIELD.match(line)):
+        for word in dict.fromkeys(re.findall(r"\b[A-Z]\w*", kind)):
+            path, real = made.source.used.get(word, ("", word))
+            home = path.split(".")[0] if path.split(".")[0] in listed() else crate
+            if word != name and real in types(home):
+                yield field, home, real
 
 
 def said_of(crate, name):

@@ -1,5 +1,7 @@
 """What is reached from a definition: the definitions that it names, and what these name in turn."""
 
+import re
+
 from definitions import CRATES, file_of, home_of, meant_by, names_in, origin, spoken_in
 from sources import models, parts_of, said_of, types
 
@@ -11,6 +13,7 @@ class Walk:
     def __init__(self):
         self.reached, self.types, self.words = {}, {}, set()
         self.known, self.facts = set(), []
+        self.naming, self.within = {}, ""
 
     def name(self, path, word):
         """Follows a name that stands under a path."""
@@ -30,9 +33,11 @@ class Walk:
         key = (crate, file, word)
         if key in self.reached or word not in blocks:
             return
-        self.reached[key] = None
+        self.reached[key], before = None, self.within
         for path, name in spoken_in(*key):
+            self.within = "\n".join(blocks[word])
             self.name(path, name)
+        self.within = before
         del self.reached[key]
         self.reached[key] = sum(1 for line in blocks[word] if line.strip())
 
@@ -43,21 +48,23 @@ class Walk:
         name = next((step for step in names if is_own and step in types(crate)), None)
         plain = names[:-1] if "TheVariants" in steps or "TheInside" in steps else names
         key = ".".join([crate, *dict.fromkeys(plain)])
-        if key not in self.types:
-            self.types[key] = is_own
-            if name:
-                self.type(crate, name)
+        self.types[key] = is_own
+        if name:
+            self.naming[crate, name] = self.naming.get((crate, name), "") + self.within
+            self.type(crate, name)
 
     def type(self, crate, name):
-        """Follows the view of a type, and its fields. The facts that it states of itself are kept for `facts_too`."""
-        if (crate, name) in self.known:
-            return
-        self.known.add((crate, name))
+        """Follows the view of a type, and of its fields those that are looked at. The facts that it states of itself are kept
+        for `facts_too`."""
         views, facts, spoken = said_of(crate, name)
-        self.text("\n".join(views), spoken)
-        self.facts += [(fact, spoken) for fact in facts]
-        for part in parts_of(crate, name):
-            self.type(*part)
+        if (crate, name) not in self.known:
+            self.known.add((crate, name))
+            self.text("\n".join(views), spoken)
+            self.facts += [(fact, spoken) for fact in facts]
+        looked = "\n".join([*views, self.naming.get((crate, name), "")])
+        for field, *part in parts_of(crate, name):
+            if tuple(part) not in self.known and (not views or re.search(rf"\.{field}\b", looked)):
+                self.type(*part)
 
     def facts_too(self):
         """Follows the invariants of the types that were reached, and of those that these reach."""
