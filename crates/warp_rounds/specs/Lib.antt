@@ -1,5 +1,6 @@
 pub mod Faults
 pub mod Seats
 pub mod Turn
+pub mod Visit
 pub mod Words
 pub mod Inner

@@ -1,7 +1,8 @@
-ghost use Rattle.std.specs.Prelude.{◌≡◌, IfOk, OnOk, []};
+ghost use Rattle.std.specs.Prelude.{◌≡◌, ◌<◌, min, IfOk, IfErr, OnOk, []};
 ghost use Rattle.warp_block.specs.Lawful.{IsLawful, IsLawfulProcess};
 ghost use Rattle.warp_rounds.specs.Turn.{IsTurn, StaysInFront};
-ghost use Rattle.warp_rounds.specs.Inner.Fit.{fitted, refitted};
+ghost use Rattle.warp_rounds.specs.Visit.{IsVisit, IsFaultyVisit};
+ghost use Rattle.warp_rounds.specs.Inner.Fit.{refitted};
 
 use crate::gate::Gate;
 use crate::turns::{TurnReport, Turned, turn_through};
@@ -25,38 +26,32 @@ pub struct Site {
 #[derive(Drop)]
 struct Held {
     block: Block,
-    /// The window that fits the next turn, once there was one.
-    window: Option<u32>,
+    /// The window that fits the next turn: before the first one any.
+    window: u32,
     /// The messages of a turn, which are swapped for the inbox's. It is empty between visits, and keeps its memory.
     messages: Vec<Message>,
+    ghost some: { 0 < window },
 }
 
 impl Held {
     /// A turn of the block with the messages that were taken, by the window that fits it and is at most `most`.
     fn turn(&mut self, floor: u64, most: u32, out: &mut Vec<Message>) -> Result<Turned, BlockFault>
-        ensures turn { OnOk result (IsTurn self.old.block self.new.block self.old.messages.items floor (fitted self.old.window most)) }
-        ensures window { IfOk result (λ turned. self.new.window ≡ Some (refitted (fitted self.old.window most) most turned.undone)) }
+        ensures turn { OnOk result (IsTurn self.old.block self.new.block self.old.messages.items floor (min self.old.window most)) }
+        ensures window { IfOk result (λ turned. self.new.window ≡ refitted (min self.old.window most) most turned.undone) }
         ensures taken { self.new.messages.items ≡ [] }
         ensures front { StaysInFront out.old.items out.new.items }
+        ensures visit { IfOk result (λ turned. IsVisit floor most out.old.items out.new.items turned.report.least) }
+        ensures fault { IfErr result (IsFaultyVisit floor most out.old.items out.new.items) }
     {
-        let window = window_of(self.window, most);
+        self.block.law();
+        let window = self.window.min(most);
         let messages = self.messages.as_slice();
         let turned = turn_through(&mut self.block, messages, floor, window, out);
         self.messages.clear();
         if let Ok(turned) = turned {
-            self.window = Some(next_window(window, most, turned.undone));
+            self.window = next_window(window, most, turned.undone);
         }
         turned
-    }
-}
-
-/// The window of a block's turn that is at most `most`.
-fn window_of(own: Option<u32>, most: u32) -> u32
-    ensures { result ≡ fitted own most }
-{
-    match own {
-        Some(own) => own.min(most),
-        None => most,
     }
 }
 
@@ -64,11 +59,12 @@ fn window_of(own: Option<u32>, most: u32) -> u32
 fn next_window(window: u32, most: u32, undone: bool) -> u32
     ensures { result ≡ refitted window most undone }
 {
-    if undone {
-        (window / 2).max(1)
+    let next = if undone {
+        window / 2
     } else {
         window.saturating_add(1).min(most)
-    }
+    };
+    next.max(1)
 }
 
 impl Site {
@@ -78,7 +74,7 @@ impl Site {
         Site {
             held: Mutex::new(Held {
                 block,
-                window: None,
+                window: u32::MAX,
                 messages: Vec::new(alloc),
             }),
             inbox: Mutex::new(Vec::new(alloc)),
@@ -102,7 +98,8 @@ impl Site {
     /// block before it and after it. What is sent goes behind `out`.
     ///
     /// The turn finishes up to `window` event times, and fewer where the site's visits had to take some back: after each
-    /// that did the block's own window is half of it, after each other one is one more. The first visit's is `window`.
+    /// that did the block's own window is half of it, after each other one is one more; by a window of 1 or more it finishes
+    /// one at least, if there is one. The first visit's is `window`.
     ///
     /// After a fault the messages that were taken out of the inbox are gone, and what the turn did before stands.
     pub fn visit<R: Wait, G: Gate>(
@@ -113,7 +110,9 @@ impl Site {
         gate: &G,
         out: &mut Vec<Message>,
     ) -> Result<TurnReport, BlockFault>
-        ensures { StaysInFront out.old.items out.new.items }
+        ensures front { StaysInFront out.old.items out.new.items }
+        ensures visit { IfOk result (λ report. IsVisit floor window out.old.items out.new.items report.least) }
+        ensures fault { IfErr result (IsFaultyVisit floor window out.old.items out.new.items) }
     {
         let turned = self.visit_through(rt, floor, window, gate, out)?;
         Ok(turned.report)
@@ -128,7 +127,9 @@ impl Site {
         gate: &G,
         out: &mut Vec<Message>,
     ) -> Result<Turned, BlockFault>
-        ensures { StaysInFront out.old.items out.new.items }
+        ensures front { StaysInFront out.old.items out.new.items }
+        ensures visit { IfOk result (λ turned. IsVisit floor window out.old.items out.new.items turned.report.least) }
+        ensures fault { IfErr result (IsFaultyVisit floor window out.old.items out.new.items) }
     {
         let mut guard = self.held.lock(rt);
         let held = &mut *guard;
