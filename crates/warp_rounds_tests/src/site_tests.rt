@@ -154,6 +154,41 @@ fn a_refused_message_ends_the_visit(rt: HostRuntime) -> Result<(), Fail> {
     told
 }
 
+/// The floor and the mark.
+fn marks<R: Wait>(rt: &R, site: &Site) -> Result<(u64, u64), Fail> {
+    let look = site.look(rt)?;
+    let marks = (look.floor(), look.mark());
+    drop(look);
+    Ok(marks)
+}
+
+fn assert_commits<R: Abort + Wait>(
+    rt: &R,
+    site: &Site,
+    out: &mut Vec<Message>,
+) -> Result<(), Fail> {
+    site.put(rt, rises(1, A, 4))?;
+    let report = site.visit(rt, 3, 5, &NoGate, out);
+    assert_eq!(rt; report, Ok(TurnReport { least: 11 }));
+    assert_eq!(rt; marks(rt, site)?, (3, 5));
+    site.put(rt, rises(1, B, 2))?;
+    let report = site.visit(rt, 4, 5, &NoGate, out);
+    assert_eq!(rt; report, Err(BlockFault::BelowFloor));
+    let report = site.visit(rt, 2, 5, &NoGate, out);
+    assert_eq!(rt; report, Err(BlockFault::FloorBack));
+    assert_eq!(rt; marks(rt, site)?, (3, 5));
+    Ok(())
+}
+
+#[test]
+fn a_visit_commits_at_its_floor(rt: HostRuntime) -> Result<(), Fail> {
+    let site = site_of_and(rt.alloc())?;
+    let mut out = Vec::new(rt.alloc());
+    let committed = assert_commits(&rt, &site, &mut out);
+    drop(site);
+    committed
+}
+
 /// What a visit of up to four event times takes, and the mark after it: by windows of 4, 4, 2, 1, 1 and 2.
 static VISITS: [(Option<(u32, u64)>, u64); 6] = [
     (Some((A, 5)), 6),

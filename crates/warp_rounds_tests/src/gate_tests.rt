@@ -1,0 +1,170 @@
+ghost use Rattle.std.specs.Prelude.{◌≤◌};
+
+use gate_netlist::{Circuit, Cut, read_bench};
+use gate_vcd::{Stimulus, read_stimulus};
+use std::alloc::Global;
+use std::hint;
+use std::sync::Wait;
+use std::sync::atomic::Ordering::SeqCst;
+use std::sync::atomic::{AtomicBool, AtomicU64};
+use std::test::Fail;
+use std::thread::Threads;
+use warp_block::Block;
+use warp_rounds::{Gate, run};
+
+/// Four buffers, each over an input of its own: in four blocks none tells another anything.
+const BENCH: &str =
+    "INPUT(P)\nINPUT(Q)\nINPUT(R)\nINPUT(S)\nA = BUFF(P)\nB = BUFF(Q)\nC = BUFF(R)\nD = BUFF(S)\n";
+
+/// Each input changes at each time from 0 to 11. So a block finishes one event time for each time that its mark rises.
+const STIMULUS: &str =
+    "$var wire 1 i P $end $var wire 1 i Q $end $var wire 1 i R $end $var wire 1 i S $end
+$enddefinitions $end
+#0 1i #1 0i #2 1i #3 0i #4 1i #5 0i #6 1i #7 0i #8 1i #9 0i #10 1i #11 0i";
+
+const BLOCKS: u32 = 4;
+
+const POLLS: u32 = 10_000_000;
+
+/// Measures by how much a block's mark rises in a turn.
+#[derive(Drop)]
+struct Ruler {
+    /// The mark of each block when its turn began.
+    marks: [AtomicU64; 4],
+    longest: AtomicU64,
+}
+
+impl Ruler {
+    fn new() -> Ruler {
+        Ruler {
+            marks: [
+                AtomicU64::new(0),
+                AtomicU64::new(0),
+                AtomicU64::new(0),
+                AtomicU64::new(0),
+            ],
+            longest: AtomicU64::new(0),
+        }
+    }
+
+    fn mark_of(&self, block: &Block) -> Option<&AtomicU64> {
+        self.marks.get(block.part().block() as usize)
+    }
+}
+
+impl Gate for Ruler {
+    fn entered(&self, block: &Block) {
+        if let Some(mark) = self.mark_of(block) {
+            mark.store(block.mark(), SeqCst);
+        }
+    }
+
+    fn leaving(&self, block: &Block) {
+        if let Some(mark) = self.mark_of(block) {
+            let finished = block.mark().saturating_sub(mark.load(SeqCst));
+            self.longest.fetch_max(finished, SeqCst);
+        }
+    }
+}
+
+/// Counts the blocks that take turns at once. Each turn waits for more than there are workers, until one was in vain for
+/// `POLLS` polls.
+#[derive(Drop)]
+struct Crowd {
+    workers: u64,
+    held: AtomicU64,
+    most: AtomicU64,
+    gave_up: AtomicBool,
+}
+
+impl Crowd {
+    fn new(workers: u32) -> Crowd {
+        Crowd {
+            workers: u64::from(workers),
+            held: AtomicU64::new(0),
+            most: AtomicU64::new(0),
+            gave_up: AtomicBool::new(false),
+        }
+    }
+}
+
+impl Gate for Crowd {
+    fn entered(&self, _block: &Block) {
+        let others = self.held.fetch_add(1, SeqCst);
+        self.most.fetch_max(others.saturating_add(1), SeqCst);
+        for _ in 0..POLLS {
+            if self.most.load(SeqCst) > self.workers || self.gave_up.load(SeqCst) {
+                return;
+            }
+            hint::spin_loop();
+        }
+        self.gave_up.store(true, SeqCst);
+    }
+
+    fn leaving(&self, _block: &Block) {
+        self.held.fetch_sub(1, SeqCst);
+    }
+}
+
+/// Runs the buffers in four blocks, up to 20.
+fn run_buffers<G: Gate + Sync, R: Threads + Wait + Sync>(
+    rt: &R,
+    alloc: Global,
+    workers: u32,
+    window: u32,
+    gate: &G,
+) -> Result<(), Fail>
+    requires workers { (1 ≤ workers) × (workers ≤ 64) }
+    requires window { (1 ≤ window) × (window ≤ 1000000) }
+{
+    let bench = read_bench(alloc, BENCH.as_bytes())?;
+    let circuit = Circuit::of(alloc, bench, "".as_bytes())?;
+    let ran = run_circuit(rt, alloc, &circuit, workers, window, gate);
+    drop(circuit);
+    ran
+}
+
+fn run_circuit<G: Gate + Sync, R: Threads + Wait + Sync>(
+    rt: &R,
+    alloc: Global,
+    circuit: &Circuit,
+    workers: u32,
+    window: u32,
+    gate: &G,
+) -> Result<(), Fail>
+    requires workers { (1 ≤ workers) × (workers ≤ 64) }
+    requires window { (1 ≤ window) × (window ≤ 1000000) }
+{
+    let stimulus = read_stimulus(alloc, STIMULUS.as_bytes(), circuit)?;
+    let cut = Cut::even(alloc, circuit, BLOCKS)?;
+    let waves = run(
+        rt, alloc, circuit, &cut, &stimulus, 20, workers, window, gate,
+    );
+    drop(cut);
+    drop(stimulus);
+    drop(waves?);
+    Ok(())
+}
+
+#[test]
+fn no_turn_is_longer_than_the_window(rt: HostRuntime) -> Result<(), Fail> {
+    for window in [1, 3, 12] {
+        for workers in [1, 2] {
+            let gate = Ruler::new();
+            run_buffers(&rt, rt.alloc(), workers, window, &gate)?;
+            let longest = gate.longest.load(SeqCst);
+            assert_eq!(rt; longest, u64::from(window), "{workers}");
+        }
+    }
+    Ok(())
+}
+
+#[test]
+fn as_many_blocks_take_turns_at_once_as_there_are_workers(rt: HostRuntime) -> Result<(), Fail> {
+    for workers in [1, 2, 3, 4] {
+        let gate = Crowd::new(workers);
+        run_buffers(&rt, rt.alloc(), workers, 5, &gate)?;
+        assert_eq!(rt; gate.most.load(SeqCst), u64::from(workers));
+    }
+    Ok(())
+}
