@@ -84,15 +84,7 @@ class Players:
 
     def __enter__(self):
         self.room = tempfile.mkdtemp(prefix="hostile-", dir="/dev/shm" if os.access("/dev/shm", os.W_OK) else None)
-        self.library = os.path.join(self.room, "refuse.so")
-        compiler = os.environ.get("CC") or shutil.which("cc") or shutil.which("gcc") or shutil.which("clang")
-        if not compiler:
-            self.__exit__()
-            sys.exit("hostile: no C compiler (cc, gcc or clang), which the library that refuses needs")
-        built = subprocess.run([compiler, "-O2", "-shared", "-fPIC", "-o", self.library, os.path.join(HERE, "refuse.c")])
-        if built.returncode:
-            self.__exit__()
-            sys.exit("hostile: refuse.c does not compile")
+        self.library = self.built("refuse", "-shared", "-fPIC")
         self.pool = multiprocessing.Pool(os.cpu_count(), begin, (self.library, self.room))
         return self
 
@@ -100,6 +92,18 @@ class Players:
         if hasattr(self, "pool"):
             self.pool.terminate()
         shutil.rmtree(self.room, ignore_errors=True)
+
+    def built(self, name, *words):
+        """The path of what the C file of this name is compiled to."""
+        path = os.path.join(self.room, name)
+        compiler = os.environ.get("CC") or shutil.which("cc") or shutil.which("gcc") or shutil.which("clang")
+        if not compiler:
+            self.__exit__()
+            sys.exit(f"hostile: no C compiler (cc, gcc or clang), which {name}.c needs")
+        if subprocess.run([compiler, "-O2", *words, "-o", path, os.path.join(HERE, f"{name}.c")]).returncode:
+            self.__exit__()
+            sys.exit(f"hostile: {name}.c does not compile")
+        return path
 
     def file(self, text):
         """The path of a file of these bytes."""

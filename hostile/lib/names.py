@@ -1,0 +1,154 @@
+"""Names that were picked to collide: that the readers hash by a seed of the text, told by instructions and not by time.
+
+Two texts of the same names that differ in a comment have other seeds, so their names lie elsewhere in a table, and reading
+them takes another number of instructions. Under a seed that isn't the text's the numbers are equal to the last one.
+"""
+import os
+import random
+import subprocess
+from dataclasses import dataclass
+
+import play
+from memory import programs
+
+# So many names are read; with one name nothing can lie elsewhere. The letters of a comment stand in one of these orders.
+NAMES = 20
+ORDERS = ("abcdefgh", "hfdbgeca", "badcfehg", "hgfedcba", "ghefcdab", "acegbdfh", "ebgdahcf", "fchadgbe")
+
+# So many names have one hash where a map takes the kit's own hasher, whose seed is fixed; reading them takes at most so
+# many times the instructions of reading the same letters in another order.
+COLLIDING = 48
+MOST = 1.15
+SEED, MULTIPLIER = 0x243F6A8885A308D3, 0x9E3779B97F4A7C15
+WORD = 2**64 - 1
+
+
+@dataclass(frozen=True)
+class Text:
+    """A kind of text: its first and last comment and its names make a bench and a stimulus; and what is answered to it."""
+    what: str
+    bench: str
+    stimulus: str
+    line: str
+    status: int = 1
+    err: bytes = b""
+
+    def words(self, program, players, names, first, last):
+        lines = lambda form: "".join(form.format(name=name, at=at) for at, name in enumerate(names))
+        made = lambda text: text.format(lines=lines(self.line), count=len(names), more=len(names) + 1, first=first, end=last).encode()
+        files = [players.file(made(text)) for text in (self.bench, self.stimulus) if text]
+        return (program, *(("run", "--until", "0", "--workers", "1") if self.stimulus else ("check",)), *files)
+
+
+HEAD = "$comment {first} $end "
+TAIL = "$comment {end} $end $enddefinitions $end "
+LACKING = b"stimulus net 0: MissingInput\n"
+TEXTS = [
+    Text("nets of a bench", "# {first}\n{lines}# {end}\n", "", "INPUT({name})\n", 0),
+    Text("names of a stimulus", "INPUT(A)\n", HEAD + "{lines}" + TAIL, "$var wire 1 ! {name} $end ", err=LACKING),
+    Text("vectors of a stimulus", "INPUT(A)\n", HEAD + "{lines}" + TAIL, "$var wire 2 ! {name} [1:0] $end ", err=LACKING),
+    Text("codes of a stimulus", "INPUT(A)\n", HEAD + "{lines}" + TAIL, "$var wire 1 {name} B $end ", err=LACKING),
+    Text("sources of a stimulus", "{lines}INPUT(B)\n", HEAD + "$var wire {more} ! A [{count}:0] $end $var wire 1 ! B $end " + TAIL + "q",
+         "INPUT(A[{at}])\n"),
+]
+
+
+def some_names(count, length=8):
+    """Names of the letters a to p, from a seed."""
+    rng, found = random.Random(1), {}
+    while len(found) < count:
+        found["".join(rng.choices("abcdefghijklmnop", k=length))] = None
+    return list(found)
+
+
+def folded(a, b):
+    product = a * b
+    return product & WORD ^ product >> 64
+
+
+def colliding(count):
+    """Names of 32 letters that have one hash under the kit's own hasher, as bench/write_colliding.cpp makes them."""
+    fixed, found, number = b"abcdefgh", [], 0
+    last = int.from_bytes(fixed, "little")
+    while len(found) < count:
+        first = bytes(ord("a") + (number >> 4 * i & 15) for i in range(8))
+        state = folded(int.from_bytes(first, "little") ^ SEED + 32, last ^ MULTIPLIER)
+        makes_up = (state ^ 0x5A5A5A5A5A5A5A5A).to_bytes(8, "little")
+        if all(33 <= byte <= 126 and byte not in b"(),=#{}$" for byte in makes_up):
+            found.append((first + fixed + makes_up + fixed).decode())
+        number += 1
+    return found
+
+
+def counted(counter, words):
+    """The instructions that a command takes once its texts are read, its status, and its error line."""
+    tally = os.path.join(play._room, f"steps.{os.getpid()}")
+    ends = sum(word.startswith(play._room) for word in words)
+    environment = {"PATH": os.environ.get("PATH", "")}
+    done = subprocess.run([counter, tally, str(ends), *words], capture_output=True, env=environment, cwd=play._room, timeout=4 * play.SECONDS)
+    with open(tally) as file:
+        return int(file.read()), done.returncode, done.stderr
+
+
+def counted_pair(task):
+    return tuple(counted(*one) for one in task)
+
+
+def tried(task):
+    """How a kind of text is read: with one name, with all, and for each place with others of its comments until one tells."""
+    counter, alone, whole, others = task
+    answers = {"alone": [counted(counter, words) for words in alone], "whole": [counted(counter, whole)]}
+    known = {count for count, _, _ in answers["whole"]}
+    for place, variants in others.items():
+        answers[place] = []
+        for words in variants:
+            answers[place].append(counted(counter, words))
+            if answers[place][-1][0] not in known:
+                break
+    return answers
+
+
+def task_of(program, players, counter, text):
+    names, base = some_names(NAMES), ORDERS[0]
+    made = lambda some, first, last: text.words(program, players, some, first, last)
+    alone = [made(names[:1], order, order) for order in ORDERS[:2]]
+    others = {"first": [made(names, order, base) for order in ORDERS[1:]], "last": [made(names, base, order) for order in ORDERS[1:]]}
+    return counter, alone, made(names, base, base), others
+
+
+def judge(text, answers):
+    """What is wrong with how a kind of text is read, and what is told of it."""
+    every = [answer for some in answers.values() for answer in some]
+    faults = [f"status {status}, {err!r}" for _, status, err in every if status != text.status or text.err and err != text.err]
+    counts = {part: [count for count, _, _ in some] for part, some in answers.items()}
+    if len({*counts["alone"]}) > 1:
+        faults.append(f"with one name the numbers of instructions differ: {counts['alone']}")
+    for place in ("first", "last"):
+        if {*counts[place]} == {*counts["whole"]}:
+            faults.append(f"{len(counts[place])} other {place} comments change nothing: the seed is not the text's")
+    told = ", ".join(f"{counts[place][-1]:,} after {len(counts[place])} other {place} comments" for place in ("first", "last"))
+    return faults, f"{counts['whole'][0]:,} instructions, {told}", len(every)
+
+
+def play_colliding(players, score, program, counter):
+    """Names of one hash are read like any others."""
+    text, names = TEXTS[0], colliding(COLLIDING)
+    plain = [name[::-1] for name in names]
+    some = tuple((counter, text.words(program, players, given, "a", "a")) for given in (names, plain))
+    (first, status, _), (other, _, _) = players.pool.apply(counted_pair, (some,))
+    faults = [] if other and first <= MOST * other and status == text.status else ["too many instructions"]
+    what = f"{first:,} instructions, {other:,} for the same letters in another order"
+    score.tell("names", f"{os.path.basename(program)}, {COLLIDING} names of one hash", faults, what, 2)
+
+
+def play_all(players, score, is_long):
+    found = programs()
+    if not found:
+        score.tell("names", "warp_sim", ["no executable in crates/warp_sim/out: run rt ci first"], "nothing to play")
+    counter = players.built("steps") if found else None
+    for program in found if is_long else found[:1]:
+        tasks = [task_of(program, players, counter, text) for text in TEXTS]
+        for text, answers in zip(TEXTS, players.pool.imap(tried, tasks)):
+            faults, what, runs = judge(text, answers)
+            score.tell("names", f"{os.path.basename(program)}, {text.what}", faults, what, runs)
+        play_colliding(players, score, program, counter)
