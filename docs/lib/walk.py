@@ -2,8 +2,14 @@
 
 import re
 
-from definitions import CRATES, file_of, home_of, meant_by, names_in, origin, spoken_in
+from definitions import CRATES, file_of, home_of, meant_by, origin, spoken_in
 from sources import models, parts_of, said_of, types
+
+
+def kinds_in(head):
+    """The types that a definition's first line gives its parameters and its result."""
+    bound = re.findall(r"\([^():]* : ((?:[^()]|\([^()]*\))*)\)", head)
+    return [*bound, *(part.strip() for part in head.partition(" : ")[2].split("→"))]
 
 
 class Walk:
@@ -78,11 +84,13 @@ class Walk:
 
     def start(self, crate, file, word):
         """Follows a definition, and what contracts see of the models whose values it is said of."""
-        blocks = file_of(crate, file).blocks
-        head = next(line for line in blocks[word] if not line.lstrip().startswith("--"))
-        said = {home_of(*found) for found in meant_by(head.replace(" : ", " "), file_of(crate, file).imports)}
-        said |= {(crate, file, name) for name in names_in(head.replace(" : ", " ")) if name in blocks and name != word}
+        head = next(line for line in file_of(crate, file).blocks[word] if not line.lstrip().startswith("--"))
+        here = f"Rattle.{crate}.specs.{file.replace('/', '.')}"
+        known = file_of(crate, file).imports | {name: (here, name) for name in file_of(crate, file).blocks}
+        said = {home_of(*found) for found in meant_by(head.replace(" : ", " "), known)} - {None}
         for owner, name, value, spoken in models():
-            if said & {home_of(*found) for found in meant_by(value, spoken)} - {None}:
+            values = {home_of(*found) for found in meant_by(value, spoken)}
+            is_declared = any("declared" in path for path, _ in meant_by(value, spoken))
+            if said & values or is_declared and value.strip(" {}") in kinds_in(head):
                 self.type(owner, name)
         self.definition(crate, file, word)
