@@ -104,6 +104,19 @@ fn print_changes(rt: &impl Print, circuit: &Circuit, waves: &Waves, name: &str) 
     Ok(())
 }
 
+/// Runs a circuit, and prints the changes of one net.
+fn show<R: Threads + Wait + Sync + Print>(
+    rt: &R,
+    alloc: Global,
+    circuit: &Circuit,
+    stimulus: &str,
+) -> Result<()> {
+    let stimulus = read_stimulus(alloc, stimulus.as_bytes(), circuit)?;
+    let waves = waves_of(rt, alloc, circuit, &stimulus);
+    drop(stimulus);
+    print_changes(rt, circuit, &waves?, "n3")
+}
+
 /// The same by the calls below texts.
 fn by_values<R: Threads + Wait + Sync + Print>(
     rt: &R,
@@ -113,9 +126,9 @@ fn by_values<R: Threads + Wait + Sync + Print>(
 ) -> Result<()> {
     let bench = read_bench(alloc, bench.as_bytes())?;
     let circuit = Circuit::of(alloc, bench, b"")?;
-    let stimulus = read_stimulus(alloc, stimulus.as_bytes(), &circuit)?;
-    let waves = waves_of(rt, alloc, &circuit, &stimulus)?;
-    print_changes(rt, &circuit, &waves, "n3")
+    let shown = show(rt, alloc, &circuit, stimulus);
+    drop(circuit);
+    shown
 }
 
 fn main(rt: HostRuntime) -> Result<()> {
