@@ -22,3 +22,4 @@ pub mod ScheduleWords
 pub mod Scheduling
 pub mod ScheduleRefusals
 pub mod Driving
+pub mod Turning

@@ -1,10 +1,9 @@
 -- No schedule text is refused for want of memory.
-use Rattle.std.proofs.Common.{◌≡◌, ℕ, ◌+◌, Bool, true, false, cond, ◌&&◌, List, [], ◌∷◌, ◌++◌, codes, option_to_list, Option, Some, None, Result, Ok, Err, IfErr}
+use Rattle.std.proofs.Common.{◌≡◌, ℕ, ◌+◌, Bool, true, false, cond, ◌&&◌, List, [], ◌∷◌, codes, Option, Some, None, Result, Ok, Err, IfErr}
 use Rattle.std.specs.Str.{bytes_eq}
 use Rattle.gate_netlist.specs.Lines.{lines_of}
 use Rattle.gate_netlist.specs.Bench.{◌>>=◌}
 use Rattle.gate_vcd.specs.Numbers.{is_numeral}
-use Rattle.warp_core.specs.declared.event.Event.{Event}
 use Rattle.warp_core.specs.declared.schedule.fault.ScheduleCause.{ScheduleCause}
 use Rattle.warp_core.specs.declared.schedule.fault.ScheduleCause.TheVariants.{BadLine, NumberTooLarge, Memory}
 use Rattle.warp_core.specs.Schedule.{number_of, deliver, advance, event_of, begins_comment, said, words_of, meaning_of, at_line, events_from, schedule_of, IsOfSchedule}

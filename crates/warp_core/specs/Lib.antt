@@ -3,6 +3,7 @@ pub mod Matched
 pub mod Gather
 pub mod World
 pub mod Play
+pub mod Played
 pub mod Schedule
 pub mod Drive
 pub mod Inner

@@ -97,3 +97,12 @@ pub record IsLawfulWorld (w : Scene) : Type 0 where
 pub record IsNewWorld (w : Scene) : Type 0 where
   pub blocks : EachBlock w.cut w.blocks (λ b v. v ≡ opening_view (part_of w.circuit w.cut b) w.stimulus w.horizon)
   pub flight : All (λ m. (m.sign ≡ Plus) × (m.time ≡ 0)) w.flight
+
+-- A new world of a circuit in a cut, under a stimulus, up to a horizon.
+pub record IsStart (d : Design) (cut : Ownership) (g : Given) (horizon : ℕ) (w : Scene) : Type 0 where
+  pub circuit_is : w.circuit ≡ d
+  pub cut_is : w.cut ≡ cut
+  pub stimulus_is : w.stimulus ≡ g
+  pub horizon_is : w.horizon ≡ horizon
+  pub opening : IsNewWorld w
+  pub law : IsLawfulWorld w

@@ -4,9 +4,9 @@ ghost use Rattle.gate_netlist.specs.Circuit.{CutFits};
 ghost use Rattle.gate_vcd.specs.Given.{Fits};
 ghost use Rattle.warp_block.specs.Limits.{most_horizon};
 ghost use Rattle.warp_core.specs.Values.{AreCircuitWaves};
-ghost use Rattle.warp_core.specs.World.{IsBefore};
+ghost use Rattle.warp_core.specs.World.{IsBefore, IsLeastTime};
 ghost use Rattle.warp_core.specs.Play.{IsSameCourse};
-ghost use Rattle.warp_core.specs.Drive.{IsOrder, IsRaised, IsDriveRefusal, drive_fault_number, drive_fault_name};
+ghost use Rattle.warp_core.specs.Drive.{IsOrder, IsRaised, IsRound, IsAfterRound, IsTurn, IsTurnBegun, AreReached, flying_to, IsDriven, IsDriveRefusal, drive_fault_number, drive_fault_name};
 ghost use Rattle.warp_core.specs.Inner.Drive.{IsPast};
 ghost use Rattle.warp_core.specs.declared.event.PlayFault.TheVariants as play;
 ghost use Rattle.warp_core.specs.declared.driver.DriveFault.TheVariants as fault;
@@ -70,19 +70,22 @@ impl<'a> World<'a> {
     /// finishes one event time. Afterwards the least time is higher, or is still past the horizon.
     ///
     /// An order that is no permutation of the blocks is refused, without memory, and nothing has changed then. After
-    /// want of memory the events played stand.
+    /// want of memory a beginning of these events is played. The least time never falls.
+    #[tactic(auto, using(crate::proofs::Turning::round_started, crate::proofs::Turning::round_begun, crate::proofs::Played::never_falls))]
     pub fn round(&mut self, order: &[u32]) -> Result<(), DriveFault>
         ensures course { IsSameCourse self.old self.new }
         ensures ordered { OnOk result (IsOrder self.old.cut.blocks order.now) }
+        ensures played { OnOk result (IsRound order.now self.old self.new) }
         ensures raised { OnOk result (IsRaised self.old self.new) }
+        ensures never_falls { (s t : ℕ) → IsLeastTime self.old s → IsLeastTime self.new t → s ≤ t }
         ensures refused { IfErr result (IsDriveRefusal self.old.cut.blocks order.now) }
-        ensures unchanged { IfErr result (λ cause. cause ≡ fault.BadOrder → self.new ≡ self.old) }
+        ensures after { IfErr result (IsAfterRound order.now self.old self.new) }
     {
         if !is_order(order, self.count()) {
             return Err(DriveFault::BadOrder);
         }
-        self.law();
         self.commit();
+        self.law();
         for number in order {
             match self.turn_for(*number) {
                 Ok(()) => {}
@@ -97,6 +100,8 @@ impl<'a> World<'a> {
     fn turn_for(&mut self, number: u32) -> Result<(), PlayFault>
         requires { number < self.old.cut.blocks }
         ensures course { IsSameCourse self.old self.new }
+        ensures played { OnOk result (IsTurn number self.old self.new) }
+        ensures begun { OnErr result (IsTurnBegun number self.old self.new) }
         ensures never_earlier { (s : ℕ) → IsBefore self.old s → IsBefore self.new s }
         ensures past { OnOk result ((t : ℕ) → IsBefore self.old t → IsPast self.new number t) }
         ensures kept { (t b : ℕ) → b < self.old.cut.blocks → IsBefore self.old t → IsPast self.old b t → IsPast self.new b t }
@@ -111,6 +116,8 @@ impl<'a> World<'a> {
     /// Each message in flight for a block reaches it.
     fn deliver_all(&mut self, number: u32) -> Result<(), PlayFault>
         ensures course { IsSameCourse self.old self.new }
+        ensures reached { OnOk result (AreReached number (flying_to number self.old.flight) self.old self.new) }
+        ensures begun { OnErr result ((count : ℕ) × (count < flying_to number self.old.flight) × AreReached number count self.old self.new) }
         ensures never_earlier { (s : ℕ) → IsBefore self.old s → IsBefore self.new s }
         ensures received { OnOk result ((t : ℕ) → IsBefore self.old t → All (λ m. m.block ≡ number → t < m.time) self.new.flight) }
         ensures kept { (t b : ℕ) → b < self.old.cut.blocks → IsBefore self.old t → IsPast self.old b t → IsPast self.new b t }
@@ -178,6 +185,7 @@ pub fn drive(
     requires horizon { horizon ≤ most_horizon }
     ensures ordered { OnOk result (IsOrder cut.now.blocks order.now) }
     ensures waves { IfOk result (λ driven. AreCircuitWaves circuit.now stimulus.now horizon driven.0) }
+    ensures rounds { IfOk result (λ driven. IsDriven circuit.now cut.now stimulus.now horizon order.now driven.1) }
     ensures few { IfOk result (λ driven. driven.1 ≤ horizon + 1) }
     ensures refused { IfErr result (IsDriveRefusal cut.now.blocks order.now) }
 {
@@ -185,6 +193,7 @@ pub fn drive(
         return Err(DriveFault::BadOrder);
     }
     let mut world = World::new(alloc, circuit, cut, stimulus, horizon)?;
+    world.law();
     let mut rounds = 0;
     let mut least = world.least();
     while least <= horizon {
