@@ -10,10 +10,11 @@ use Rattle.warp_core.specs.declared.event.Event.{Event}
 use Rattle.warp_core.specs.declared.event.Event.TheVariants.{Deliver, Advance, Commit}
 use Rattle.warp_core.specs.declared.event.PlayFault.{PlayFault}
 use Rattle.warp_core.specs.declared.event.PlayFault.TheVariants as play
-use Rattle.warp_core.specs.World.{Scene, IsLeastTime}
+use Rattle.warp_core.specs.World.{Scene, IsLeastTime, IsLawfulWorld, IsStart}
 use Rattle.warp_core.specs.Play.{IsPlayed, IsRefused, IsSameCourse}
+use Rattle.warp_core.specs.Played.{IsStep, ArePlayed}
 use Rattle.warp_text.specs.Inner.FaultLines.{event_fault}
-use Rattle.warp_text.specs.Replay.{ArePlayed, AreComplete, IsStart, Stops, Plays, IsReplay}
+use Rattle.warp_text.specs.Replay.{AreComplete, Stops, Plays, IsReplay}
 use Rattle.warp_text.specs.Inner.Replay.{IsReplayed}
 use Rattle.warp_text.specs.Answer.{IsCircuitOf}
 use Rattle.warp_text.specs.declared.fault.Fault.{Fault}
@@ -23,15 +24,16 @@ pub nothing_played : (w : Scene) → ArePlayed w [] w
 unfolding ArePlayed
 nothing_played w = refl
 
-played_more : (events : List Event) (event : Event) (old middle new : Scene) → ArePlayed old events middle → IsPlayed middle new event → ArePlayed old (events ++ event ∷ []) new
+played_more : (events : List Event) (event : Event) (old middle new : Scene) → ArePlayed old events middle → IsStep event middle new → ArePlayed old (events ++ event ∷ []) new
 unfolding ArePlayed
-played_more [] event old middle new e h = (new, subst (λ (w : Scene). IsPlayed w new event) e h, refl)
+played_more [] event old middle new e h = (new, subst (λ (w : Scene). IsStep event w new) e h, refl)
 played_more (first ∷ events) event old middle new (between, h, more) last = (between, h, played_more events event between middle new more last)
 
 -- one event more is played
 pub played_next : (events : List Event) (place : ℕ) (d : Event) (old middle new : Scene) → place < length events
-    → ArePlayed old (take place events) middle → IsPlayed middle new (get_or events place d) → ArePlayed old (take (place + 1) events) new
-played_next events place d old middle new within played next = rw (take_more events place d within) (played_more (take place events) (get_or events place d) old middle new played next)
+    → ArePlayed old (take place events) middle → IsPlayed middle new (get_or events place d) → IsLawfulWorld new → ArePlayed old (take (place + 1) events) new
+played_next events place d old middle new within before next law =
+    rw (take_more events place d within) (played_more (take place events) (get_or events place d) old middle new before (record { played = next; law = law }))
 
 -- no event is left
 pub all_played : (events : List Event) (place : ℕ) (old new : Scene) → length events ≤ place → ArePlayed old (take place events) new → ArePlayed old events new
@@ -57,7 +59,7 @@ pub same_course : (events : List Event) (old new : Scene) → ArePlayed old even
 unfolding ArePlayed
 same_course [] old new e = rw e (record { circuit = refl; cut = refl; stimulus = refl; horizon = refl })
 same_course (event ∷ events) old new (middle, h, more) =
-    let first = one_course event old middle h in
+    let first = one_course event old middle h.played in
     let rest = same_course events middle new more in
     record { circuit = rest.circuit ∙ first.circuit; cut = rest.cut ∙ first.cut; stimulus = rest.stimulus ∙ first.stimulus; horizon = rest.horizon ∙ first.horizon }
 

@@ -1,5 +1,5 @@
 -- What four texts are answered, the last being a schedule that is played on the circuit's blocks.
-use Rattle.std.specs.Prelude.{◌≡◌, ◌≢◌, ℕ, ◌+◌, ◌≤◌, List, [], ◌∷◌, take, slice_get, Option, Some, None, unwrap_or, Result, Ok, Err, Vec, codes}
+use Rattle.std.specs.Prelude.{◌≡◌, ◌≢◌, ℕ, ◌+◌, ◌≤◌, List, take, slice_get, Option, Some, None, unwrap_or, Result, Ok, Err, Vec, codes}
 use Rattle.std.specs.declared.alloc.Global.{Global}
 use Rattle.gate_netlist.specs.Circuit.{Design}
 use Rattle.gate_netlist.specs.Cut.{Ownership}
@@ -10,8 +10,9 @@ use Rattle.gate_vcd.specs.Dump.{dump_text}
 use Rattle.warp_core.specs.declared.event.Event.{Event}
 use Rattle.warp_core.specs.declared.event.PlayFault.{PlayFault}
 use Rattle.warp_core.specs.declared.event.PlayFault.TheVariants as play
-use Rattle.warp_core.specs.World.{Scene, IsLeastTime, IsNewWorld}
-use Rattle.warp_core.specs.Play.{IsPlayed, IsRefused}
+use Rattle.warp_core.specs.World.{Scene, IsLeastTime, IsStart}
+use Rattle.warp_core.specs.Play.{IsRefused}
+use Rattle.warp_core.specs.Played.{ArePlayed}
 use Rattle.warp_core.specs.Schedule.{schedule_of}
 use Rattle.warp_text.specs.Answer.{IsCircuitOf, IsNoCircuit, circuit_value}
 use Rattle.warp_text.specs.declared.fault.Fault.{Fault}
@@ -21,19 +22,6 @@ use Rattle.warp_text.specs.declared.fault.Fault.TheVariants as faults
 abbrev pub cut_of : Design → Option ℕ → Ownership
 cut_of d (Some blocks) = even_cut d blocks
 cut_of d None = unwrap_or d.cut (even_cut d 1)
-
--- a new world, before anything is played
-pub record IsStart (d : Design) (cut : Ownership) (g : Given) (until : ℕ) (w : Scene) : Type 0 where
-  pub circuit_is : w.circuit ≡ d
-  pub cut_is : w.cut ≡ cut
-  pub stimulus_is : w.stimulus ≡ g
-  pub horizon_is : w.horizon ≡ until
-  pub opening : IsNewWorld w
-
--- events are played one after the other
-unfoldable pub ArePlayed : Scene → List Event → Scene → Type 0
-ArePlayed old [] new = new ≡ old
-ArePlayed old (event ∷ events) new = (middle : Scene) × IsPlayed old middle event × ArePlayed middle events new
 
 -- nothing is left to do after the events
 pub record AreComplete (start : Scene) (events : List Event) : Type 0 where

@@ -4,10 +4,11 @@ ghost use Rattle.gate_netlist.specs.Circuit.{CutFits};
 ghost use Rattle.gate_vcd.specs.Given.{Fits};
 ghost use Rattle.warp_block.specs.Limits.{most_horizon};
 ghost use Rattle.warp_core.specs.Values.{AreCircuitWaves};
+ghost use Rattle.warp_core.specs.Played.{ArePlayed};
 ghost use Rattle.warp_core.specs.World.{IsLeastTime};
 ghost use Rattle.warp_text.specs.Inner.FaultLines.{event_fault};
 ghost use Rattle.warp_text.specs.Inner.Replay.{IsReplayed};
-ghost use Rattle.warp_text.specs.Replay.{cut_of, ArePlayed, Stops, Plays, IsReplay};
+ghost use Rattle.warp_text.specs.Replay.{cut_of, Stops, Plays, IsReplay};
 
 use crate::dump::dump_of;
 use crate::fault::Fault;
@@ -35,7 +36,7 @@ fn play_all(world: &mut World<'_>, events: &[Event]) -> Result<(), Fault>
 {
     for (place, event) in events.iter().enumerate() {
         match world.play(*event) {
-            Ok(()) => {}
+            Ok(()) => world.law(),
             Err(cause) => return Err(event_fault(place as u64 + 1, cause)),
         }
     }
@@ -75,6 +76,7 @@ fn play_cut(
     ensures played { Plays circuit.now cut.now stimulus.now until events.now result }
 {
     let mut world = World::new(alloc, circuit, cut, stimulus, until)?;
+    world.law();
     play_all(&mut world, events)?;
     finished(world, until)
 }

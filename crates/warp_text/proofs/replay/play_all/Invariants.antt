@@ -1,5 +1,5 @@
 use Rattle.std.proofs.Common.{take}
-use Rattle.warp_text.specs.Replay.{ArePlayed}
+use Rattle.warp_core.specs.Played.{ArePlayed}
 use Rattle.warp_text.proofs.replay.play_all.Given as goal
 
 -- the events so far are played

@@ -1,4 +1,4 @@
-use Rattle.std.proofs.Common.{◌≡◌, ◌∙◌, IfOk, subst}
+use Rattle.std.proofs.Common.{◌∙◌, IfOk, subst}
 use Rattle.gate_netlist.specs.Circuit.{Design}
 use Rattle.gate_vcd.specs.Given.{Given}
 use Rattle.warp_core.specs.Values.{AreCircuitWaves}
@@ -21,5 +21,5 @@ returns-clause-played c =
     let played = c.in_ok-play_all.ensures.played in
     let course = same_course c.args.events.now c.in_ok-world.world c.play_all.new.world played in
     plays_through _ c.args.circuit.now c.args.cut.now c.args.stimulus.now c.args.until c.args.events.now c.in_ok-world.world c.play_all.new.world c.finished.result
-    (record { circuit_is = start.circuit; cut_is = start.cut; stimulus_is = start.stimulus; horizon_is = start.horizon; opening = start.opening })
+    (record { circuit_is = start.circuit; cut_is = start.cut; stimulus_is = start.stimulus; horizon_is = start.horizon; opening = start.opening; law = c.law.ensures })
     played (course.horizon ∙ start.horizon) c.finished.ensures.least c.finished.ensures.stopped
