@@ -2,6 +2,7 @@
 use Rattle.std.specs.Prelude.{◌≡◌, ℕ, List, Option, Ok, Err, false, true, ◌⊎◌}
 use Rattle.warp_command.specs.Deliveries.{Delivers}
 use Rattle.warp_command.specs.Failures.{failure_status, failure_text}
+use Rattle.warp_command.specs.Lines.{IsOfLine, IsRequest}
 use Rattle.warp_command.specs.Replies.{Reply, Fetching, Replies}
 use Rattle.warp_command.specs.declared.failure.Failure.{Failure}
 use Rattle.warp_command.specs.declared.failure.Failure.TheVariants as failures
@@ -42,10 +43,11 @@ pub record Executes {T : Type 0} (gives : Fetching T) (request : Request) (old n
 -- a line that is no request fetches no text, and its failure is shown
 pub record Refuses {T : Type 0} (old new : T) (ending : Ending) (before after : Channels) : Type 0 where
   pub failure : Failure
+  pub is_of_line : IsOfLine failure
   pub unread : new ≡ old
   pub shown : IsShown (Err failure) ending before after
 
--- a line is answered, as the request that it is read as or as one that is refused
-abbrev pub Answers : {T : Type 0} → Fetching T → (old new : T) → Ending → (before after : Channels) → Type 0
-Answers gives old new ending before after =
-    ((request : Request) × Executes gives request old new ending before after) ⊎ Refuses old new ending before after
+-- a line is answered, as what its words ask for or as one that is refused
+abbrev pub Answers : {T : Type 0} → Fetching T → (words : List (List ℕ)) → (old new : T) → Ending → (before after : Channels) → Type 0
+Answers gives words old new ending before after =
+    ((request : Request) × IsRequest words request × Executes gives request old new ending before after) ⊎ Refuses old new ending before after

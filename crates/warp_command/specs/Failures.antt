@@ -1,5 +1,5 @@
 -- What each failure writes on standard error, and the status that the program ends with.
-use Rattle.std.specs.Prelude.{◌≡◌, ◌⊎◌, ℕ, List, [], ◌∷◌, ◌++◌, codes, string_bytes}
+use Rattle.std.specs.Prelude.{ℕ, List, [], ◌∷◌, ◌++◌, codes, string_bytes}
 use Rattle.warp_text.specs.declared.fault.Fault.TheVariants as faults
 use Rattle.warp_text.specs.FaultLines.{fault_line, status_of}
 use Rattle.warp_command.specs.declared.failure.Failure.{Failure}
@@ -7,6 +7,8 @@ use Rattle.warp_command.specs.declared.failure.Failure.TheVariants as failures
 
 abbrev pub failure_text : Failure → List ℕ
 failure_text (failures.Line text) = string_bytes text
+failure_text failures.NotText = codes "a word is not text" ++ 10 ∷ []
+failure_text failures.Incomplete = codes "the line is incomplete" ++ 10 ∷ []
 failure_text failures.StimulusExpected = codes "stimulus expected" ++ 10 ∷ []
 failure_text failures.StimulusNotExpected = codes "stimulus not expected" ++ 10 ∷ []
 failure_text (failures.Unreadable name) = codes "cannot read " ++ name.now ++ 10 ∷ []
@@ -16,13 +18,10 @@ failure_text failures.Unwritten = codes "cannot write" ++ 10 ∷ []
 -- 2 for a refused line, 4 for a file or a write, else the fault's
 abbrev pub failure_status : Failure → ℕ
 failure_status (failures.Line text) = 2
+failure_status failures.NotText = 2
+failure_status failures.Incomplete = 2
 failure_status failures.StimulusExpected = 2
 failure_status failures.StimulusNotExpected = 2
 failure_status (failures.Unreadable name) = 4
 failure_status (failures.Fault fault) = status_of fault
 failure_status failures.Unwritten = 4
-
--- what the program tells of a line that it refuses itself: this text, with status 2; or memory ran out
-abbrev pub IsRefusedLine : List ℕ → Failure → Type 0
-IsRefusedLine text failure =
-    ((failure_text failure ≡ text) × (failure_status failure ≡ 2)) ⊎ (failure ≡ failures.Fault faults.Memory)

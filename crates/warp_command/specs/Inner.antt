@@ -1,2 +1,3 @@
 -- What only the proofs of this crate need: no contract of a public call speaks of it.
+pub mod App
 pub mod Line

@@ -4,4 +4,6 @@ pub mod Replies
 pub mod Outside
 pub mod Deliveries
 pub mod Endings
+pub mod App
+pub mod Lines
 pub mod Inner

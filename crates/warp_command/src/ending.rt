@@ -1,5 +1,5 @@
 //! The program, over texts that are handed in and writers that may fail.
-ghost use Rattle.std.specs.Prelude.{◌≡◌};
+ghost use Rattle.std.specs.Prelude.{◌≡◌, map};
 ghost use Rattle.warp_command.specs.Endings.{channels, IsShown, Executes, Answers};
 ghost use Rattle.warp_command.specs.declared.ending.Ending.{Ending as AnEnding};
 
@@ -82,7 +82,7 @@ pub fn answer<R: Threads + Wait + Sync, S: AsStr, T: Texts, O: Write, E: Write>(
     out: &mut O,
     err: &mut E,
 ) -> Ending
-    ensures { Answers T.gives texts.old texts.new result
+    ensures { Answers T.gives (map S.text words.entry.now) texts.old texts.new result
         (channels (O.contents out.old) (E.contents err.old)) (channels (O.contents out.new) (E.contents err.new)) }
 {
     match read_line(alloc, words) {
@@ -103,7 +103,7 @@ pub fn program<R: Threads + Wait + Sync, S: AsStr, T: Texts, O: Write, E: Write>
     out: &mut O,
     err: &mut E,
 ) -> u8
-    ensures { (ending : AnEnding) × (result ≡ ending.status) × Answers T.gives texts.old texts.new ending
+    ensures { (ending : AnEnding) × (result ≡ ending.status) × Answers T.gives (map S.text words.entry.now) texts.old texts.new ending
         (channels (O.contents out.old) (E.contents err.old)) (channels (O.contents out.new) (E.contents err.new)) }
 {
     answer(rt, alloc, words, texts, out, err).status

@@ -1,18 +1,22 @@
 //! Why the program ends without a text on standard output.
 ghost use Rattle.std.specs.Prelude.{◌≡◌, Some};
-ghost use Rattle.warp_command.specs.Failures.{failure_text, failure_status, IsRefusedLine};
+ghost use Rattle.warp_command.specs.Failures.{failure_text, failure_status};
 ghost use Rattle.warp_command.specs.declared.failure.Failure.TheVariants as failures;
 ghost use Rattle.warp_text.specs.declared.fault.Fault.TheVariants as faults;
 
-use std::alloc::{AllocError, Global};
+use std::alloc::AllocError;
 use std::fmt;
 use warp_text::Fault;
 
 /// Why the program ends without a text on standard output.
 #[derive(Debug, Drop)]
 pub enum Failure<'a> {
-    /// The line is refused; the text says why, and ends with a line's end.
+    /// `clap` refuses the line; its text says why, and ends with a line's end.
     Line(String),
+    /// A word of the line isn't text.
+    NotText,
+    /// The line lacks what its command requires, or has a number out of its limits. `clap` refuses such a line before.
+    Incomplete,
     /// A run lacks the name of its stimulus.
     StimulusExpected,
     /// A run whose texts are joined names a stimulus.
@@ -25,23 +29,14 @@ pub enum Failure<'a> {
     Unwritten,
 }
 
-impl<'a> Failure<'a> {
-    /// The failure of a line that the program refuses itself, with a text that says why.
-    pub fn line(alloc: Global, text: &str) -> Failure<'a>
-        ensures { IsRefusedLine text.now result }
-    {
-        match String::from_str(alloc, text) {
-            Ok(text) => Failure::Line(text),
-            Err(_) => Failure::Fault(Fault::Memory),
-        }
-    }
-
+impl Failure<'_> {
     /// The program's exit status: 2 for a refused line, 4 for a file or a write, else the fault's.
     pub fn status(&self) -> u8
         ensures { result ≡ failure_status self.now }
     {
         match self {
-            Failure::Line(_) | Failure::StimulusExpected | Failure::StimulusNotExpected => 2,
+            Failure::Line(_) | Failure::NotText | Failure::Incomplete => 2,
+            Failure::StimulusExpected | Failure::StimulusNotExpected => 2,
             Failure::Unreadable(_) | Failure::Unwritten => 4,
             Failure::Fault(fault) => fault.status(),
         }
@@ -55,6 +50,8 @@ impl fmt::Display for Failure<'_> {
     fn fmt<W: fmt::Write>(&self, f: &mut fmt::Formatter<W>) -> fmt::Result {
         match self {
             Failure::Line(text) => f.write_str(text.as_str()),
+            Failure::NotText => f.write_str("a word is not text\n"),
+            Failure::Incomplete => f.write_str("the line is incomplete\n"),
             Failure::StimulusExpected => f.write_str("stimulus expected\n"),
             Failure::StimulusNotExpected => f.write_str("stimulus not expected\n"),
             Failure::Unreadable(name) => write!(f, "cannot read {name}\n"),

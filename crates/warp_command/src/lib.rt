@@ -3,9 +3,10 @@
 //! [`program`] reads a command line and the texts that it names, and says the status with which the process ends: it
 //! writes the answer of `warp_text` on standard output, or a line on standard error. Where the texts come from stands
 //! behind the trait [`Texts`], of which [`Outside`] is files and standard input. What is promised stands in `specs/`:
-//! `Replies` and `Endings`.
+//! `Lines`, `Replies` and `Endings`.
 #![tactic(auto)]
 
+mod app;
 mod delivery;
 mod ending;
 mod failure;
@@ -16,11 +17,12 @@ mod reply;
 mod request;
 mod texts;
 
+pub use app::VERSION;
 pub use delivery::{Delivery, put, tell};
 pub use ending::{Ending, answer, execute, program, show};
 pub use failure::Failure;
 pub use joined::split_joined;
-pub use line::{VERSION, read_line};
+pub use line::read_line;
 pub use outside::{Outside, read_all};
 pub use reply::reply_to;
 pub use request::{Check, Listing, Replay, Request, Run, Sources};

@@ -1,130 +1,107 @@
 //! From the words of a command line to a request.
-ghost use Rattle.warp_command.specs.Inner.Line.{sources_of};
-ghost use Rattle.std.specs.Prelude.{◌≡◌};
+ghost use Rattle.std.specs.Prelude.{◌≡◌, Some, codes, map};
+ghost use Rattle.clap.specs.Words.{kind_of, subcommand_rows_of};
+ghost use Rattle.warp_command.specs.Inner.Line.{rows_in, AreReplayOptions, IsToldAs};
+ghost use Rattle.warp_command.specs.Lines.{
+  number_in,
+  text_in,
+  text_behind,
+  Asks,
+  AreOptions,
+  AreSources,
+  IsRun,
+  IsReplay,
+  IsCheck,
+  IsListing,
+  IsRequest,
+  IsRead,
+};
 
+use crate::app::program_command;
 use crate::failure::Failure;
 use crate::request::{Check, Listing, Replay, Request, Run, Sources};
 use clap::error::ErrorKind;
-use clap::{Arg, ArgAction, ArgMatches, Command, Error, value_parser};
-use std::alloc::{AllocError, Global};
+use clap::{ArgMatches, Error};
+use std::alloc::Global;
 use std::convert::AsStr;
-use warp_block::MOST_HORIZON;
-use warp_text::{Fault, MOST_BLOCKS, MOST_WINDOW, MOST_WORKERS, Options};
+use warp_text::{Fault, Options};
 
-/// The version of the program, which `--version` prints behind its name.
-pub const VERSION: &str = "0.1.0";
-
-fn settings_option<'a>(alloc: Global) -> Arg<'a> {
-    Arg::new(alloc, "settings")
-        .long("settings")
-        .value_name("FILE")
-        .help("Delays, clock, scope and cut, as TOML")
+/// The number of an option that may be left out.
+fn number_of<'a>(found: &ArgMatches<'a>, name: &str) -> Result<Option<u32>, Failure<'a>>
+    ensures { IsRead (λ number. number_in (rows_in found.now) name.now ≡ number) result }
+{
+    match found.try_get_one::<u32>(name) {
+        Ok(number) => Ok(number),
+        Err(_) => Err(Failure::Incomplete),
+    }
 }
 
-fn bench_argument<'a>(alloc: Global, help: &'a str) -> Arg<'a> {
-    Arg::new(alloc, "BENCH").required(true).help(help)
+/// The number of an option that is given or has a default.
+fn given_number_of<'a>(found: &ArgMatches<'a>, name: &str) -> Result<u32, Failure<'a>>
+    ensures { IsRead (λ number. number_in (rows_in found.now) name.now ≡ Some number) result }
+{
+    match number_of(found, name)? {
+        Some(number) => Ok(number),
+        None => Err(Failure::Incomplete),
+    }
 }
 
-fn until_option<'a>(alloc: Global) -> Arg<'a> {
-    Arg::new(alloc, "until")
-        .long("until")
-        .value_name("T")
-        .required(true)
-        .action(ArgAction::Set)
-        .value_parser(value_parser!(u64).range(0..=MOST_HORIZON as i64))
-        .help("The time at which the dump ends")
+/// The time at which the dump is to end.
+fn until_of<'a>(found: &ArgMatches<'a>) -> Result<u64, Failure<'a>>
+    ensures { IsRead (λ until. number_in (rows_in found.now) (codes "until") ≡ Some until) result }
+{
+    match found.get_one::<u64>("until") {
+        Some(until) => Ok(until),
+        None => Err(Failure::Incomplete),
+    }
 }
 
-fn blocks_option<'a>(alloc: Global) -> Arg<'a> {
-    Arg::new(alloc, "blocks")
-        .long("blocks")
-        .value_name("N")
-        .action(ArgAction::Set)
-        .value_parser(value_parser!(u32).range(1..=MOST_BLOCKS as i64))
-        .help("Cuts the circuit evenly into N blocks, whatever cut the settings give")
+/// The text of an option or an argument that may be left out.
+#[tactic(auto, using(crate::proofs::Lines::text_read))]
+fn text_of<'a>(found: &ArgMatches<'a>, name: &str) -> Option<&'a str>
+    ensures { text_in (rows_in found.now) name.now ≡ text_behind result }
+{
+    found.get_str(name)
 }
 
-fn workers_option<'a>(alloc: Global) -> Arg<'a> {
-    Arg::new(alloc, "workers")
-        .long("workers")
-        .value_name("K")
-        .default_value("1")
-        .action(ArgAction::Set)
-        .value_parser(value_parser!(u32).range(1..=MOST_WORKERS as i64))
-        .help("The number of threads that run blocks")
+/// The text of an argument that is given.
+fn given_text_of<'a>(found: &ArgMatches<'a>, name: &str) -> Result<&'a str, Failure<'a>>
+    ensures { IsRead (λ text. text_in (rows_in found.now) name.now ≡ Some text.now) result }
+{
+    match text_of(found, name) {
+        Some(text) => Ok(text),
+        None => Err(Failure::Incomplete),
+    }
 }
 
-fn window_option<'a>(alloc: Global) -> Arg<'a> {
-    Arg::new(alloc, "window")
-        .long("window")
-        .value_name("W")
-        .default_value("1000")
-        .action(ArgAction::Set)
-        .value_parser(value_parser!(u32).range(1..=MOST_WINDOW as i64))
-        .help("The most event times that a block takes at one turn")
+/// The name of the settings' text, where the line gives one.
+fn settings_of<'a>(found: &ArgMatches<'a>) -> Option<&'a str>
+    ensures { text_in (rows_in found.now) (codes "settings") ≡ text_behind result }
+{
+    text_of(found, "settings")
 }
 
-fn run_command<'a>(alloc: Global) -> Result<Command<'a>, AllocError> {
-    let bench = "The circuit; - for standard input, with the stimulus after a line %%";
-    let stimulus = Arg::new(alloc, "STIMULUS").help("The inputs' changes, as VCD");
-    Command::new(alloc, "run")
-        .about("Simulates a circuit and writes its value change dump")
-        .arg(until_option(alloc))?
-        .arg(blocks_option(alloc))?
-        .arg(workers_option(alloc))?
-        .arg(window_option(alloc))?
-        .arg(settings_option(alloc))?
-        .arg(bench_argument(alloc, bench))?
-        .arg(stimulus)
-}
-
-fn replay_command<'a>(alloc: Global) -> Result<Command<'a>, AllocError> {
-    let stimulus = Arg::new(alloc, "STIMULUS")
-        .required(true)
-        .help("The inputs' changes, as VCD");
-    let schedule = Arg::new(alloc, "SCHEDULE")
-        .required(true)
-        .help("The events, a line each");
-    Command::new(alloc, "replay")
-        .about("Plays a schedule of events on a circuit's blocks and writes the value change dump")
-        .arg(until_option(alloc))?
-        .arg(blocks_option(alloc))?
-        .arg(settings_option(alloc))?
-        .arg(bench_argument(alloc, "The circuit; - for standard input"))?
-        .arg(stimulus)?
-        .arg(schedule)
-}
-
-fn check_command<'a>(alloc: Global) -> Result<Command<'a>, AllocError> {
-    Command::new(alloc, "check")
-        .about("Counts the parts of a circuit")
-        .arg(settings_option(alloc))?
-        .arg(bench_argument(alloc, "The circuit; - for standard input"))
-}
-
-fn nets_command<'a>(alloc: Global) -> Result<Command<'a>, AllocError> {
-    Command::new(alloc, "nets")
-        .about("Says of each net its number, code and name, what sets it, its delay and its block")
-        .arg(settings_option(alloc))?
-        .arg(bench_argument(alloc, "The circuit; - for standard input"))
-}
-
-fn whole_command<'a>(alloc: Global) -> Result<Command<'a>, AllocError> {
-    Command::new(alloc, "warp_sim")
-        .about("A simulator of gate-level circuits")
-        .version(VERSION)
-        .subcommand_required(true)
-        .arg_required_else_help(true)
-        .subcommand(run_command(alloc)?)?
-        .subcommand(replay_command(alloc)?)?
-        .subcommand(check_command(alloc)?)?
-        .subcommand(nets_command(alloc)?)
+/// What is chosen for a run.
+fn options_of<'a>(found: &ArgMatches<'a>) -> Result<Options, Failure<'a>>
+    ensures { IsRead (AreOptions (rows_in found.now)) result }
+{
+    let until = until_of(found)?;
+    let blocks = number_of(found, "blocks")?;
+    let workers = given_number_of(found, "workers")?;
+    let window = given_number_of(found, "window")?;
+    match Options::new(until, blocks, workers, window) {
+        Some(options) => Ok(options),
+        None => Err(Failure::Incomplete),
+    }
 }
 
 /// Where the texts of a run stand: `-` is standard input with both, and then none is named.
-fn sources_of<'a>(bench: &'a str, stimulus: Option<&'a str>) -> Result<Sources<'a>, Failure<'a>>
-    ensures { result ≡ sources_of bench.entry stimulus.entry }
+#[tactic(auto, using(crate::proofs::Lines::input_named))]
+fn sources_of<'a>(found: &ArgMatches<'a>) -> Result<Sources<'a>, Failure<'a>>
+    ensures { IsRead (AreSources (rows_in found.now)) result }
 {
+    let bench = given_text_of(found, "BENCH")?;
+    let stimulus = text_of(found, "STIMULUS");
     if bench == "-" {
         match stimulus {
             None => Ok(Sources::Joined),
@@ -138,102 +115,97 @@ fn sources_of<'a>(bench: &'a str, stimulus: Option<&'a str>) -> Result<Sources<'
     }
 }
 
-/// The failure of a line that lacks what its command requires. `clap` refuses such a line before.
-fn incomplete<'a>(alloc: Global) -> Failure<'a> {
-    Failure::line(alloc, "the line is incomplete\n")
-}
-
-/// What is chosen for a run; None where the line lacks a number or has one out of its limits, which `clap` refuses
-/// before.
-fn options_of<'a>(found: &ArgMatches<'a>) -> Option<Options> {
-    let until = found.get_one::<u64>("until")?;
-    let blocks = found.get_one::<u32>("blocks");
-    let workers = found.get_one::<u32>("workers")?;
-    let window = found.get_one::<u32>("window")?;
-    Options::new(until, blocks, workers, window)
-}
-
-fn run_request<'a>(alloc: Global, found: &ArgMatches<'a>) -> Result<Request<'a>, Failure<'a>> {
-    let Some(options) = options_of(found) else {
-        return Err(incomplete(alloc));
-    };
-    let Some(bench) = found.get_str("BENCH") else {
-        return Err(incomplete(alloc));
-    };
-    let sources = sources_of(bench, found.get_str("STIMULUS"))?;
-    let settings = found.get_str("settings");
-    Ok(Request::Run(Run {
+fn run_of<'a>(found: &ArgMatches<'a>) -> Result<Run<'a>, Failure<'a>>
+    ensures { IsRead (IsRun (rows_in found.now)) result }
+{
+    let options = options_of(found)?;
+    let settings = settings_of(found);
+    let sources = sources_of(found)?;
+    Ok(Run {
         options,
         settings,
         sources,
-    }))
-}
-
-/// What is chosen for a replay, whose schedule stands in place of workers and turns.
-fn replay_options_of<'a>(found: &ArgMatches<'a>) -> Option<Options> {
-    let until = found.get_one::<u64>("until")?;
-    Options::new(until, found.get_one::<u32>("blocks"), 1, 1)
-}
-
-/// The replay that a line asks for; None where it lacks a word, which `clap` refuses before.
-fn replay_of<'a>(found: &ArgMatches<'a>) -> Option<Replay<'a>> {
-    Some(Replay {
-        options: replay_options_of(found)?,
-        settings: found.get_str("settings"),
-        bench: found.get_str("BENCH")?,
-        stimulus: found.get_str("STIMULUS")?,
-        schedule: found.get_str("SCHEDULE")?,
     })
 }
 
-fn replay_request<'a>(alloc: Global, found: &ArgMatches<'a>) -> Result<Request<'a>, Failure<'a>> {
-    match replay_of(found) {
-        Some(replay) => Ok(Request::Replay(replay)),
-        None => Err(incomplete(alloc)),
+/// What is chosen for a replay, whose schedule stands in place of workers and turns.
+fn replay_options_of<'a>(found: &ArgMatches<'a>) -> Result<Options, Failure<'a>>
+    ensures { IsRead (AreReplayOptions (rows_in found.now)) result }
+{
+    let until = until_of(found)?;
+    let blocks = number_of(found, "blocks")?;
+    match Options::new(until, blocks, 1, 1) {
+        Some(options) => Ok(options),
+        None => Err(Failure::Incomplete),
     }
 }
 
-fn check_request<'a>(alloc: Global, found: &ArgMatches<'a>) -> Result<Request<'a>, Failure<'a>> {
-    let Some(bench) = found.get_str("BENCH") else {
-        return Err(incomplete(alloc));
-    };
-    let settings = found.get_str("settings");
-    Ok(Request::Check(Check { settings, bench }))
+fn replay_of<'a>(found: &ArgMatches<'a>) -> Result<Replay<'a>, Failure<'a>>
+    ensures { IsRead (IsReplay (rows_in found.now)) result }
+{
+    let options = replay_options_of(found)?;
+    let settings = settings_of(found);
+    let bench = given_text_of(found, "BENCH")?;
+    let stimulus = given_text_of(found, "STIMULUS")?;
+    let schedule = given_text_of(found, "SCHEDULE")?;
+    Ok(Replay {
+        options,
+        settings,
+        bench,
+        stimulus,
+        schedule,
+    })
 }
 
-fn nets_request<'a>(alloc: Global, found: &ArgMatches<'a>) -> Result<Request<'a>, Failure<'a>> {
-    let Some(bench) = found.get_str("BENCH") else {
-        return Err(incomplete(alloc));
-    };
-    let settings = found.get_str("settings");
-    Ok(Request::Nets(Listing { settings, bench }))
+fn check_of<'a>(found: &ArgMatches<'a>) -> Result<Check<'a>, Failure<'a>>
+    ensures { IsRead (IsCheck (rows_in found.now)) result }
+{
+    let settings = settings_of(found);
+    let bench = given_text_of(found, "BENCH")?;
+    Ok(Check { settings, bench })
+}
+
+fn listing_of<'a>(found: &ArgMatches<'a>) -> Result<Listing<'a>, Failure<'a>>
+    ensures { IsRead (IsListing (rows_in found.now)) result }
+{
+    let settings = settings_of(found);
+    let bench = given_text_of(found, "BENCH")?;
+    Ok(Listing { settings, bench })
+}
+
+/// What the command of a line and what stands behind it ask for.
+fn request_of<'a>(matches: &ArgMatches<'a>) -> Result<Request<'a>, Failure<'a>>
+    ensures { IsRead (Asks (subcommand_rows_of matches.now)) result }
+{
+    match matches.subcommand() {
+        Some(("run", found)) => Ok(Request::Run(run_of(found)?)),
+        Some(("replay", found)) => Ok(Request::Replay(replay_of(found)?)),
+        Some(("check", found)) => Ok(Request::Check(check_of(found)?)),
+        Some(("nets", found)) => Ok(Request::Nets(listing_of(found)?)),
+        _ => Err(Failure::Incomplete),
+    }
 }
 
 /// What `clap` says to a line: a request for help or the version, or why the line is refused.
-fn told<'a>(alloc: Global, error: &Error) -> Result<Request<'a>, Failure<'a>> {
-    if error.kind() == ErrorKind::OutOfMemory {
-        return Err(Failure::Fault(Fault::Memory));
-    }
-    let text = error.to_string(alloc)?;
-    if error.use_stderr() {
-        Err(Failure::Line(text))
-    } else {
-        Ok(Request::Help(text))
+fn told<'a>(alloc: Global, error: &Error) -> Result<Request<'a>, Failure<'a>>
+    ensures { IsRead (IsToldAs (kind_of error.now)) result }
+{
+    match error.kind() {
+        ErrorKind::OutOfMemory => Err(Failure::Fault(Fault::Memory)),
+        ErrorKind::DisplayHelp | ErrorKind::DisplayVersion => {
+            Ok(Request::Help(error.to_string(alloc)?))
+        }
+        _ => Err(Failure::Line(error.to_string(alloc)?)),
     }
 }
 
 /// Reads the words of a command line, the program's own name first.
-pub fn read_line<'a, S: AsStr>(alloc: Global, words: &'a [S]) -> Result<Request<'a>, Failure<'a>> {
-    let command = whole_command(alloc)?;
-    let matches = match command.try_get_matches_from(words) {
-        Ok(matches) => matches,
-        Err(error) => return told(alloc, &error),
-    };
-    match matches.subcommand() {
-        Some(("run", found)) => run_request(alloc, found),
-        Some(("replay", found)) => replay_request(alloc, found),
-        Some(("check", found)) => check_request(alloc, found),
-        Some(("nets", found)) => nets_request(alloc, found),
-        _ => Err(incomplete(alloc)),
+pub fn read_line<'a, S: AsStr>(alloc: Global, words: &'a [S]) -> Result<Request<'a>, Failure<'a>>
+    ensures { IsRead (IsRequest (map S.text words.entry.now)) result }
+{
+    let command = program_command(alloc)?;
+    match command.try_get_matches_from(words) {
+        Ok(matches) => request_of(&matches),
+        Err(error) => told(alloc, &error),
     }
 }

@@ -20,7 +20,7 @@ fn words_of(rt: &HostRuntime) -> Result<Vec<String>, Failure<'static>> {
             if error.kind() == ErrorKind::OutOfMemory {
                 return Err(Failure::Fault(Fault::Memory));
             }
-            Err(Failure::line(alloc, "a word is not text\n"))
+            Err(Failure::NotText)
         }
     }
 }

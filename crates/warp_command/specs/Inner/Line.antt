@@ -1,20 +1,22 @@
--- Where the texts of a run stand, by the names that the line gives.
-use Rattle.std.specs.Prelude.{List, ℕ, Option, None, Some, Result, Ok, Err, codes, if◌then◌else◌}
-use Rattle.std.specs.Borrow.{Bor}
-use Rattle.std.specs.Str.{bytes_eq}
-use Rattle.warp_command.specs.declared.failure.Failure.{Failure}
-use Rattle.warp_command.specs.declared.failure.Failure.TheVariants as failures
-use Rattle.warp_command.specs.declared.request.Sources.{Sources}
-use Rattle.warp_command.specs.declared.request.Sources.TheVariants as sources
+-- What is read of a line on the way to its request.
+use Rattle.std.specs.Prelude.{◌≡◌, ◌⊎◌, Some, codes}
+use Rattle.clap.specs.Words.{found_of, rows_of}
+use Rattle.clap.specs.declared.parser.matches.ArgMatches.{ArgMatches}
+use Rattle.clap.specs.declared.error.kind.ErrorKind.{ErrorKind}
+use Rattle.clap.specs.declared.error.kind.ErrorKind.TheVariants as kind
+use Rattle.warp_text.specs.declared.options.Options.{Options}
+use Rattle.warp_command.specs.Lines.{Rows, number_in}
+use Rattle.warp_command.specs.declared.request.Request.{Request}
+use Rattle.warp_command.specs.declared.request.Request.TheVariants as requests
 
--- `-` holds both texts
-abbrev pub joined_sources : Option (Bor (List ℕ)) → Result Sources Failure
-joined_sources None = Ok sources.Joined
-joined_sources (Some stimulus) = Err failures.StimulusNotExpected
+abbrev pub rows_in : ArgMatches → Rows
+rows_in matches = rows_of (found_of matches)
 
-abbrev pub named_sources : Bor (List ℕ) → Option (Bor (List ℕ)) → Result Sources Failure
-named_sources bench None = Err failures.StimulusExpected
-named_sources bench (Some stimulus) = Ok (sources.Apart bench stimulus)
+pub record AreReplayOptions (rows : Rows) (options : Options) : Type 0 where
+  pub until : number_in rows (codes "until") ≡ Some options.until
+  pub blocks : number_in rows (codes "blocks") ≡ options.blocks
 
-abbrev pub sources_of : Bor (List ℕ) → Option (Bor (List ℕ)) → Result Sources Failure
-sources_of bench stimulus = if bytes_eq bench.now (codes "-") then joined_sources stimulus else named_sources bench stimulus
+-- what is asked for where `clap` has a text of this kind to show
+abbrev pub IsToldAs : ErrorKind → Request → Type 0
+IsToldAs k (requests.Help text) = (k ≡ kind.DisplayHelp) ⊎ (k ≡ kind.DisplayVersion)
+IsToldAs k _ = ⊥

@@ -1,0 +1,79 @@
+-- The program's commands, options and arguments, as far as they say which words `clap` takes.
+use Rattle.std.specs.Prelude.{List, [], ◌∷◌, Some, true, false, pos, codes}
+use Rattle.clap.specs.Words.{App, Rule, Shape, Text, new_rule}
+use Rattle.clap.specs.Simple.{new_shape}
+use Rattle.clap.specs.declared.builder.action.ArgAction.TheVariants.{Set}
+use Rattle.clap.specs.declared.builder.value_parser.ValueParser.{ValueParser}
+use Rattle.clap.specs.declared.builder.value_parser.ValueParser.TheVariants.{Signed, Unsigned}
+use Rattle.warp_block.specs.Limits.{most_horizon}
+use Rattle.warp_text.specs.declared.options.TheConstants.{MOST_BLOCKS, MOST_WORKERS, MOST_WINDOW}
+
+-- an option that is followed by its value
+abbrev pub option : Text → Rule
+option name = record (new_rule name) { long = Some name; value_names = 1; action = Some Set }
+
+-- one whose value is a number in these limits
+abbrev pub number_option : Text → ValueParser → Rule
+number_option name numbers = record (option name) { parser = Some numbers }
+
+abbrev pub with_default : Rule → Text → Rule
+with_default rule value = record rule { defaults = value ∷ [] }
+
+abbrev pub required : Rule → Rule
+required rule = record rule { required = true }
+
+-- the options
+abbrev pub until_rule : Rule
+until_rule = required (number_option (codes "until") (Unsigned 0 most_horizon))
+
+abbrev pub blocks_rule : Rule
+blocks_rule = number_option (codes "blocks") (Signed (pos 1) (pos MOST_BLOCKS))
+
+abbrev pub workers_rule : Rule
+workers_rule = with_default (number_option (codes "workers") (Signed (pos 1) (pos MOST_WORKERS))) (codes "1")
+
+abbrev pub window_rule : Rule
+window_rule = with_default (number_option (codes "window") (Signed (pos 1) (pos MOST_WINDOW))) (codes "1000")
+
+abbrev pub settings_rule : Rule
+settings_rule = option (codes "settings")
+
+-- the arguments without a name, in their order
+abbrev pub bench_rule : Rule
+bench_rule = required (new_rule (codes "BENCH"))
+
+abbrev pub stimulus_rule : Rule
+stimulus_rule = new_rule (codes "STIMULUS")
+
+abbrev pub schedule_rule : Rule
+schedule_rule = required (new_rule (codes "SCHEDULE"))
+
+-- the commands
+abbrev pub shape : Text → List Rule → Shape
+shape name rules = record (new_shape name) { rules = rules }
+
+abbrev pub run_shape : Shape
+run_shape = shape (codes "run")
+    (until_rule ∷ blocks_rule ∷ workers_rule ∷ window_rule ∷ settings_rule ∷ bench_rule ∷ stimulus_rule ∷ [])
+
+abbrev pub replay_shape : Shape
+replay_shape = shape (codes "replay")
+    (until_rule ∷ blocks_rule ∷ settings_rule ∷ bench_rule ∷ required stimulus_rule ∷ schedule_rule ∷ [])
+
+abbrev pub check_shape : Shape
+check_shape = shape (codes "check") (settings_rule ∷ bench_rule ∷ [])
+
+abbrev pub nets_shape : Shape
+nets_shape = shape (codes "nets") (settings_rule ∷ bench_rule ∷ [])
+
+-- the program, which does nothing without a command
+unfoldable pub program_app : App
+program_app = record {
+  top = record (shape (codes "warp_sim") []) {
+    is_leaf = false;
+    has_version = true;
+    arg_required_else_help = true;
+    subcommand_required = true;
+  };
+  subs = run_shape ∷ replay_shape ∷ check_shape ∷ nets_shape ∷ [];
+}

@@ -1,0 +1,159 @@
+//! The program's commands, options and arguments, of which `clap` makes help and refusals.
+ghost use Rattle.std.specs.Prelude.{IfOk};
+ghost use Rattle.clap.specs.Words.{new_rule};
+ghost use Rattle.warp_command.specs.App.{
+  required,
+  until_rule,
+  blocks_rule,
+  workers_rule,
+  window_rule,
+  settings_rule,
+  bench_rule,
+  run_shape,
+  replay_shape,
+  check_shape,
+  nets_shape,
+  program_app,
+};
+ghost use Rattle.warp_command.specs.Inner.App.{HasApp, HasRule, HasShape};
+
+use clap::{Arg, ArgAction, Command, value_parser};
+use std::alloc::{AllocError, Global};
+use warp_block::MOST_HORIZON;
+use warp_text::{MOST_BLOCKS, MOST_WINDOW, MOST_WORKERS};
+
+/// The version of the program, which `--version` prints behind its name.
+pub const VERSION: &str = "0.1.0";
+
+fn settings_option<'a>(alloc: Global) -> Arg<'a>
+    ensures { HasRule settings_rule result }
+{
+    Arg::new(alloc, "settings")
+        .long("settings")
+        .value_name("FILE")
+        .action(ArgAction::Set)
+        .help("Delays, clock, scope and cut, as TOML")
+}
+
+fn required_argument<'a>(alloc: Global, name: &'a str, help: &'a str) -> Arg<'a>
+    ensures { HasRule (required (new_rule name.entry.now)) result }
+{
+    Arg::new(alloc, name).required(true).help(help)
+}
+
+fn bench_argument<'a>(alloc: Global, help: &'a str) -> Arg<'a>
+    ensures { HasRule bench_rule result }
+{
+    required_argument(alloc, "BENCH", help)
+}
+
+fn until_option<'a>(alloc: Global) -> Arg<'a>
+    ensures { HasRule until_rule result }
+{
+    Arg::new(alloc, "until")
+        .long("until")
+        .value_name("T")
+        .required(true)
+        .action(ArgAction::Set)
+        .value_parser(value_parser!(u64).range(0..=MOST_HORIZON as i64))
+        .help("The time at which the dump ends, in units of the stimulus's timescale")
+}
+
+fn blocks_option<'a>(alloc: Global) -> Arg<'a>
+    ensures { HasRule blocks_rule result }
+{
+    Arg::new(alloc, "blocks")
+        .long("blocks")
+        .value_name("N")
+        .action(ArgAction::Set)
+        .value_parser(value_parser!(u32).range(1..=MOST_BLOCKS as i64))
+        .help("Cuts the circuit evenly into N blocks, whatever cut the settings give")
+}
+
+fn workers_option<'a>(alloc: Global) -> Arg<'a>
+    ensures { HasRule workers_rule result }
+{
+    Arg::new(alloc, "workers")
+        .long("workers")
+        .value_name("K")
+        .default_value("1")
+        .action(ArgAction::Set)
+        .value_parser(value_parser!(u32).range(1..=MOST_WORKERS as i64))
+        .help("The number of threads that run blocks")
+}
+
+fn window_option<'a>(alloc: Global) -> Arg<'a>
+    ensures { HasRule window_rule result }
+{
+    Arg::new(alloc, "window")
+        .long("window")
+        .value_name("W")
+        .default_value("1000")
+        .action(ArgAction::Set)
+        .value_parser(value_parser!(u32).range(1..=MOST_WINDOW as i64))
+        .help("The most event times that a block takes at one turn")
+}
+
+fn run_command<'a>(alloc: Global) -> Result<Command<'a>, AllocError>
+    ensures { IfOk result (HasShape run_shape) }
+{
+    let bench = "The circuit; - for standard input, with the stimulus after a line %%";
+    let stimulus = Arg::new(alloc, "STIMULUS").help("The inputs' changes, as VCD");
+    Command::new(alloc, "run")
+        .about("Simulates a circuit and writes its value change dump")
+        .arg(until_option(alloc))?
+        .arg(blocks_option(alloc))?
+        .arg(workers_option(alloc))?
+        .arg(window_option(alloc))?
+        .arg(settings_option(alloc))?
+        .arg(bench_argument(alloc, bench))?
+        .arg(stimulus)
+}
+
+fn replay_command<'a>(alloc: Global) -> Result<Command<'a>, AllocError>
+    ensures { IfOk result (HasShape replay_shape) }
+{
+    let stimulus = required_argument(alloc, "STIMULUS", "The inputs' changes, as VCD");
+    let schedule = required_argument(alloc, "SCHEDULE", "The events, a line each");
+    Command::new(alloc, "replay")
+        .about("Plays a schedule of events on a circuit's blocks and writes the value change dump")
+        .arg(until_option(alloc))?
+        .arg(blocks_option(alloc))?
+        .arg(settings_option(alloc))?
+        .arg(bench_argument(alloc, "The circuit; - for standard input"))?
+        .arg(stimulus)?
+        .arg(schedule)
+}
+
+fn check_command<'a>(alloc: Global) -> Result<Command<'a>, AllocError>
+    ensures { IfOk result (HasShape check_shape) }
+{
+    Command::new(alloc, "check")
+        .about("Counts the parts of a circuit")
+        .arg(settings_option(alloc))?
+        .arg(bench_argument(alloc, "The circuit; - for standard input"))
+}
+
+fn nets_command<'a>(alloc: Global) -> Result<Command<'a>, AllocError>
+    ensures { IfOk result (HasShape nets_shape) }
+{
+    Command::new(alloc, "nets")
+        .about("Says of each net its number, code and name, what sets it, its delay and its block")
+        .arg(settings_option(alloc))?
+        .arg(bench_argument(alloc, "The circuit; - for standard input"))
+}
+
+/// The program's command line, as `clap` reads it.
+pub(crate) fn program_command<'a>(alloc: Global) -> Result<Command<'a>, AllocError>
+    ensures { IfOk result (HasApp program_app) }
+{
+    Command::new(alloc, "warp_sim")
+        .about("A simulator of gate-level circuits")
+        .version(VERSION)
+        .subcommand_required(true)
+        .arg_required_else_help(true)
+        .subcommand(run_command(alloc)?)?
+        .subcommand(replay_command(alloc)?)?
+        .subcommand(check_command(alloc)?)?
+        .subcommand(nets_command(alloc)?)
+}
