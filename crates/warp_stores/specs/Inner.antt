@@ -1,2 +1,4 @@
 pub mod Words
+pub mod StopBits
+pub mod Stops
 pub mod Least

@@ -1,3 +1,4 @@
 pub mod Words
+pub mod Dated
 pub mod Least
 pub mod Inner

@@ -1,13 +1,24 @@
 //! Stores for a journal of changes. They know nothing of gates.
 //!
-//! A [`Word`] is a change of a place in four bytes; it has the value before, so that each change is its own undo.
-//! [`Least`] has the least of some times.
+//! A [`Word`] is a change of a place in four bytes; it has the value before, so that each change is its own undo. A
+//! [`Queue`] has words in the order in which they came, and reads them at a head; [`Steps`] has all that came, and takes
+//! it off step by step. [`Least`] has the least of some times.
 //!
-//! The definitions that contracts cite stand in `specs/`: `Words` for a word, `Least` for the least time.
+//! The definitions that contracts cite stand in `specs/`: `Words` for a word, `Dated` for words that came at times and for
+//! what a queue has, `Least` for the least time.
 #![tactic(auto)]
 
+mod laws;
 mod least;
+mod place;
+mod queue;
+mod steps;
+mod stop;
 mod word;
 
+pub use laws::{before_and_since, nothing_later, undo_gives_back};
 pub use least::{Least, NEVER};
+pub use queue::{MOST_DEAD, Queue};
+pub use steps::Steps;
+pub use stop::TIMES;
 pub use word::{PLACES, Word};

@@ -1,0 +1,28 @@
+use Rattle.std.proofs.Common.{◌≡◌, ◌∙◌, ℕ, ◌+◌, ◌-◌, ◌<◌, ◌≤◌, List, [], ◌∷◌, ◌++◌, length, get_or, take, drop, Some, refl, sym, ap, subst, arith}
+use Rattle.std.specs.List.{between}
+use Rattle.std.specs.Result.{OnOk, OnErr}
+use Rattle.warp_stores.specs.declared.place.Place.{Place}
+use Rattle.warp_stores.specs.Dated.{Line, before, since, undated, first_time, last_time, standing, Rises}
+use Rattle.warp_stores.specs.Inner.Stops.{told, end_of, line_of, Climbs, IsQueue, IsParted, IsSpan, HaveOneMore}
+use Rattle.warp_stores.proofs.Telling.{length-span, since-told}
+use Rattle.warp_stores.proofs.Queues.{ahead_span, live_span, climbs_read, climbs_ahead_of, Rises-standing, queue_read, line_read, queue_back, line_back, queue_forgot, ahead_part, since_part, length-standing, first_time-told, last_time-told, line_equal, on_either, on_ok_both, queue_cut, line_cut_behind, line_cut_ahead, queue_freed, line_freed, Grows, queue_grows}
+use Rattle.warp_stores.proofs.queue.Queue.ahead_before.Goals as goal
+
+pub first_since-to-requires-clause-rising : goal.first_since-to-requires-clause-rising
+first_since-to-requires-clause-rising g c = rw (c.as_slice.ensures.value, c.end_of-end.ensures) (climbs_ahead_of c.self.invariant)
+
+pub returns : goal.returns
+returns g c =
+    let parted : IsParted c.args.time c.self.inside.stops.items c.self.inside.read (end_of c.self.inside.stops.items c.self.inside.words.items) c.first_since-to.result = rw (c.as_slice.ensures.value, c.end_of-end.ensures) at c.first_since-to.ensures in
+    let words : c.part.result.now ≡ between c.self.inside.read.words c.first_since-to.result.words c.self.inside.words.items = rw c.as_slice-2.ensures.value at c.part.ensures in
+    rw (← c.self.view_is) (words ∙ ahead_part c.args.time c.self.inside.stops.items c.self.inside.words.items c.self.inside.dead c.self.inside.read c.first_since-to.result c.self.invariant parted)
+
+pub part-requires-clause-order : goal.part-requires-clause-order
+part-requires-clause-order g c =
+    let parted : IsParted c.args.time c.self.inside.stops.items c.self.inside.read (end_of c.self.inside.stops.items c.self.inside.words.items) c.first_since-to.result = rw (c.as_slice.ensures.value, c.end_of-end.ensures) at c.first_since-to.ensures in
+    (length-span c.self.inside.stops.items c.self.inside.words.items c.self.inside.read c.first_since-to.result parted.low c.self.invariant.whole).0
+
+pub part-requires-clause-within : goal.part-requires-clause-within
+part-requires-clause-within g c =
+    let parted : IsParted c.args.time c.self.inside.stops.items c.self.inside.read (end_of c.self.inside.stops.items c.self.inside.words.items) c.first_since-to.result = rw (c.as_slice.ensures.value, c.end_of-end.ensures) at c.first_since-to.ensures in
+    rw c.as_slice-2.ensures.value ((length-span c.self.inside.stops.items c.self.inside.words.items c.self.inside.read c.first_since-to.result parted.low c.self.invariant.whole).1)

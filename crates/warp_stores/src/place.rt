@@ -1,0 +1,147 @@
+//! Places between stops.
+ghost use Rattle.std.specs.Prelude.{◌≡◌, ◌<◌, ◌≤◌, ◌+◌, ◌-◌, ◌^◌, ◌++◌, ◌∷◌, [], OnOk, OnErr, length, drop};
+ghost use Rattle.std.specs.List.{between};
+ghost use Rattle.warp_stores.specs.Inner.Stops.{total, Climbs, IsSpan, IsParted, HaveOneMore, end_of};
+
+use crate::stop::{Stop, TIMES};
+use std::alloc::AllocError;
+
+/// A place between stops: how many stops are ahead of it, and how many words they have.
+#[derive(Clone, Copy, Debug)]
+pub(crate) struct Place {
+    pub(crate) stops: usize,
+    pub(crate) words: usize,
+}
+
+impl Place {
+    /// The place ahead of all stops.
+    pub(crate) const START: Place = Place { stops: 0, words: 0 };
+
+    /// The place behind a stop that stands at this one.
+    fn behind(self, stop: Stop) -> Place
+        requires stops { self.stops + 1 < 2 ^ 64 }
+        requires words { self.words + stop.count < 2 ^ 64 }
+        ensures { result ≡ record { stops = self.stops + 1; words = self.words + stop.count } }
+    {
+        Place {
+            stops: self.stops + 1,
+            words: self.words + stop.count() as usize,
+        }
+    }
+
+    /// The place ahead of the stop that this one is behind.
+    fn ahead_of(self, stop: Stop) -> Place
+        requires stops { 0 < self.stops }
+        requires words { stop.count ≤ self.words }
+        ensures { result ≡ record { stops = self.stops - 1; words = self.words - stop.count } }
+    {
+        Place {
+            stops: self.stops - 1,
+            words: self.words - stop.count() as usize,
+        }
+    }
+}
+
+/// The place behind all stops.
+pub(crate) fn end_of<T>(stops: &Vec<Stop>, words: &Vec<T>) -> Place
+    ensures { result ≡ end_of stops.now.items words.now.items }
+{
+    Place {
+        stops: stops.len(),
+        words: words.len(),
+    }
+}
+
+/// The first place between two from which on no stop is before a time, sought from the first of them.
+pub(crate) fn first_since(stops: &[Stop], from: Place, to: Place, time: u64) -> Place
+    requires span { IsSpan stops.now from to }
+    requires fits { total stops.now < 2 ^ 64 }
+    requires rising { Climbs 0 (between from.stops to.stops stops.now) }
+    ensures { IsParted time stops.now from to result }
+{
+    let mut place = from;
+    while place.stops < to.stops {
+        let stop = stops[place.stops];
+        if stop.time() >= time {
+            return place;
+        }
+        place = place.behind(stop);
+    }
+    place
+}
+
+/// The same, sought from the last of them.
+pub(crate) fn last_before(stops: &[Stop], from: Place, to: Place, time: u64) -> Place
+    requires span { IsSpan stops.now from to }
+    requires rising { Climbs 0 (between from.stops to.stops stops.now) }
+    ensures { IsParted time stops.now from to result }
+{
+    let mut place = to;
+    while place.stops > from.stops {
+        let stop = stops[place.stops - 1];
+        if stop.time() < time {
+            return place;
+        }
+        place = place.ahead_of(stop);
+    }
+    place
+}
+
+/// Counts one word more at a time: in the last stop, where that is at the time, has room and isn't among the first few.
+pub(crate) fn count_one(stops: &mut Vec<Stop>, fixed: usize, time: u64) -> Result<(), AllocError>
+    requires { time < TIMES }
+    ensures ok { OnOk result (HaveOneMore fixed time stops.old.items stops.new.items) }
+    ensures err { OnErr result (stops.new.items ≡ stops.old.items) }
+{
+    let len = stops.len();
+    if len > fixed {
+        let last = stops[len - 1];
+        if last.time() == time && last.has_room() {
+            stops[len - 1] = last.one_more();
+            return Ok(());
+        }
+    }
+    stops.push(Stop::one(time))?;
+    Ok(())
+}
+
+/// Counts one word more, and appends it.
+pub(crate) fn append<T>(
+    stops: &mut Vec<Stop>,
+    words: &mut Vec<T>,
+    fixed: usize,
+    time: u64,
+    word: T,
+) -> Result<(), AllocError>
+where
+    T: Copy,
+    requires { time < TIMES }
+    ensures stops { OnOk result (HaveOneMore fixed time stops.old.items stops.new.items) }
+    ensures words { OnOk result (words.new.items ≡ words.old.items ++ word ∷ []) }
+    ensures stops_err { OnErr result (stops.new.items ≡ stops.old.items) }
+    ensures words_err { OnErr result (words.new.items ≡ words.old.items) }
+{
+    words.reserve(1)?;
+    count_one(stops, fixed, time)?;
+    words.push_reserved(word);
+    Ok(())
+}
+
+/// The items from one place up to another.
+pub(crate) fn part<T>(items: &[T], from: usize, to: usize) -> &[T]
+    requires order { from ≤ to }
+    requires within { to ≤ length items.now }
+    ensures { result.now ≡ between from to items.now }
+{
+    &items[from..to]
+}
+
+/// Drops the first few items.
+pub(crate) fn drop_front<T: Copy>(items: &mut Vec<T>, count: usize)
+    requires { count ≤ length items.old.items }
+    ensures { items.new.items ≡ drop count items.old.items }
+{
+    let left = items.len() - count;
+    items.copy_within(count.., 0);
+    items.truncate(left);
+}

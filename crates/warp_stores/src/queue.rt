@@ -1,0 +1,187 @@
+//! Words in the order in which they came, and a head that reads them.
+ghost use Rattle.std.specs.Prelude.{◌≡◌, ◌≤◌, ◌<◌, ◌+◌, ◌++◌, ◌∷◌, [], OnOk, OnErr, length, nat_lt};
+ghost use Rattle.warp_stores.specs.Dated.{before, since, undated, first_time, last_time, standing, Rises};
+
+use crate::place::{Place, append, drop_front, end_of, first_since, last_before, part};
+use crate::stop::{Stop, TIMES};
+use std::alloc::{AllocError, Global};
+use std::marker::Model;
+
+/// How many dead words a queue may keep after it forgets, besides as many as stand.
+pub const MOST_DEAD: usize = 4096;
+
+/// Words at times that never fall. A head parts those that were read from those ahead. The end can be cut, the head can
+/// be put back, and what was read can be forgotten.
+#[derive(Debug, Drop)]
+pub struct Queue<T> {
+    stops: Vec<Stop>,
+    words: Vec<T>,
+    dead: Place,
+    read: Place,
+}
+
+impl<T> Model for Queue<T> {
+    ghost use Rattle.warp_stores.specs.Dated.{Line};
+
+    ghost Value = { Line T };
+
+    ghost use Rattle.warp_stores.specs.Inner.Stops.{IsQueue, line_of};
+
+    ghost view = { λ q. line_of q.stops.items q.words.items q.dead q.read };
+
+    ghost invariant = { λ q. IsQueue q.stops.items q.words.items q.dead q.read };
+}
+
+impl<T: Copy> Queue<T> {
+    /// No word.
+    pub fn new(alloc: Global) -> Queue<T>
+        ensures { result ≡ record { dead = 0; read = []; ahead = [] } }
+    {
+        Queue {
+            stops: Vec::new(alloc),
+            words: Vec::new(alloc),
+            dead: Place::START,
+            read: Place::START,
+        }
+    }
+
+    /// What is true of all queues.
+    pub fn law(&self)
+        ensures { Rises (standing self.now) }
+    {
+        let _ = &self.words;
+    }
+
+    /// Appends a word at a time. An error is a refused growth; then all stays.
+    pub fn append(&mut self, time: u64, word: T) -> Result<(), AllocError>
+        requires time { time < TIMES }
+        requires order { last_time (standing self.old) ≤ time }
+        ensures ok { OnOk result (self.new ≡ record self.old { ahead = self.old.ahead ++ (time, word) ∷ [] }) }
+        ensures err { OnErr result (self.new ≡ self.old) }
+    {
+        append(
+            &mut self.stops,
+            &mut self.words,
+            self.read.stops,
+            time,
+            word,
+        )
+    }
+
+    /// The time of the first word ahead.
+    pub fn head(&self) -> Option<u64>
+        ensures { result ≡ first_time self.now.ahead }
+    {
+        if self.read.stops == self.stops.len() {
+            return None;
+        }
+        Some(self.stops[self.read.stops].time())
+    }
+
+    /// The time of the last word, 0 where there is none.
+    pub fn last_time(&self) -> u64
+        ensures { result ≡ last_time (standing self.now) }
+    {
+        if self.stops.len() == self.dead.stops {
+            return 0;
+        }
+        self.stops[self.stops.len() - 1].time()
+    }
+
+    /// The words ahead that are before a time.
+    pub fn ahead_before(&self, time: u64) -> &[T]
+        ensures { result.now ≡ undated (before time self.now.ahead) }
+    {
+        let end = end_of(&self.stops, &self.words);
+        let to = first_since(self.stops.as_slice(), self.read, end, time);
+        part(self.words.as_slice(), self.read.words, to.words)
+    }
+
+    /// Reads the words ahead that are before a time.
+    pub fn read_before(&mut self, time: u64)
+        ensures dead { self.new.dead ≡ self.old.dead }
+        ensures read { self.new.read ≡ self.old.read ++ before time self.old.ahead }
+        ensures ahead { self.new.ahead ≡ since time self.old.ahead }
+    {
+        let end = end_of(&self.stops, &self.words);
+        let read = first_since(self.stops.as_slice(), self.read, end, time);
+        self.read = read;
+    }
+
+    /// Puts back the words that were read and aren't before a time.
+    pub fn put_back(&mut self, time: u64)
+        ensures dead { self.new.dead ≡ self.old.dead }
+        ensures read { self.new.read ≡ before time self.old.read }
+        ensures ahead { self.new.ahead ≡ since time self.old.read ++ self.old.ahead }
+    {
+        let read = last_before(self.stops.as_slice(), self.dead, self.read, time);
+        self.read = read;
+    }
+
+    /// The words that aren't before a time.
+    pub fn since(&self, time: u64) -> &[T]
+        ensures { result.now ≡ undated (since time (standing self.now)) }
+    {
+        let end = end_of(&self.stops, &self.words);
+        let from = last_before(self.stops.as_slice(), self.dead, end, time);
+        part(self.words.as_slice(), from.words, end.words)
+    }
+
+    /// Cuts off the words that aren't before a time.
+    pub fn cut_from(&mut self, time: u64)
+        ensures dead { self.new.dead ≡ self.old.dead }
+        ensures read { self.new.read ≡ before time self.old.read }
+        ensures ahead { self.new.ahead ≡ before time self.old.ahead }
+    {
+        let end = end_of(&self.stops, &self.words);
+        let kept = last_before(self.stops.as_slice(), self.dead, end, time);
+        self.stops.truncate(kept.stops);
+        self.words.truncate(kept.words);
+        if kept.stops < self.read.stops {
+            self.read = kept;
+        }
+    }
+
+    /// Forgets the words that were read and are before a time.
+    pub fn forget_below(&mut self, time: u64)
+        ensures read { self.new.read ≡ since time self.old.read }
+        ensures ahead { self.new.ahead ≡ self.old.ahead }
+        ensures dead { self.new.dead ≤ length (standing self.new) + MOST_DEAD }
+    {
+        self.bury(time);
+        if self.has_many_dead() {
+            self.free_dead();
+        }
+    }
+
+    /// Counts among the dead the words that were read and are before a time.
+    fn bury(&mut self, time: u64)
+        ensures read { self.new.read ≡ since time self.old.read }
+        ensures ahead { self.new.ahead ≡ self.old.ahead }
+    {
+        let dead = first_since(self.stops.as_slice(), self.dead, self.read, time);
+        self.dead = dead;
+    }
+
+    /// Whether more are dead than may be.
+    fn has_many_dead(&self) -> bool
+        ensures { result ≡ nat_lt (length (standing self.now) + MOST_DEAD) self.now.dead }
+    {
+        let dead = self.dead.words;
+        dead.saturating_sub(MOST_DEAD) > self.words.len() - dead
+    }
+
+    /// Gives up the room of the dead.
+    fn free_dead(&mut self)
+        ensures { self.new ≡ record self.old { dead = 0 } }
+    {
+        let dead = self.dead;
+        drop_front(&mut self.stops, dead.stops);
+        drop_front(&mut self.words, dead.words);
+        self.read = Place {
+            stops: self.read.stops - dead.stops,
+            words: self.read.words - dead.words,
+        };
+        self.dead = Place::START;
+    }
+}
