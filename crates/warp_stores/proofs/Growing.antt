@@ -1,13 +1,11 @@
 -- Stops that count one word more, and what they tell.
-use Rattle.std.proofs.Common.{◌≡◌, ℕ, zero, suc, ◌+◌, ◌-◌, ◌<◌, ◌≤◌, ◌⊎◌, inl, inr, List, [], ◌∷◌, ◌++◌, length, get_or, set, take, drop, map, refl, ap, sym, ◌∙◌, subst, arith, append_assoc, length-append, length-drop}
-use Rattle.std.specs.List.{All, between}
-use Rattle.std.proofs.lemmas.List.Elements.{All-cons, All-head, All-tail, All-push, All-take}
-use Rattle.std.proofs.lemmas.List.{take-append-drop, take_more, take-append-le, drop-append-le, take_all, drop_all, append-nil, map-append, set_split, length_push, length-take-le, take-take, length-set}
-use Rattle.warp_stores.specs.declared.place.Place.{Place}
+use Rattle.std.proofs.Common.{◌≡◌, ℕ, suc, ◌+◌, ◌-◌, ◌<◌, ◌≤◌, ◌⊎◌, inl, inr, List, [], ◌∷◌, ◌++◌, length, take, drop, map, refl, ap, sym, ◌∙◌, subst, arith, append_assoc, length-append, length-drop}
+use Rattle.std.proofs.lemmas.List.Elements.{All-head, All-tail, All-push}
+use Rattle.std.proofs.lemmas.List.{take-append-drop, take_more, take-append-le, drop-append-le, take_all, drop_all, append-nil, map-append, set_split, length_push, length-take-le}
 use Rattle.warp_stores.specs.Dated.{Dated, last_from, RisesFrom}
 use Rattle.warp_stores.specs.Inner.StopBits.{Tally}
-use Rattle.warp_stores.specs.Inner.Stops.{total, dated, Climbs, AreFull, IsPlace, IsSpan, IsJoined, HaveOneMore}
-use Rattle.warp_stores.proofs.Parts.{between-take, All-left}
+use Rattle.warp_stores.specs.Inner.Stops.{total, dated, Climbs, AreFull, IsJoined, HaveOneMore}
+use Rattle.warp_stores.proofs.Parts.{All-left}
 use Rattle.warp_stores.proofs.Stops.{total-append}
 use Rattle.warp_stores.proofs.Telling.{dated-append}
 
@@ -50,29 +48,24 @@ growth_of fixed time ss ss' f h =
 one_stop : {T : Type 0} (time count : ℕ) (ws : List T) → length ws ≡ count → dated (record { time = time; count = count } ∷ []) ws ≡ map (λ w. (time, w)) ws
 one_stop time count ws h = rw (take_all count ws (omega arith)) (append-nil (map (λ w. (time, w)) ws))
 
+-- the last stop tells the last words
+dated-last : {T : Type 0} (front : List Tally) (time count : ℕ) (ws : List T) → total front + count ≡ length ws → dated (front ++ record { time = time; count = count } ∷ []) ws ≡ dated front (take (total front) ws) ++ map (λ w. (time, w)) (drop (total front) ws)
+dated-last {T} front time count ws h =
+    let first : total front ≡ length (take (total front) ws) = sym (length-take-le (total front) ws (omega arith)) in
+    let many : length (drop (total front) ws) ≡ count = omega (arith, length-drop (total front) ws) in
+    ap (λ (xs : List T). dated (front ++ record { time = time; count = count } ∷ []) xs) (sym (take-append-drop (total front) ws))
+    ∙ dated-append front (record { time = time; count = count } ∷ []) (take (total front) ws) (drop (total front) ws) first
+    ∙ ap (λ (xs : List (Dated T)). dated front (take (total front) ws) ++ xs) (one_stop time count (drop (total front) ws) many)
+
 -- one word more in the last stop is told last
 pub dated-more : {T : Type 0} (front : List Tally) (time count : ℕ) (ws : List T) (w : T) → total front + count ≡ length ws → dated (front ++ record { time = time; count = count + 1 } ∷ []) (ws ++ w ∷ []) ≡ dated (front ++ record { time = time; count = count } ∷ []) ws ++ (time, w) ∷ []
 dated-more {T} front time count ws w h =
-    let n : ℕ = total front in
-    let us : List T = take (total front) ws in
-    let vs : List T = drop (total front) ws in
-    let parts : ws ≡ take (total front) ws ++ drop (total front) ws = sym (take-append-drop (total front) ws) in
-    let first : total front ≡ length (take (total front) ws) = sym (length-take-le (total front) ws (omega arith)) in
-    let many : length (drop (total front) ws) ≡ count = omega (arith, length-drop (total front) ws) in
-    let many' : length (drop (total front) ws ++ w ∷ []) ≡ count + 1 = length_push (drop (total front) ws) w ∙ ap (λ (k : ℕ). k + 1) many in
-    let left : dated (front ++ record { time = time; count = count + 1 } ∷ []) (ws ++ w ∷ []) ≡ dated front (take (total front) ws) ++ map (λ x. (time, x)) (drop (total front) ws ++ w ∷ []) =
-    ap (λ (xs : List T). dated (front ++ record { time = time; count = count + 1 } ∷ []) (xs ++ w ∷ [])) parts
-    ∙ ap (λ (xs : List T). dated (front ++ record { time = time; count = count + 1 } ∷ []) xs) (append_assoc (take (total front) ws) (drop (total front) ws) (w ∷ []))
-    ∙ dated-append front (record { time = time; count = count + 1 } ∷ []) (take (total front) ws) (drop (total front) ws ++ w ∷ []) first
-    ∙ ap (λ (xs : List (Dated T)). dated front (take (total front) ws) ++ xs) (one_stop time (count + 1) (drop (total front) ws ++ w ∷ []) many') in
-    let right : dated (front ++ record { time = time; count = count } ∷ []) ws ≡ dated front (take (total front) ws) ++ map (λ x. (time, x)) (drop (total front) ws) =
-    ap (λ (xs : List T). dated (front ++ record { time = time; count = count } ∷ []) xs) parts
-    ∙ dated-append front (record { time = time; count = count } ∷ []) (take (total front) ws) (drop (total front) ws) first
-    ∙ ap (λ (xs : List (Dated T)). dated front (take (total front) ws) ++ xs) (one_stop time count (drop (total front) ws) many) in
-    left
-    ∙ rw (map-append {B = Dated T} (λ x. (time, x)) (drop (total front) ws) (w ∷ []))
+    let within : total front ≤ length ws = omega arith in
+    let more : total front + (count + 1) ≡ length (ws ++ w ∷ []) = omega (arith, length_push ws w) in
+    dated-last front time (count + 1) (ws ++ w ∷ []) more
+    ∙ rw (take-append-le (total front) ws (w ∷ []) within, drop-append-le (total front) ws (w ∷ []) within, map-append {B = Dated T} (λ x. (time, x)) (drop (total front) ws) (w ∷ []))
     (sym (append_assoc (dated front (take (total front) ws)) (map (λ x. (time, x)) (drop (total front) ws)) ((time, w) ∷ []))
-    ∙ ap (λ (xs : List (Dated T)). xs ++ (time, w) ∷ []) (sym right))
+    ∙ ap (λ (xs : List (Dated T)). xs ++ (time, w) ∷ []) (sym (dated-last front time count ws h)))
 
 -- a stop of no words tells nothing
 dated-empty : {T : Type 0} (front : List Tally) (time : ℕ) (ws : List T) → total front ≡ length ws → dated (front ++ record { time = time; count = 0 } ∷ []) ws ≡ dated front ws
@@ -190,17 +183,16 @@ last_from-append : {T : Type 0} (low : ℕ) (a b : List (Dated T)) → last_from
 last_from-append low [] b = refl
 last_from-append low (d ∷ a) b = last_from-append d.0 a b
 
+last_from-once : {T : Type 0} (low time : ℕ) (us : List T) → 0 < length us → last_from low (map (λ w. (time, w)) us) ≡ time
+last_from-once low time [] h = absurd (omega arith)
+last_from-once low time (u ∷ []) h = refl
+last_from-once low time (u ∷ v ∷ us) h = last_from-once time time (v ∷ us) (omega arith)
+
 -- what is told last is told by the last stop
 pub last_from-dated : {T : Type 0} (low : ℕ) (front : List Tally) (s : Tally) (ws : List T) → 0 < s.count → total (front ++ s ∷ []) ≡ length ws → last_from low (dated (front ++ s ∷ []) ws) ≡ s.time
 last_from-dated {T} low front s ws some whole =
     let sum : total front + (s.count + 0) ≡ length ws = sym (total-append front (s ∷ [])) ∙ whole in
-    let first : total front ≡ length (take (total front) ws) = sym (length-take-le (total front) ws (omega arith)) in
-    let many : length (drop (total front) ws) ≡ s.count = omega (arith, length-drop (total front) ws) in
-    let told : dated (front ++ s ∷ []) ws ≡ dated front (take (total front) ws) ++ map (λ w. (s.time, w)) (drop (total front) ws) =
-    ap (λ (xs : List T). dated (front ++ s ∷ []) xs) (sym (take-append-drop (total front) ws))
-    ∙ dated-append front (s ∷ []) (take (total front) ws) (drop (total front) ws) first
-    ∙ ap (λ (xs : List (Dated T)). dated front (take (total front) ws) ++ xs) (one_stop s.time s.count (drop (total front) ws) many) in
-    let alone : last_from (last_from low (dated front (take (total front) ws))) (map (λ w. (s.time, w)) (drop (total front) ws)) ≡ s.time =
-    ap (last_from (last_from low (dated front (take (total front) ws)))) (sym (append-nil (map (λ w. (s.time, w)) (drop (total front) ws))))
-    ∙ last_from-at_once (last_from low (dated front (take (total front) ws))) s.time (drop (total front) ws) [] (omega arith) in
-    ap (last_from low) told ∙ last_from-append low (dated front (take (total front) ws)) (map (λ w. (s.time, w)) (drop (total front) ws)) ∙ alone
+    let many : 0 < length (drop (total front) ws) = omega (arith, length-drop (total front) ws) in
+    ap (last_from low) (dated-last front s.time s.count ws (omega arith))
+    ∙ last_from-append low (dated front (take (total front) ws)) (map (λ w. (s.time, w)) (drop (total front) ws))
+    ∙ last_from-once (last_from low (dated front (take (total front) ws))) s.time (drop (total front) ws) many

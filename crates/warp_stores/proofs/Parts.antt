@@ -1,10 +1,9 @@
 -- Parts of lists.
-use Rattle.std.proofs.Common.{◌≡◌, ℕ, zero, suc, ◌+◌, ◌-◌, ◌<◌, ◌≤◌, min, List, [], ◌∷◌, ◌++◌, length, get_or, take, drop, refl, ap, sym, ◌∙◌, subst, arith, append_assoc, length-append, length-drop}
+use Rattle.std.proofs.Common.{◌≡◌, ℕ, ◌+◌, ◌-◌, ◌<◌, ◌≤◌, List, [], ◌∷◌, ◌++◌, length, get_or, take, drop, refl, ap, sym, ◌∙◌, subst, arith, length-append}
 use Rattle.std.specs.List.{All, between}
-use Rattle.std.proofs.lemmas.List.{take-append-drop, take-take, take-append-le, drop-append-le, length-take, length-take-le, take_all, drop_all, take_at, drop_at, append-nil, get_or_append_left, get_or-append-add, drop-drop}
-use Rattle.std.proofs.lemmas.Slice.{between_is, between_to_end, between_from_start}
-use Rattle.std.proofs.lemmas.List.Edits.{between_none, between_more, length-between, get_or-between}
-use Rattle.std.proofs.lemmas.Grind.{common_steps}
+use Rattle.std.proofs.lemmas.List.{take-append-drop, take-take, drop-append-le, length-take-le, get_or_append_left, get_or-append-add, drop-drop}
+use Rattle.std.proofs.lemmas.Slice.{between_is, between_to_end}
+use Rattle.std.proofs.lemmas.List.Edits.{between_none, between_more}
 
 -- what is ahead of a place, and then what is up to another
 pub take_between : {X : Type 0} (xs : List X) (i j : ℕ) → i ≤ j → take j xs ≡ take i xs ++ between i j xs

@@ -1,17 +1,17 @@
 -- What the calls of a queue leave.
-use Rattle.std.proofs.Common.{◌≡◌, ℕ, zero, suc, ◌+◌, ◌-◌, ◌<◌, ◌≤◌, ◌⊎◌, inl, inr, Option, Some, None, Result, Ok, Err, List, [], ◌∷◌, ◌++◌, length, get_or, take, drop, map, refl, ap, sym, ◌∙◌, subst, arith, nat_lt, append_assoc, length-append, length-drop}
-use Rattle.std.specs.List.{All, between}
+use Rattle.std.proofs.Common.{◌≡◌, ℕ, ◌+◌, ◌-◌, ◌<◌, ◌≤◌, Some, Result, Ok, Err, List, [], ◌∷◌, ◌++◌, length, get_or, take, drop, map, refl, ap, sym, ◌∙◌, subst, arith, nat_lt, length-drop}
+use Rattle.std.specs.List.{between}
 use Rattle.std.specs.Result.{OnOk, OnErr}
 use Rattle.std.proofs.lemmas.List.Elements.{All-take, All-drop}
-use Rattle.std.proofs.lemmas.List.{take-take, take_all, take-append-le, drop-append-le, length-take-le, append-nil, length_push}
-use Rattle.std.proofs.lemmas.List.Edits.{between_none, between_more}
+use Rattle.std.proofs.lemmas.List.{take-take, take-append-le, drop-append-le, length-take-le, length_push}
+use Rattle.std.proofs.lemmas.List.Edits.{between_more}
 use Rattle.std.proofs.lemmas.Grind.{common_steps}
 use Rattle.warp_stores.specs.declared.place.Place.{Place}
 use Rattle.warp_stores.specs.Dated.{Dated, Line, before, since, undated, standing, first_time, last_time, Rises}
 use Rattle.warp_stores.specs.Inner.StopBits.{Tally}
-use Rattle.warp_stores.specs.Inner.Stops.{total, dated, AreSince, AreBefore, AreFull, Climbs, told, IsPlace, IsSpan, IsParted, HaveOneMore, end_of, IsQueue, line_of}
-use Rattle.warp_stores.proofs.Parts.{between_append, between-take, between-drop, between_end, between_cons, All-between}
-use Rattle.warp_stores.proofs.Stops.{total-append, total-between, total-take, Climbs-append, Climbs-behind}
+use Rattle.warp_stores.specs.Inner.Stops.{total, dated, AreSince, AreBefore, Climbs, told, IsPlace, IsSpan, IsParted, HaveOneMore, end_of, IsQueue, line_of}
+use Rattle.warp_stores.proofs.Parts.{between_append, between-take, between_end, between_cons, All-between}
+use Rattle.warp_stores.proofs.Stops.{Climbs-append, Climbs-behind}
 use Rattle.warp_stores.proofs.Telling.{told-append, before-told, since-told, undated-told, length-told, length-span, total-span, told-none, told-take, told-drop, IsPlace-end, before-all, before-none}
 use Rattle.warp_stores.proofs.Growing.{Growth, growth_of, dated-growth, total-growth, take-growth, drop-growth, length-growth, AreFull-growth, Climbs-growth, RisesFrom-dated, last_from-dated}
 

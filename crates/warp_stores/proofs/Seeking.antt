@@ -1,6 +1,6 @@
 -- Seeking the place that parts stops at a time.
-use Rattle.std.proofs.Common.{◌≡◌, ℕ, ◌+◌, ◌-◌, ◌<◌, ◌≤◌, List, [], length, get_or, take, refl, ap, sym, ◌∙◌, subst, arith}
-use Rattle.std.specs.List.{All, between}
+use Rattle.std.proofs.Common.{◌≡◌, ℕ, ◌+◌, ◌-◌, ◌<◌, ◌≤◌, List, length, get_or, take, ap, sym, subst, arith}
+use Rattle.std.specs.List.{between}
 use Rattle.std.proofs.lemmas.List.Elements.{All-nil}
 use Rattle.std.proofs.lemmas.List.Edits.{between_none}
 use Rattle.warp_stores.specs.declared.place.Place.{Place}

@@ -1,13 +1,12 @@
 -- Stops and places between them.
-use Rattle.std.proofs.Common.{◌≡◌, ℕ, zero, suc, ◌+◌, ◌-◌, ◌*◌, ◌<◌, ◌≤◌, ◌⊎◌, inl, inr, List, [], ◌∷◌, ◌++◌, length, get_or, set, take, drop, refl, ap, sym, ◌∙◌, subst, arith, add_assoc, zero-add, append_assoc, length-append, length-drop}
+use Rattle.std.proofs.Common.{◌≡◌, ℕ, ◌+◌, ◌-◌, ◌<◌, ◌≤◌, List, [], ◌∷◌, ◌++◌, length, get_or, take, drop, refl, ap, sym, ◌∙◌, subst, arith, add_assoc, zero-add}
 use Rattle.std.specs.List.{All, between}
-use Rattle.std.proofs.lemmas.List.Elements.{All-nil, All-cons, All-head, All-tail, All-append, All-take, All-drop, All-push, All-weaker, All-get_or}
-use Rattle.std.proofs.lemmas.List.{take-append-drop, take_more, drop_more, take_all, get_or_default, append-nil, set_split, length_push, length-take-le}
-use Rattle.std.proofs.lemmas.List.Edits.{between_none, between_more, length-between}
-use Rattle.std.proofs.lemmas.Slice.{between_is, between_to_end, between_from_start}
+use Rattle.std.proofs.lemmas.List.Elements.{All-nil, All-cons, All-push, All-weaker}
+use Rattle.std.proofs.lemmas.List.{take-append-drop, take_more}
+use Rattle.std.proofs.lemmas.List.Edits.{between_more}
 use Rattle.warp_stores.specs.declared.place.Place.{Place}
 use Rattle.warp_stores.specs.Inner.StopBits.{Tally}
-use Rattle.warp_stores.specs.Inner.Stops.{total, AreSince, AreBefore, Climbs, AreFull, IsPlace, IsSpan, IsParted, IsJoined, HaveOneMore}
+use Rattle.warp_stores.specs.Inner.Stops.{total, AreSince, AreBefore, Climbs, IsPlace}
 use Rattle.warp_stores.proofs.Parts.{take_between, between_append, between_cons}
 
 pub total-append : (a b : List Tally) → total (a ++ b) ≡ total a + total b

@@ -1,9 +1,9 @@
 -- Tournaments.
-use Rattle.std.proofs.Common.{◌≡◌, ◌≢◌, ℕ, zero, suc, ◌+◌, ◌-◌, ◌*◌, ◌/◌, ◌<◌, ◌≤◌, ◌⊎◌, inl, inr, min, List, [], ◌∷◌, length, get_or, set, drop, refl, ap, sym, ◌∙◌, subst, arith, length-drop}
-use Rattle.std.proofs.lemmas.List.{get_or-drop, get_or-set_same, get_or-set_other, length-set}
+use Rattle.std.proofs.Common.{◌≡◌, ℕ, zero, suc, ◌+◌, ◌-◌, ◌*◌, ◌/◌, ◌<◌, ◌≤◌, ◌⊎◌, inl, inr, min, List, [], ◌∷◌, length, get_or, refl, ap, ◌∙◌, arith, length-drop}
+use Rattle.std.proofs.lemmas.List.{get_or-drop}
 use Rattle.warp_stores.specs.declared.least.TheConstants.{NEVER}
 use Rattle.warp_stores.specs.Least.{least_of}
-use Rattle.warp_stores.specs.Inner.Least.{leaves, IsWon, IsTournament, IsTournamentBut}
+use Rattle.warp_stores.specs.Inner.Least.{leaves, IsWon, IsTournament}
 
 -- what is at most each time is at most the least
 least_of-low : (m : ℕ) (ts : List ℕ) → m ≤ NEVER → ((k : ℕ) → k < length ts → m ≤ get_or ts k 0) → m ≤ least_of ts

@@ -44,7 +44,8 @@ impl Word {
 
     /// The place.
     pub fn place(self) -> u32
-        ensures { result ≡ self.place }
+        ensures place { result ≡ self.place }
+        ensures within { result < PLACES }
     {
         self.bits / (VALUES * VALUES)
     }

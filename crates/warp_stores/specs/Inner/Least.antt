@@ -1,5 +1,5 @@
 -- How times lie in a tournament.
-use Rattle.std.specs.Prelude.{◌≡◌, ◌≢◌, ℕ, ◌+◌, ◌*◌, ◌/◌, ◌<◌, ◌≤◌, List, length, drop, get_or, min}
+use Rattle.std.specs.Prelude.{◌≡◌, ◌≢◌, ℕ, ◌+◌, ◌*◌, ◌/◌, ◌<◌, List, length, drop, get_or, min}
 
 -- the times: the second half of the nodes
 abbrev pub leaves : List ℕ → List ℕ

@@ -1,5 +1,5 @@
 -- How a time and a count lie in the bits of a stop.
-use Rattle.std.specs.Prelude.{◌≡◌, ℕ, ◌+◌, ◌*◌, ◌/◌, ◌%◌, ◌^◌, refl}
+use Rattle.std.specs.Prelude.{◌≡◌, ℕ, ◌+◌, ◌*◌, ◌/◌, ◌%◌}
 use Rattle.std.proofs.Common.{arith, ap}
 use Rattle.warp_stores.specs.declared.stop.Stop.TheInside.{Inside}
 

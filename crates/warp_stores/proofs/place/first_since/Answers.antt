@@ -1,4 +1,4 @@
-use Rattle.std.proofs.Common.{ℕ, ◌+◌, ◌<◌, ◌≤◌, length, arith}
+use Rattle.std.proofs.Common.{◌≤◌, length, arith}
 use Rattle.warp_stores.proofs.Seeking.{words_fit, sought_more, parted_at}
 use Rattle.warp_stores.proofs.place.first_since.Goals as goal
 

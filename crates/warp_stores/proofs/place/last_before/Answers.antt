@@ -1,4 +1,4 @@
-use Rattle.std.proofs.Common.{ℕ, ◌+◌, ◌-◌, ◌<◌, ◌≤◌, length, arith}
+use Rattle.std.proofs.Common.{arith}
 use Rattle.warp_stores.proofs.Stops.{IsPlace-less}
 use Rattle.warp_stores.proofs.Seeking.{sought_back_more, parted_behind}
 use Rattle.warp_stores.proofs.place.last_before.Goals as goal

@@ -1,11 +1,7 @@
-use Rattle.std.proofs.Common.{◌≡◌, ◌∙◌, ℕ, ◌+◌, ◌-◌, ◌<◌, ◌≤◌, List, [], ◌∷◌, ◌++◌, length, get_or, take, drop, Some, refl, sym, ap, subst, arith}
-use Rattle.std.specs.List.{between}
-use Rattle.std.specs.Result.{OnOk, OnErr}
-use Rattle.warp_stores.specs.declared.place.Place.{Place}
-use Rattle.warp_stores.specs.Dated.{Line, before, since, undated, first_time, last_time, standing, Rises}
-use Rattle.warp_stores.specs.Inner.Stops.{told, end_of, line_of, Climbs, IsQueue, IsParted, IsSpan, HaveOneMore}
-use Rattle.warp_stores.proofs.Telling.{length-span, since-told}
-use Rattle.warp_stores.proofs.Queues.{ahead_span, live_span, climbs_read, climbs_ahead_of, Rises-standing, queue_read, line_read, queue_back, line_back, queue_forgot, ahead_part, since_part, length-standing, first_time-told, last_time-told, line_equal, on_either, on_ok_both, queue_cut, line_cut_behind, line_cut_ahead, queue_freed, line_freed, Grows, queue_grows}
+use Rattle.std.proofs.Common.{◌≤◌, sym, subst}
+use Rattle.warp_stores.specs.Dated.{Line, last_time, standing}
+use Rattle.warp_stores.specs.Inner.Stops.{line_of}
+use Rattle.warp_stores.proofs.Queues.{line_equal, on_either, on_ok_both, Grows, queue_grows}
 use Rattle.warp_stores.proofs.queue.Queue.append.Goals as goal
 
 pub invariant_of-self : goal.invariant_of-self
