@@ -1,7 +1,10 @@
 -- A new block is lawful.
-use Rattle.std.proofs.Common.{◌≡◌, ◌≢◌, ℕ, zero, suc, ◌+◌, ◌<◌, ◌≤◌, ◌++◌, Bool, true, false, cond, min, pred, List, [], ◌∷◌, map, length, get_or, inl, inr, refl, ap, sym, ◌∙◌, subst, arith, All}
+use Rattle.std.proofs.Common.{◌≡◌, ◌≢◌, ℕ, zero, suc, ◌+◌, ◌<◌, ◌≤◌, ◌++◌, Bool, true, false, cond, min, pred, List, [], ◌∷◌, map, length, get_or, take, add-one, inl, inr, refl, ap, sym, ◌∙◌, subst, arith, All}
 use Rattle.std.proofs.lemmas.Bool.{cond-false, true≢false, cases_lt, lt-ltb, le-ltb, ne_eqb}
-use Rattle.std.proofs.lemmas.List.{get_or-map, length-map}
+use Rattle.std.specs.List.{flat_map}
+use Rattle.std.proofs.lemmas.Grind.{flat_map-append}
+use Rattle.std.proofs.lemmas.List.{append-nil, get_or-map, length-map, take_more, take_all}
+use Rattle.std.proofs.lemmas.List.Concat.{flat_map-cons}
 use Rattle.std.proofs.lemmas.List.Elements.{All-nil, All-cons}
 use Rattle.gate_values.specs.declared.logic.Logic.{Logic}
 use Rattle.gate_values.specs.declared.logic.Logic.TheVariants.{X}
@@ -13,14 +16,14 @@ use Rattle.gate_values.specs.declared.logic.Change.{Change}
 use Rattle.gate_vcd.specs.Given.{Given, changes_of}
 use Rattle.warp_block.specs.Entries.{Received, no_messages, entry_in, IsQueue}
 use Rattle.warp_block.specs.Limits.{most_horizon}
-use Rattle.warp_block.specs.Portion.{Portion, at_slot, IsPortion, is_driven, is_input, owns, source_of}
+use Rattle.warp_block.specs.Portion.{Portion, at_slot, IsPortion, is_driven, is_input, owns, source_of, readers_of}
 use Rattle.warp_block.specs.View.{View, entry_of, effective_at}
 use Rattle.warp_block.specs.Lawful.{IsLawful, lawful_log}
 use Rattle.warp_block.specs.declared.message.Message.{Message}
 use Rattle.warp_block.specs.declared.message.Sign.TheVariants.{Plus}
 use Rattle.warp_block.specs.Sends.{SendsOnce}
-use Rattle.warp_block.specs.Inner.Step.{log_at, told}
-use Rattle.warp_block.specs.Opening.{message_of, silent_view, opening_view, opening_queue, initial_log}
+use Rattle.warp_block.specs.Inner.Step.{log_at, sent, told}
+use Rattle.warp_block.specs.Opening.{message_of, silent_view, opening_view, opening_queue, initial_log, first_messages, opening_messages}
 use Rattle.warp_block.proofs.Slots.{of_net-at, of_net-map}
 use Rattle.warp_block.proofs.Running.{given, delayed}
 use Rattle.warp_block.proofs.Views.{well_formed, timed}
@@ -134,3 +137,42 @@ module _ (p : Portion) (is : IsPortion p) (stimulus : Given) (horizon : ℕ) whe
   opening_told v e =
       subst (λ (w : View). IsLawful w → (before out : List Message) → out ≡ before ++ told Plus w.part (log_at w.logs) (length w.part.nets) →
       SendsOnce (silent_view p stimulus horizon) w Plus (λ t. t ≡ 0) before out) (sym e) opening_sends
+
+  -- a first value is told to each reader
+  told_one : (n : ℕ) (v : Logic) (readers : List ℕ) → flat_map (sent Plus n readers) (initial_log v) ≡ first_messages n v readers
+  told_one n v readers = go (same v X)
+    where
+      go : (b : Bool) → flat_map (sent Plus n readers) (cond b [] (record { time = 0; value = v } ∷ [])) ≡ cond b [] (sent Plus n readers (record { time = 0; value = v }))
+      go true = refl
+      go false = flat_map-cons (sent Plus n readers) (record { time = 0; value = v }) [] ∙ append-nil (sent Plus n readers (record { time = 0; value = v }))
+
+  abbrev first : ℕ → List Message
+  first n = first_messages n (initial_of (source_of p n)) (readers_of p n)
+
+  told_at : (i : ℕ) → i < length p.nets → flat_map (sent Plus (get_or p.nets i 0) (get_or p.readers i [])) (log_at (opening_view p stimulus horizon).logs i) ≡ first (get_or p.nets i 0)
+  told_at i h =
+      ap (flat_map (sent Plus (get_or p.nets i 0) (get_or p.readers i []))) (log_opens i h)
+      ∙ (told_one (get_or p.nets i 0) (initial_of (source_of p (get_or p.nets i 0))) (get_or p.readers i [])
+      ∙ ap (first_messages (get_or p.nets i 0) (initial_of (source_of p (get_or p.nets i 0)))) (sym (of_net-at p.nets p.readers [] i is.ascending h)))
+
+  -- net by net
+  told_first : (i : ℕ) → i ≤ length p.nets → told Plus p (log_at (opening_view p stimulus horizon).logs) i ≡ flat_map first (take i p.nets)
+  told_first zero h = refl
+  told_first (suc i) h =
+      let below : i < length p.nets = omega (arith, h) in
+      let before = told_first i (omega (arith, h)) in
+      let more : take (suc i) p.nets ≡ take i p.nets ++ get_or p.nets i 0 ∷ [] = (rw add-one at (take_more p.nets i 0 below)) in
+      let here = told_at i below in
+      let last : flat_map first (get_or p.nets i 0 ∷ []) ≡ first (get_or p.nets i 0) = flat_map-cons first (get_or p.nets i 0) [] ∙ append-nil (first (get_or p.nets i 0)) in
+      let both : flat_map first (take (suc i) p.nets) ≡ flat_map first (take i p.nets) ++ first (get_or p.nets i 0) = ap (flat_map first) more ∙ (flat_map-append first (take i p.nets) (get_or p.nets i 0 ∷ []) ∙ ap (λ (ms : List Message). flat_map first (take i p.nets) ++ ms) last) in
+      cc
+
+  opening_first : (before out : List Message) → out ≡ before ++ told Plus p (log_at (opening_view p stimulus horizon).logs) (length p.nets) → out ≡ before ++ opening_messages p
+  opening_first before out e =
+      e ∙ ap (λ (ms : List Message). before ++ ms) (told_first (length p.nets) (omega arith) ∙ ap (flat_map first) (take_all (length p.nets) p.nets (omega arith)))
+
+  -- what a new block tells, by net and reader
+  pub opening_sent : (v : View) → v ≡ opening_view p stimulus horizon → (before out : List Message) →
+      out ≡ before ++ told Plus v.part (log_at v.logs) (length v.part.nets) → out ≡ before ++ opening_messages p
+  opening_sent v e =
+      subst (λ (w : View). (before out : List Message) → out ≡ before ++ told Plus w.part (log_at w.logs) (length w.part.nets) → out ≡ before ++ opening_messages p) (sym e) opening_first

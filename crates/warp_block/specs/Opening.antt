@@ -1,5 +1,6 @@
 -- A block that has received nothing but the stimulus.
 use Rattle.std.specs.Prelude.{ℕ, ◌+◌, if◌then◌else◌, List, [], ◌∷◌, map}
+use Rattle.std.specs.List.{flat_map}
 use Rattle.gate_values.specs.declared.logic.Logic.{Logic}
 use Rattle.gate_values.specs.declared.logic.Logic.TheVariants.{X}
 use Rattle.gate_values.specs.declared.logic.Change.{Change}
@@ -7,7 +8,9 @@ use Rattle.gate_values.specs.Behaviour.{initial_of}
 use Rattle.gate_values.specs.Changes.{before_time, same}
 use Rattle.gate_vcd.specs.Given.{Given, changes_of}
 use Rattle.warp_block.specs.Entries.{Received, one_message}
-use Rattle.warp_block.specs.Portion.{Portion, is_input, source_of}
+use Rattle.warp_block.specs.declared.message.Message.{Message}
+use Rattle.warp_block.specs.declared.message.Sign.TheVariants.{Plus}
+use Rattle.warp_block.specs.Portion.{Portion, is_input, source_of, readers_of}
 use Rattle.warp_block.specs.View.{View}
 
 -- one message of the change stands
@@ -38,3 +41,11 @@ abbrev pub opening_view : Portion → Given → ℕ → View
 opening_view p stimulus horizon = record (silent_view p stimulus horizon) {
   logs = map (λ n. initial_log (initial_of (source_of p n))) p.nets;
 }
+
+-- the messages on the first value of a net to its readers, unless the value is unknown
+abbrev pub first_messages : ℕ → Logic → List ℕ → List Message
+first_messages n v readers = if same v X then [] else map (λ r. record { time = 0; block = r; net = n; value = v; sign = Plus }) readers
+
+-- what a new block sends: the known initial contents of its flip-flops, by net, then by reader
+abbrev pub opening_messages : Portion → List Message
+opening_messages p = flat_map (λ n. first_messages n (initial_of (source_of p n)) (readers_of p n)) p.nets

@@ -1,4 +1,4 @@
-ghost use Rattle.std.specs.Prelude.{◌≡◌, ◌≢◌, ◌+◌, ◌-◌, ◌≤◌, ◌<◌, ◌↔◌, ◌⊎◌, ℕ, false, vec_len, IsTrue, IfOk, IfErr, OnOk, OnErr, Some, None};
+ghost use Rattle.std.specs.Prelude.{◌≡◌, ◌≢◌, ◌+◌, ◌++◌, ◌-◌, ◌≤◌, ◌<◌, ◌↔◌, ◌⊎◌, ℕ, false, vec_len, IsTrue, IfOk, IfErr, OnOk, OnErr, Some, None};
 ghost use Rattle.std.specs.List.{All};
 ghost use Rattle.gate_vcd.specs.Waves.{lists_in, wave_of};
 ghost use Rattle.warp_block.specs.Limits.{most_horizon};
@@ -7,7 +7,7 @@ ghost use Rattle.warp_block.specs.declared.message.Sign.TheVariants.{Plus, Minus
 ghost use Rattle.warp_block.specs.Entries.{no_messages};
 ghost use Rattle.warp_block.specs.View.{IsLeast, IsEventTime, IsDone, entry_of, log_of};
 ghost use Rattle.warp_block.specs.Lawful.{IsLawful, IsLawfulProcess};
-ghost use Rattle.warp_block.specs.Opening.{silent_view, opening_view};
+ghost use Rattle.warp_block.specs.Opening.{silent_view, opening_view, opening_messages};
 ghost use Rattle.warp_block.specs.Receive.{refusal_of, IsRefusal, IsTaken};
 ghost use Rattle.warp_block.specs.Advance.{IsAdvanced, IsAfterEvent};
 ghost use Rattle.warp_block.specs.Commit.{IsCommittable, IsCommitted, IsCommitRefusal};
@@ -54,8 +54,8 @@ impl Model for Block {
 impl Block {
     /// A block that has received nothing but the stimulus's changes up to the horizon, which is at most
     /// [`MOST_HORIZON`](crate::MOST_HORIZON). Its mark and floor are 0. Each of its flip-flops whose initial content is
-    /// known has it from time 0 on: the messages on that go behind `out`. An error is a refused growth; after it nothing
-    /// is told.
+    /// known has it from time 0 on: the messages on that go behind `out`, by net, then by reader. An error is a refused
+    /// growth; after it nothing is told.
     pub fn new(
         alloc: Global,
         part: Part,
@@ -66,6 +66,7 @@ impl Block {
         requires { horizon ≤ most_horizon }
         ensures opening { IfOk result (λ block. block.seen ≡ opening_view part stimulus.now horizon) }
         ensures sends { IfOk result (λ block. SendsOnce (silent_view part stimulus.now horizon) block.seen Plus (λ t. t ≡ 0) out.old.items out.new.items) }
+        ensures told { OnOk result (out.new.items ≡ out.old.items ++ opening_messages part) }
         ensures untold { OnErr result (out.new.items ≡ out.old.items) }
     {
         let look = Look::new(alloc, part, stimulus, horizon)?;

@@ -9,7 +9,7 @@ use Rattle.warp_block.specs.Inner.Woken.{AreWoken}
 use Rattle.warp_block.specs.Inner.Index.{IsIndexed, IsNoted}
 use Rattle.warp_block.proofs.Opened.{IsNoted-new}
 use Rattle.warp_block.proofs.Starting.{begun}
-use Rattle.warp_block.proofs.Opening.{opening_told}
+use Rattle.warp_block.proofs.Opening.{opening_told, opening_sent}
 use Rattle.warp_block.proofs.block.Block.new.Goals as goal
 
 pub invariant_of-result : goal.invariant_of-result
@@ -30,3 +30,7 @@ invariant_of-result c =
 pub returns-clause-sends : goal.returns-clause-sends
 returns-clause-sends c =
     opening_told c.args.part (subst (λ (w : View). IsPortion w.part) c.in_ok-look.ensures c.law.ensures.part) c.args.stimulus.now c.args.horizon c.in_ok-look.look c.in_ok-look.ensures c.law.ensures c.args.out.now.items c.tell_logged.new.out.items c.in_ok-tell_logged.ensures.ok
+
+pub returns-clause-told : goal.returns-clause-told
+returns-clause-told c =
+    opening_sent c.args.part (subst (λ (w : View). IsPortion w.part) c.in_ok-look.ensures c.law.ensures.part) c.args.stimulus.now c.args.horizon c.in_ok-look.look c.in_ok-look.ensures c.args.out.now.items c.tell_logged.new.out.items c.in_ok-tell_logged.ensures.ok
