@@ -1,21 +1,22 @@
 -- A new world.
 use Rattle.std.proofs.Common.{◌≡◌, ◌≢◌, ℕ, pos, ◌+◌, ◌≤◌, ◌++◌, Bool, true, false, cond, not, is_some, Option, Some, None, List, [], ◌∷◌, get_or, inl, inr, refl, ap, sym, ◌∙◌, subst, arith}
-use Rattle.std.specs.List.{All}
+use Rattle.std.specs.List.{All, flat_map, range_with_len}
 use Rattle.std.proofs.lemmas.Bool.{cases_eq, cases_lt, and_parts}
 use Rattle.std.proofs.lemmas.Int.{ints}
-use Rattle.std.proofs.lemmas.List.{get_or_append_left, get_or_push, get_or_past, length_push}
+use Rattle.std.proofs.lemmas.List.{flat_map_more, get_or_append_left, get_or_push, get_or_past, length_push}
 use Rattle.std.proofs.lemmas.List.Elements.{All-append, All-same, All-nil, All-weaker}
 use Rattle.gate_values.specs.declared.logic.Logic.{Logic}
 use Rattle.gate_values.specs.declared.logic.Logic.TheVariants.{Zero, One, X, Z}
 use Rattle.gate_netlist.specs.Circuit.{Design, CutFits}
 use Rattle.gate_netlist.specs.Cut.{Ownership, owner_of}
+use Rattle.gate_netlist.proofs.Grouping.{range_more}
 use Rattle.gate_vcd.specs.Given.{Given, Fits}
 use Rattle.warp_block.specs.Limits.{most_horizon}
 use Rattle.warp_block.specs.declared.message.Message.{Message}
 use Rattle.warp_block.specs.declared.message.Sign.TheVariants.{Plus}
 use Rattle.warp_block.specs.Entries.{Received, number_of, no_messages, entry_in}
 use Rattle.warp_block.specs.Lawful.{IsLawful}
-use Rattle.warp_block.specs.Opening.{silent_view, opening_view, opening_queue}
+use Rattle.warp_block.specs.Opening.{silent_view, opening_view, opening_queue, opening_messages}
 use Rattle.warp_block.specs.PartOf.{part_of, part_nets}
 use Rattle.warp_block.specs.Portion.{slot_of, owns, reads, hears, is_input}
 use Rattle.warp_block.specs.Sends.{Place, SendsOnce}
@@ -39,13 +40,13 @@ module _ (d : Design) (cut : Ownership) (g : Given) (horizon : ℕ) where
     lawful = λ b l. absurd (omega (arith, l));
     account = λ p heard. (let none = nothing_logged p (owner_of cut p.net) in omega (arith, ints, none));
     flying = All-nil (IsFlying d cut horizon);
-    first = All-nil (λ (m : Message). (m.sign ≡ Plus) × (m.time ≡ 0));
+    told = refl;
   }
 
   -- one more block
   module _ (fits : CutFits d cut) (k : ℕ) (blocks : List Process) (block : Process) (before out : List Message) (is : AreOpened d cut g horizon k blocks before)
       (opening : block.seen ≡ opening_view (part_of d cut k) g horizon) (lawful : IsLawful block.seen)
-      (once : SendsOnce (silent_view (part_of d cut k) g horizon) block.seen Plus (λ t. t ≡ 0) before out) where
+      (once : SendsOnce (silent_view (part_of d cut k) g horizon) block.seen Plus (λ t. t ≡ 0) before out) (told : out ≡ before ++ opening_messages (part_of d cut k)) where
     others : (c : ℕ) → c ≢ k → get_or (blocks ++ block ∷ []) c no_process ≡ get_or blocks c no_process
     others c other = elim (cases_lt c k) [
       | inl below ↦ get_or_append_left blocks (block ∷ []) no_process c (let n = is.counted in omega (arith, n, below))
@@ -64,9 +65,6 @@ module _ (d : Design) (cut : Ownership) (g : Given) (horizon : ℕ) where
     silent : (n : ℕ) → log_of (silent_view (part_of d cut k) g horizon) n ≡ log_of (seen_at blocks k) n
     silent n = of_net-map (part_nets d cut k) (λ _. []) [] n (λ none. refl) ∙ ap (λ (p : Process). log_of p.seen n) (sym none_here)
 
-    sent_first : All (λ (m : Message). (m.sign ≡ Plus) × (m.time ≡ 0)) once.sends.sent
-    sent_first = λ i m l. ((once.signed i m l), (once.sends.named i m l).later)
-
     pub more_opened : AreOpened d cut g horizon (k + 1) (blocks ++ block ∷ []) out
     more_opened = record {
       counted = (let n = is.counted in let size = length_push blocks block in omega (arith, n, size));
@@ -82,8 +80,8 @@ module _ (d : Design) (cut : Ownership) (g : Given) (horizon : ℕ) where
           silent (λ n. ap (λ (p : Process). log_of p.seen n) (sym here)) (λ _. pos 0) (λ t. t ≡ 0) before out once.sends is.account;
       flying = All-same (IsFlying d cut horizon) out (before ++ once.sends.sent) once.sends.appended
           (All-append (IsFlying d cut horizon) before once.sends.sent is.flying (sent_flying d cut fits (silent_view (part_of d cut k) g horizon) k horizon (λ t. t ≡ 0) once.sends.sent refl refl once.sends.named));
-      first = All-same (λ (m : Message). (m.sign ≡ Plus) × (m.time ≡ 0)) out (before ++ once.sends.sent) once.sends.appended
-          (All-append (λ (m : Message). (m.sign ≡ Plus) × (m.time ≡ 0)) before once.sends.sent is.first sent_first);
+      told = told ∙ (ap (λ (ms : List Message). ms ++ opening_messages (part_of d cut k)) is.told
+          ∙ (flat_map_more (λ b. opening_messages (part_of d cut b)) [] (range_with_len 0 k) k ∙ ap (flat_map (λ b. opening_messages (part_of d cut b))) (sym (range_more k))));
     }
 
   none_number : (x : Logic) → number_of no_messages x ≡ pos 0
@@ -128,4 +126,4 @@ module _ (d : Design) (cut : Ownership) (g : Given) (horizon : ℕ) where
 
   pub new_world : (blocks : List Process) (flight : List Message) → AreOpened d cut g horizon cut.blocks blocks flight →
       IsNewWorld (record { circuit = d; cut = cut; stimulus = g; horizon = horizon; blocks = blocks; flight = flight })
-  new_world blocks flight is = record { blocks = is.opened; flight = is.first }
+  new_world blocks flight is = record { blocks = is.opened; flight = is.told }

@@ -1,15 +1,14 @@
 -- Blocks that play with each other, and what is in flight between them.
 use Rattle.std.specs.Prelude.{◌≡◌, ℕ, ℤ, pos, ◌+ℤ◌, ◌+◌, ◌<◌, ◌≤◌, ◌==◌, ◌⊎◌, IsTrue, if◌then◌else◌, Option, Some, None, List, length}
-use Rattle.std.specs.List.{All, list_any}
+use Rattle.std.specs.List.{All, list_any, flat_map, range_with_len}
 use Rattle.gate_netlist.specs.Circuit.{Design, CutFits}
 use Rattle.gate_netlist.specs.Cut.{Ownership, owner_of}
 use Rattle.gate_vcd.specs.Given.{Given, Fits}
 use Rattle.warp_block.specs.declared.message.Message.{Message}
-use Rattle.warp_block.specs.declared.message.Sign.TheVariants.{Plus}
 use Rattle.warp_block.specs.Entries.{number_of}
 use Rattle.warp_block.specs.Lawful.{IsLawful}
 use Rattle.warp_block.specs.Limits.{most_horizon}
-use Rattle.warp_block.specs.Opening.{opening_view}
+use Rattle.warp_block.specs.Opening.{opening_view, opening_messages}
 use Rattle.warp_block.specs.PartOf.{part_of}
 use Rattle.warp_block.specs.Portion.{hears, is_input}
 use Rattle.warp_block.specs.Sends.{Place, is_change, messages, antimessages}
@@ -93,10 +92,14 @@ pub record IsLawfulWorld (w : Scene) : Type 0 where
   pub flight : All (IsFlying w.circuit w.cut w.horizon) w.flight
   pub floors : EachBlock w.cut w.blocks (λ _ v. IsBefore w v.floor)
 
--- A new world: new blocks, and in flight what they sent, messages alone, at time 0.
+-- what is in flight at first: the known initial contents of flip-flops, by block, then by net, then by reader
+abbrev pub first_flight : Design → Ownership → List Message
+first_flight d cut = flat_map (λ b. opening_messages (part_of d cut b)) (range_with_len 0 cut.blocks)
+
+-- A new world: new blocks, and in flight what they sent, in the order of the blocks.
 pub record IsNewWorld (w : Scene) : Type 0 where
   pub blocks : EachBlock w.cut w.blocks (λ b v. v ≡ opening_view (part_of w.circuit w.cut b) w.stimulus w.horizon)
-  pub flight : All (λ m. (m.sign ≡ Plus) × (m.time ≡ 0)) w.flight
+  pub flight : w.flight ≡ first_flight w.circuit w.cut
 
 -- A new world of a circuit in a cut, under a stimulus, up to a horizon.
 pub record IsStart (d : Design) (cut : Ownership) (g : Given) (horizon : ℕ) (w : Scene) : Type 0 where

@@ -52,8 +52,9 @@ impl<'a> Model for World<'a> {
 }
 
 impl<'a> World<'a> {
-    /// New blocks, and in flight what they sent, in the order of the blocks. The cut and the stimulus fit the circuit;
-    /// the horizon is at most [`MOST_HORIZON`](warp_block::MOST_HORIZON). An error is a refused growth.
+    /// New blocks, and in flight what they sent: the known initial contents, by block, then by net, then by reader. The
+    /// cut and the stimulus fit the circuit; the horizon is at most [`MOST_HORIZON`](warp_block::MOST_HORIZON). An error
+    /// is a refused growth.
     pub fn new(
         alloc: Global,
         circuit: &'a Circuit,

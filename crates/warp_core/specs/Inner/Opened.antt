@@ -1,13 +1,12 @@
 -- The first blocks of a new world.
 use Rattle.std.specs.Prelude.{◌≡◌, ℕ, pos, ◌<◌, List, length}
-use Rattle.std.specs.List.{All}
+use Rattle.std.specs.List.{All, flat_map, range_with_len}
 use Rattle.gate_netlist.specs.Circuit.{Design}
 use Rattle.gate_netlist.specs.Cut.{Ownership}
 use Rattle.gate_vcd.specs.Given.{Given}
 use Rattle.warp_block.specs.declared.message.Message.{Message}
-use Rattle.warp_block.specs.declared.message.Sign.TheVariants.{Plus}
 use Rattle.warp_block.specs.Lawful.{IsLawful}
-use Rattle.warp_block.specs.Opening.{opening_view}
+use Rattle.warp_block.specs.Opening.{opening_view, opening_messages}
 use Rattle.warp_block.specs.PartOf.{part_of}
 use Rattle.warp_block.specs.View.{Process}
 use Rattle.warp_core.specs.Matched.{seen_at}
@@ -20,4 +19,4 @@ pub record AreOpened (d : Design) (cut : Ownership) (g : Given) (horizon count :
   pub lawful : (b : ℕ) → b < count → IsLawful (seen_at blocks b)
   pub account : AreAccounted d cut (λ _. pos 0) blocks flight
   pub flying : All (IsFlying d cut horizon) flight
-  pub first : All (λ m. (m.sign ≡ Plus) × (m.time ≡ 0)) flight
+  pub told : flight ≡ flat_map (λ b. opening_messages (part_of d cut b)) (range_with_len 0 count)
