@@ -1,5 +1,6 @@
 mod Counting
 mod Ends
+mod Faulting
 mod Pending
 mod Receiving
 mod Sharing
@@ -7,3 +8,4 @@ mod Steps
 mod Sums
 mod Timing
 mod Turning
+mod Working

@@ -1,4 +1,5 @@
 pub mod Faults
+pub mod Runs
 pub mod Seats
 pub mod Turn
 pub mod Visit

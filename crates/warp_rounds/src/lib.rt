@@ -11,8 +11,9 @@
 //!
 //! Times are whole numbers in units of the stimulus's timescale. The definitions stand in `specs/`: `Turn` says what a
 //! turn does to a block, what it reports, and what it has done where it meets a fault; `Visit` what is known of a turn under
-//! a lock; `Seats` what callers see of a round and of its seats; and in `specs/Inner/` `Fit` says how far the turns of visits
-//! go, and `Rule` the rule of a round's two shared words, and what each step does to a seat.
+//! a lock; `Runs` where each fault of a run comes from; `Seats` what callers see of a round and of its seats; and in
+//! `specs/Inner/` `Fit` says how far the turns of visits go, `Work` what workers have done, and `Rule` the rule of a
+//! round's two shared words, and what each step does to a seat.
 #![tactic(auto)]
 
 mod desk;

@@ -1,9 +1,13 @@
 //! A run of the blocks of a circuit, round by round.
-ghost use Rattle.std.specs.Prelude.{◌≡◌, ◌≤◌, ◌<◌, ◌^◌, IfOk, length, vec_len};
+ghost use Rattle.std.specs.Prelude.{◌≡◌, ◌≤◌, ◌<◌, ◌^◌, IfOk, IfErr, All, length, vec_len};
 ghost use Rattle.gate_netlist.specs.Circuit.{CutFits};
 ghost use Rattle.gate_vcd.specs.Given.{Fits};
 ghost use Rattle.warp_block.specs.Limits.{most_horizon};
+ghost use Rattle.warp_block.specs.Lawful.{IsLawfulProcess};
 ghost use Rattle.warp_core.specs.Values.{AreCircuitWaves};
+ghost use Rattle.warp_rounds.specs.declared.fault.RunFault.TheVariants as fault;
+ghost use Rattle.warp_rounds.specs.Runs.{IsRunFault};
+ghost use Rattle.warp_rounds.specs.Inner.Work.{IsRoundsFault};
 
 use crate::desk::Desk;
 use crate::fault::RunFault;
@@ -28,7 +32,8 @@ const LITTLE: u64 = 256;
 ///
 /// The floor starts at 0, and each round's least time becomes the next one's. When it is past the horizon the blocks are
 /// gathered. The answer of a run that ends without a fault is the waves of the circuit's values, whatever the threads
-/// did; that a run ends, and without a fault, is not promised.
+/// did; that a run ends, and without a fault, is not promised. Each fault tells where it comes from: want of memory is in no other
+/// one, and a block's and a stall are those of a visit at a floor up to the horizon.
 pub fn run<G: Gate + Sync, R: Threads + Wait + Sync>(
     rt: &R,
     alloc: Global,
@@ -45,7 +50,8 @@ pub fn run<G: Gate + Sync, R: Threads + Wait + Sync>(
     requires horizon { horizon ≤ most_horizon }
     requires workers { (1 ≤ workers) × (workers ≤ 64) }
     requires window { (1 ≤ window) × (window ≤ 1000000) }
-    ensures { IfOk result (AreCircuitWaves circuit.now stimulus.now horizon) }
+    ensures waves { IfOk result (AreCircuitWaves circuit.now stimulus.now horizon) }
+    ensures fault { IfErr result (IsRunFault circuit.now cut.now stimulus.now horizon workers window) }
 {
     let sites = sites_of(rt, alloc, circuit, cut, stimulus, horizon)?;
     play_rounds(rt, alloc, sites.as_slice(), horizon, workers, window, gate)?;
@@ -61,14 +67,15 @@ fn sites_of<R: Wait>(
     cut: &Cut,
     stimulus: &Stimulus,
     horizon: u64,
-) -> Result<Vec<Site>, AllocError>
+) -> Result<Vec<Site>, RunFault>
     requires cut { CutFits circuit.now cut.now }
     requires horizon { horizon ≤ most_horizon }
     ensures count { IfOk result (λ sites. vec_len sites ≡ cut.now.blocks) }
     ensures few { IfOk result (λ sites. vec_len sites ≤ 1024) }
+    ensures fault { IfErr result (λ f. f ≡ fault.Memory) }
 {
     let mut sites = Vec::new(alloc);
-    let mut desk = Desk::new(alloc, cut.blocks() as usize)?;
+    let mut desk = Desk::new(alloc);
     for number in 0..cut.blocks() {
         let part = Part::of(alloc, circuit, cut, number)?;
         let block = Block::new(alloc, part, stimulus, horizon, &mut desk.sent)?;
@@ -88,7 +95,10 @@ fn play_rounds<G: Gate + Sync, R: Threads + Wait + Sync>(
     window: u32,
     gate: &G,
 ) -> Result<(), RunFault>
-    requires { length sites.now < 2 ^ 32 }
+    requires blocks { length sites.now < 2 ^ 32 }
+    requires horizon { horizon ≤ most_horizon }
+    requires workers { 1 ≤ workers }
+    ensures { IfErr result (IsRoundsFault (length sites.now) horizon workers window) }
 {
     let all = workers.min(sites.len() as u32).max(1);
     let mut desks = Vec::new(alloc);
@@ -97,9 +107,6 @@ fn play_rounds<G: Gate + Sync, R: Threads + Wait + Sync>(
     while floor <= horizon {
         let seats = if load < LITTLE { 1 } else { all };
         let played = play_round(rt, alloc, sites, &mut desks, seats, floor, window, gate)?;
-        if played.least <= floor {
-            return Err(RunFault::Stalled { time: floor });
-        }
         floor = played.least;
         load = played.load;
     }
@@ -107,7 +114,10 @@ fn play_rounds<G: Gate + Sync, R: Threads + Wait + Sync>(
 }
 
 // The blocks, taken out of their sites.
-fn blocks_of(alloc: Global, sites: Vec<Site>) -> Result<Vec<Block>, AllocError> {
+fn blocks_of(alloc: Global, sites: Vec<Site>) -> Result<Vec<Block>, AllocError>
+    ensures count { IfOk result (λ blocks. vec_len blocks ≡ vec_len sites) }
+    ensures lawful { IfOk result (λ blocks. All IsLawfulProcess blocks.items) }
+{
     let mut blocks = Vec::new(alloc);
     for site in sites {
         blocks.push(site.into_block())?;

@@ -1,6 +1,11 @@
 //! One round of workers: each draws blocks until none is left, and lets each block that it drew take a turn.
-ghost use Rattle.std.specs.Prelude.{◌≡◌, ◌<◌, ◌^◌, IfOk, All, length};
-ghost use Rattle.warp_rounds.specs.Inner.Work.{IsOfRound, AreOfRound, AreSeatsOfRound};
+ghost use Rattle.std.specs.Prelude.{◌≡◌, ◌+◌, ◌<◌, ◌≤◌, ◌^◌, List, [], IfOk, IfErr, All, length, vec_len};
+ghost use Rattle.warp_block.specs.declared.message.Message.{Message};
+ghost use Rattle.warp_rounds.specs.Words.{never};
+ghost use Rattle.warp_rounds.specs.Seats.{empty_seat};
+ghost use Rattle.warp_rounds.specs.Visit.{IsVisit};
+ghost use Rattle.warp_rounds.specs.declared.fault.RunFault.TheVariants as fault;
+ghost use Rattle.warp_rounds.specs.Inner.Work.{IsReady, HasWorked, IsPlayedOut, IsPromised, IsWorkFault, IsStartFault, IsRoundFault};
 
 use crate::desk::Desk;
 use crate::fault::RunFault;
@@ -23,14 +28,18 @@ pub struct Worker {
     pub fault: Option<RunFault>,
 }
 
-/// A worker's promise that its seat stays one of the round that it was started for.
+/// A worker's promise that what it hands back is of the round that it was started for, and tells what it did there.
 #[derive(Clone, Copy)]
-struct OfRound<'a>(&'a Round);
+struct OfRound<'a> {
+    round: &'a Round,
+    floor: u64,
+    window: u32,
+}
 
 impl<'a> Promise<Worker> for OfRound<'a> {
-    ghost use Rattle.warp_rounds.specs.Inner.Work.{IsOfRound};
+    ghost use Rattle.warp_rounds.specs.Inner.Work.{HasWorked};
 
-    ghost kept_by = { λ promise worker. IsOfRound promise.0.now.round worker };
+    ghost kept_by = { λ promise worker. HasWorked promise.round.now.round promise.floor promise.window worker };
 }
 
 /// What a round tells.
@@ -44,9 +53,9 @@ pub struct Played {
 
 /// Plays a round: every block takes a turn at the floor, of up to `window` event times. So many workers let them, the
 /// first in the caller's thread and each other in one of its own. Their desks are taken from `desks`, as far as there
-/// are any, and put back.
+/// are any, and put back. The least time that is told is above the floor.
 ///
-/// The fault is that of a worker, or that a thread didn't start. Every thread has ended by then.
+/// The fault is that of a worker, or that a thread didn't start. Every thread has ended by then. Else the round stalled.
 pub fn play_round<G: Gate + Sync, R: Threads + Wait + Sync>(
     rt: &R,
     alloc: Global,
@@ -57,16 +66,20 @@ pub fn play_round<G: Gate + Sync, R: Threads + Wait + Sync>(
     window: u32,
     gate: &G,
 ) -> Result<Played, RunFault>
-    requires { length sites.now < 2 ^ 32 }
+    requires blocks { length sites.now < 2 ^ 32 }
+    requires workers { 1 ≤ workers }
+    requires floor { floor < never }
+    ensures later { IfOk result (λ played. floor < played.least) }
+    ensures fault { IfErr result (IsRoundFault (length sites.now) workers floor window) }
 {
     let (round, seats) = Round::new(alloc, sites.len() as u32, workers)?;
-    let workers = seated(alloc, seats, desks, sites.len())?;
-    let workers = work_all(rt, alloc, &round, sites, workers, floor, window, gate)?;
-    let load = load_of(workers.as_slice());
-    let seats = unseated(alloc, workers, desks)?;
+    let ready = seated(alloc, seats, desks)?;
+    let done = work_all(rt, alloc, &round, sites, ready, floor, window, gate)?;
+    let load = load_of(done.as_slice());
+    let seats = unseated(alloc, done, desks)?;
     match round.end(seats) {
-        Ok(least) => Ok(Played { least, load }),
-        Err(_) => Err(RunFault::Stalled { time: floor }),
+        Ok(least) if floor < least => Ok(Played { least, load }),
+        _ => Err(RunFault::Stalled { time: floor }),
     }
 }
 
@@ -75,16 +88,13 @@ fn seated(
     alloc: Global,
     seats: Vec<RoundSeat>,
     desks: &mut Vec<Desk>,
-    blocks: usize,
 ) -> Result<Vec<Worker>, AllocError>
-    ensures { IfOk result (λ workers. (r : _) → AreSeatsOfRound r seats.items → AreOfRound r workers.items) }
+    ensures count { IfOk result (λ workers. vec_len workers ≡ vec_len seats) }
+    ensures ready { IfOk result (λ workers. (r : _) → All (λ s. s ≡ empty_seat r) seats.items → All (IsReady r) workers.items) }
 {
     let mut workers = Vec::new(alloc);
     for seat in seats {
-        let desk = match desks.pop() {
-            Some(desk) => desk,
-            None => Desk::new(alloc, blocks)?,
-        };
+        let desk = desks.pop().unwrap_or(Desk::new(alloc));
         workers.reserve(1)?;
         workers.push_reserved(Worker {
             seat,
@@ -111,7 +121,9 @@ fn unseated(
     workers: Vec<Worker>,
     desks: &mut Vec<Desk>,
 ) -> Result<Vec<RoundSeat>, RunFault>
-    ensures { IfOk result (λ seats. (r : _) → AreOfRound r workers.items → AreSeatsOfRound r seats.items) }
+    ensures count { IfOk result (λ seats. vec_len seats ≡ vec_len workers) }
+    ensures played { IfOk result (λ seats. (r : _) (floor window : _) → All (HasWorked r floor window) workers.items → All (IsPlayedOut r floor window) seats.items) }
+    ensures fault { IfErr result (λ f. (r : _) (floor window : _) → All (HasWorked r floor window) workers.items → IsWorkFault r.blocks floor window f) }
 {
     let mut seats = Vec::new(alloc);
     for worker in workers {
@@ -142,9 +154,11 @@ fn work_all<G: Gate + Sync, R: Threads + Wait + Sync>(
     window: u32,
     gate: &G,
 ) -> Result<Vec<Worker>, RunFault>
-    requires workers { AreOfRound round.now.round workers.items }
+    requires workers { All (IsReady round.now.round) workers.items }
     requires blocks { round.now.round.blocks ≡ length sites.now }
-    ensures { IfOk result (λ done. AreOfRound round.now.round done.items) }
+    ensures count { IfOk result (λ done. vec_len done ≡ vec_len workers) }
+    ensures worked { IfOk result (λ done. All (HasWorked round.now.round floor window) done.items) }
+    ensures fault { IfErr result (IsStartFault (vec_len workers)) }
 {
     let mut others = workers;
     let Some(own) = others.pop() else {
@@ -154,17 +168,23 @@ fn work_all<G: Gate + Sync, R: Threads + Wait + Sync>(
         thread::scope_env(),
         rt,
         |scope| -> Result<Vec<Worker>, RunFault>
-            requires { AreOfRound round.now.round others.items × IsOfRound round.now.round own × (round.now.round.blocks ≡ length sites.now) }
-            ensures { IfOk result (λ done. AreOfRound round.entry.now.round done.items) }
+            requires { All (IsReady round.now.round) others.items × IsReady round.now.round own × (round.now.round.blocks ≡ length sites.now) }
+            ensures count { IfOk result (λ done. vec_len done ≡ vec_len others + 1) }
+            ensures worked { IfOk result (λ done. All (HasWorked round.entry.now.round floor window) done.items) }
+            ensures fault { IfErr result (IsStartFault (vec_len others + 1)) }
         {
-            let mut handles = Vec::new(alloc);
+            let count = others.len();
+            let mut handles = Vec::with_capacity(alloc, count)?;
             for worker in others {
-                handles.reserve(1)?;
                 let started = scope.spawn_with(
-                    OfRound(round),
+                    OfRound {
+                        round,
+                        floor,
+                        window,
+                    },
                     move || -> Worker
-                        requires { IsOfRound round.now.round worker × (round.now.round.blocks ≡ length sites.now) }
-                        ensures { IsOfRound round.entry.now.round result }
+                        requires { IsReady round.now.round worker × (round.now.round.blocks ≡ length sites.now) }
+                        ensures { HasWorked round.entry.now.round floor window result }
                     { work(rt, round, sites, worker, floor, window, gate) },
                 );
                 match started {
@@ -185,7 +205,9 @@ fn joined<'a, R: Threads>(
     rt: &R,
     handles: Vec<PromisedHandle<Worker, OfRound<'a>>>,
 ) -> Result<Vec<Worker>, RunFault>
-    ensures { IfOk result (λ done. (r : _) → All (λ handle. handle.promise.0.now.round ≡ r) handles.entry.items → AreOfRound r done.items) }
+    ensures count { IfOk result (λ done. vec_len done ≡ vec_len handles.entry) }
+    ensures worked { IfOk result (λ done. (r : _) (floor window : _) → All (IsPromised r floor window) handles.entry.items → All (HasWorked r floor window) done.items) }
+    ensures fault { IfErr result (λ f. f ≡ fault.Memory) }
 {
     match thread::join_promised(rt, handles) {
         Ok(done) => Ok(done),
@@ -203,13 +225,13 @@ fn work<G: Gate, R: Wait>(
     window: u32,
     gate: &G,
 ) -> Worker
-    requires seat { IsOfRound round.now.round worker }
-    requires blocks { round.now.round.blocks ≡ length sites.now }
-    ensures { IsOfRound round.now.round result }
+    requires ready { IsReady round.now.round worker }
+    requires count { round.now.round.blocks ≡ length sites.now }
+    ensures { HasWorked round.now.round floor window result }
 {
     for _ in rt.forever() {
         let Some(block) = round.draw(&mut worker.seat) else {
-            break;
+            return worker;
         };
         match play(rt, sites, block, &mut worker.desk, floor, window, gate) {
             Ok(played) => {
@@ -218,11 +240,11 @@ fn work<G: Gate, R: Wait>(
             }
             Err(fault) => {
                 worker.fault = Some(fault);
-                break;
+                return worker;
             }
         }
     }
-    worker
+    unreachable!()
 }
 
 // Lets a block take a turn, and delivers what it sent.
@@ -236,7 +258,10 @@ fn play<G: Gate, R: Wait>(
     gate: &G,
 ) -> Result<Played, RunFault>
     requires { block < length sites.now }
+    ensures visit { IfOk result (λ played. (sent : List Message) × IsVisit floor window [] sent played.least) }
+    ensures fault { IfErr result (IsWorkFault (length sites.now) floor window) }
 {
+    desk.sent.clear();
     let turned = sites[block as usize].visit_through(rt, floor, window, gate, &mut desk.sent)?;
     let load = u64::from(turned.finished).saturating_add(desk.sent.len() as u64);
     desk.deliver(rt, sites)?;

@@ -1,13 +1,104 @@
--- Whose round a seat, and a worker, is of.
-use Rattle.std.specs.Prelude.{◌≡◌, List, All}
-use Rattle.warp_rounds.specs.Seats.{RoundId, SeatView}
+-- What the workers of a round have done, and whose round a seat, and a worker, is of.
+use Rattle.std.specs.Prelude.{◌≡◌, ℕ, ◌<◌, ◌≤◌, min, true, List, [], length, fold, Option, Some, None}
+use Rattle.std.specs.List.{All, Any}
+use Rattle.std.specs.declared.thread.PromisedHandle.{PromisedHandle}
+use Rattle.warp_block.specs.declared.message.Message.{Message}
+use Rattle.warp_block.specs.declared.fault.BlockFault.TheVariants.{WrongNet}
+use Rattle.warp_rounds.specs.declared.fault.RunFault.{RunFault}
+use Rattle.warp_rounds.specs.declared.fault.RunFault.TheVariants.{Block, Stalled, Gather, NoThread, Memory}
+use Rattle.warp_rounds.specs.Words.{never}
+use Rattle.warp_rounds.specs.Seats.{RoundId, SeatView, empty_seat}
+use Rattle.warp_rounds.specs.Visit.{IsVisit}
+use Rattle.warp_rounds.specs.Runs.{IsStall, IsBlockFault}
 use Rattle.warp_rounds.specs.declared.work.Worker.{Worker}
+use Rattle.warp_rounds.specs.declared.work.OfRound.{OfRound}
 
-abbrev pub IsOfRound : RoundId → Worker → Type 0
-IsOfRound round worker = worker.seat.round ≡ round
+-- ---- delivering
 
-abbrev pub AreOfRound : RoundId → List Worker → Type 0
-AreOfRound round workers = All (IsOfRound round) workers
+abbrev pub AreThere : ℕ → List Message → Type 0
+AreThere blocks messages = All (λ m. m.block < blocks) messages
 
-abbrev pub AreSeatsOfRound : RoundId → List SeatView → Type 0
-AreSeatsOfRound round seats = All (λ s. s.round ≡ round) seats
+-- why messages are not delivered: one is for none of so many blocks, or memory is wanting
+abbrev pub IsUndelivered : ℕ → List Message → RunFault → Type 0
+IsUndelivered blocks messages (Block fault) = (fault ≡ WrongNet) × Any (λ m. blocks ≤ m.block) messages
+IsUndelivered blocks messages Memory = Unit {0}
+IsUndelivered blocks messages _ = ⊥
+
+-- ---- a worker's round
+
+-- what a visit sent, and the least time that it told
+pub record Visited : Type 0 where
+  pub sent : List Message
+  pub least : ℕ
+
+abbrev pub IsVisited : ℕ → ℕ → Visited → Type 0
+IsVisited floor window v = IsVisit floor window [] v.sent v.least
+
+-- the least time that visits told, `never` if there is none
+abbrev pub least_told : List Visited → ℕ
+least_told visits = fold (λ time v. min time v.least) never visits
+
+-- A seat of the round whose worker made these visits, and reported the time that each told.
+pub record HasVisited (round : RoundId) (floor window : ℕ) (s : SeatView) (visits : List Visited) : Type 0 where
+  pub ours : s.round ≡ round
+  pub made : All (IsVisited floor window) visits
+  pub told : s.least ≡ least_told visits
+
+-- the worker made a visit for each block that its seat drew
+pub record HasPlayed (round : RoundId) (floor window : ℕ) (s : SeatView) : Type 0 where
+  pub visits : List Visited
+  pub visited : HasVisited round floor window s visits
+  pub each : length visits ≡ length s.draws
+
+-- a worker that has done nothing yet in a round
+pub record IsReady (round : RoundId) (w : Worker) : Type 0 where
+  pub seat : w.seat ≡ empty_seat round
+  pub well : w.fault ≡ None
+
+-- a fault that ends a worker's round
+abbrev pub IsWorkFault : ℕ → ℕ → ℕ → RunFault → Type 0
+IsWorkFault blocks floor window (Block fault) = IsBlockFault blocks floor window fault
+IsWorkFault blocks floor window Memory = Unit {0}
+IsWorkFault blocks floor window _ = ⊥
+
+-- a seat that is no more needed: no block is left, and its worker made a visit for each that it drew
+abbrev pub IsPlayedOut : RoundId → ℕ → ℕ → SeatView → Type 0
+IsPlayedOut round floor window s = HasPlayed round floor window s × (s.marked ≡ true)
+
+-- A worker's round is over: by a fault, or since no block is left, and then it has made a visit for each one that it drew.
+abbrev pub IsOver : RoundId → ℕ → ℕ → SeatView → Option RunFault → Type 0
+IsOver round floor window s None = IsPlayedOut round floor window s
+IsOver round floor window s (Some fault) = (s.round ≡ round) × IsWorkFault round.blocks floor window fault
+
+abbrev pub HasWorked : RoundId → ℕ → ℕ → Worker → Type 0
+HasWorked round floor window w = IsOver round floor window w.seat w.fault
+
+-- ---- a round
+
+-- A thread's handle, whose worker is to hand back what it did in this round.
+pub record IsPromised (round : RoundId) (floor window : ℕ) (handle : PromisedHandle Worker OfRound) : Type 0 where
+  pub round_is : handle.promise.round.now.round ≡ round
+  pub floor_is : handle.promise.floor ≡ floor
+  pub window_is : handle.promise.window ≡ window
+
+-- why threads don't work: one of several workers' didn't start, or memory is wanting
+abbrev pub IsStartFault : ℕ → RunFault → Type 0
+IsStartFault workers NoThread = 1 < workers
+IsStartFault workers Memory = Unit {0}
+IsStartFault workers _ = ⊥
+
+-- a fault of a round of so many workers over so many blocks
+abbrev pub IsRoundFault : ℕ → ℕ → ℕ → ℕ → RunFault → Type 0
+IsRoundFault blocks workers floor window (Block fault) = IsBlockFault blocks floor window fault
+IsRoundFault blocks workers floor window (Stalled time) = (time ≡ floor) × IsStall floor window
+IsRoundFault blocks workers floor window (Gather fault) = ⊥
+IsRoundFault blocks workers floor window NoThread = 1 < workers
+IsRoundFault blocks workers floor window Memory = Unit {0}
+
+-- a fault of one of the rounds of a run, at a floor up to the horizon, of at most so many workers
+pub record IsRoundsFault (blocks horizon workers window : ℕ) (fault : RunFault) : Type 0 where
+  pub floor : ℕ
+  pub seats : ℕ
+  pub within : floor ≤ horizon
+  pub few : seats ≤ workers
+  pub met : IsRoundFault blocks seats floor window fault

@@ -1,0 +1,149 @@
+-- What workers have done in a round, visit by visit, and what comes of it at the round's end.
+use Rattle.std.proofs.Common.{◌≡◌, ℕ, ◌<◌, ◌≤◌, ◌⊎◌, inl, inr, min, true, List, [], ◌∷◌, ◌++◌, All, length, fold, Option, Some, None, Err, refl, sym, ap, ◌∙◌, subst, arith, length-append}
+use Rattle.std.proofs.lemmas.List.Elements.{All-nil, All-head, All-tail, All-push}
+use Rattle.std.proofs.lemmas.List.Sums.{fold-append}
+use Rattle.std.proofs.lemmas.Bool.{true≢false}
+use Rattle.warp_block.specs.declared.message.Message.{Message}
+use Rattle.warp_block.specs.declared.fault.BlockFault.{BlockFault}
+use Rattle.warp_block.specs.declared.fault.BlockFault.TheVariants as block
+use Rattle.warp_rounds.specs.declared.fault.RunFault.{RunFault}
+use Rattle.warp_rounds.specs.declared.fault.RunFault.TheVariants.{Block, Stalled, Gather, NoThread, Memory}
+use Rattle.warp_rounds.specs.declared.round.EndFault.{EndFault}
+use Rattle.warp_rounds.specs.declared.round.EndFault.TheVariants.{WrongSeats, Undrawn}
+use Rattle.warp_rounds.specs.Faults.{fault_of_block}
+use Rattle.warp_rounds.specs.Words.{never}
+use Rattle.warp_rounds.specs.Seats.{RoundId, RoundView, SeatView, empty_seat, least_of, IsEnd, IsUnmarked}
+use Rattle.warp_rounds.specs.Visit.{IsVisit, IsFaultyVisit}
+use Rattle.warp_rounds.specs.Runs.{IsStall, IsBlockFault}
+use Rattle.warp_rounds.specs.Inner.Work.{IsUndelivered, Visited, IsVisited, HasPlayed, IsWorkFault, IsPlayedOut, IsOver, IsStartFault, IsRoundFault}
+
+-- ---- faults
+
+-- a visit's fault is one of a worker
+pub visit_fault : (blocks floor window : ℕ) (sent : List Message) (f : BlockFault) → IsFaultyVisit floor window [] sent f →
+    IsWorkFault blocks floor window (fault_of_block f)
+visit_fault blocks floor window sent block.Memory h = tt
+visit_fault blocks floor window sent block.WrongNet h = inl (record { sent = sent; visit = h })
+visit_fault blocks floor window sent block.PastHorizon h = inl (record { sent = sent; visit = h })
+visit_fault blocks floor window sent block.BelowFloor h = inl (record { sent = sent; visit = h })
+visit_fault blocks floor window sent block.CountLimit h = inl (record { sent = sent; visit = h })
+visit_fault blocks floor window sent block.FloorBack h = inl (record { sent = sent; visit = h })
+visit_fault blocks floor window sent block.Unprocessed h = inl (record { sent = sent; visit = h })
+visit_fault blocks floor window sent (block.Unsettled net time) h = inl (record { sent = sent; visit = h })
+
+-- and so is that of delivering what a visit sent
+pub delivery_fault : (blocks floor window least : ℕ) (sent : List Message) (fault : RunFault) → IsVisit floor window [] sent least → IsUndelivered blocks sent fault →
+    IsWorkFault blocks floor window fault
+delivery_fault blocks floor window least sent (Block f) visit (is, astray) =
+    subst (IsBlockFault blocks floor window) (sym is) (inr (record { sent = sent; least = least; visit = visit; astray = astray; cause = refl }))
+delivery_fault blocks floor window least sent (Stalled time) visit h = absurd h
+delivery_fault blocks floor window least sent (Gather f) visit h = absurd h
+delivery_fault blocks floor window least sent NoThread visit h = absurd h
+delivery_fault blocks floor window least sent Memory visit h = tt
+
+pub work_round : (blocks workers floor window : ℕ) (fault : RunFault) → IsWorkFault blocks floor window fault → IsRoundFault blocks workers floor window fault
+work_round blocks workers floor window (Block f) h = h
+work_round blocks workers floor window (Stalled time) h = absurd h
+work_round blocks workers floor window (Gather f) h = absurd h
+work_round blocks workers floor window NoThread h = absurd h
+work_round blocks workers floor window Memory h = tt
+
+pub start_round : (blocks workers floor window : ℕ) (fault : RunFault) → IsStartFault workers fault → IsRoundFault blocks workers floor window fault
+start_round blocks workers floor window (Block f) h = absurd h
+start_round blocks workers floor window (Stalled time) h = absurd h
+start_round blocks workers floor window (Gather f) h = absurd h
+start_round blocks workers floor window NoThread h = h
+start_round blocks workers floor window Memory h = tt
+
+-- ---- visits
+
+-- before any
+pub visited_none : (round : RoundId) (floor window : ℕ) (s : SeatView) → s ≡ empty_seat round → HasPlayed round floor window s
+visited_none round floor window s is = record {
+  visits = [];
+  visited = record { ours = ap (λ (v : SeatView). v.round) is; made = All-nil (IsVisited floor window); told = ap (λ (v : SeatView). v.least) is };
+  each = ap (λ (v : SeatView). length v.draws) (sym is);
+}
+
+-- one more: a block is drawn, and the time that its visit told is reported
+pub visited_more : (round : RoundId) (floor window block time : ℕ) (sent : List Message) (s drawn new : SeatView) → HasPlayed round floor window s →
+    drawn ≡ record s { draws = s.draws ++ block ∷ [] } → IsVisit floor window [] sent time → new ≡ record drawn { least = min drawn.least time } →
+    HasPlayed round floor window new
+visited_more round floor window block time sent s drawn new before draw visit report =
+    let v : Visited = record { sent = sent; least = time } in
+    let draws : new.draws ≡ s.draws ++ block ∷ [] = ap (λ (u : SeatView). u.draws) report ∙ ap (λ (u : SeatView). u.draws) draw in
+    record {
+      visits = before.visits ++ v ∷ [];
+      visited = record {
+        ours = ap (λ (u : SeatView). u.round) report ∙ (ap (λ (u : SeatView). u.round) draw ∙ before.visited.ours);
+        made = All-push (IsVisited floor window) before.visits v before.visited.made visit;
+        told = ap (λ (u : SeatView). u.least) report ∙ (ap (λ (u : SeatView). min u.least time) draw ∙ (ap (λ n. min n time) before.visited.told
+            ∙ sym (fold-append (λ (n : ℕ) (u : Visited). min n u.least) never before.visits (v ∷ []))));
+      };
+      each = omega (arith, length-append before.visits (v ∷ []), length-append s.draws (block ∷ []), ap length draws, before.each);
+    }
+
+-- no block is left
+pub visited_over : (round : RoundId) (floor window : ℕ) (s new : SeatView) (fault : Option RunFault) → HasPlayed round floor window s →
+    new ≡ record s { marked = true } → fault ≡ None → IsOver round floor window new fault
+visited_over round floor window s new fault before mark well =
+    let over : IsPlayedOut round floor window new = (
+      record {
+        visits = before.visits;
+        visited = record {
+          ours = ap (λ (u : SeatView). u.round) mark ∙ before.visited.ours;
+          made = before.visited.made;
+          told = ap (λ (u : SeatView). u.least) mark ∙ before.visited.told;
+        };
+        each = before.each ∙ sym (ap (λ (u : SeatView). length u.draws) mark);
+      },
+      ap (λ (u : SeatView). u.marked) mark,
+    ) in
+    subst (IsOver round floor window new) (sym well) over
+
+-- a block is drawn, and its visit meets a fault
+pub visited_faulty : (round : RoundId) (sites floor window block : ℕ) (s drawn : SeatView) (fault : RunFault) → HasPlayed round floor window s →
+    drawn ≡ record s { draws = s.draws ++ block ∷ [] } → round.blocks ≡ sites → IsWorkFault sites floor window fault → IsOver round floor window drawn (Some fault)
+visited_faulty round sites floor window block s drawn fault before draw count met =
+    (ap (λ (u : SeatView). u.round) draw ∙ before.visited.ours, subst (λ n. IsWorkFault n floor window fault) (sym count) met)
+
+-- ---- a round's end
+
+-- a least number that isn't past another one is its start, or that of an item
+least_in : {A : Type 0} (f : A → ℕ) (P : A → Type 0) (Q : Type 0) (most : ℕ) → ((x : A) → P x → f x ≤ most → Q) → (start : ℕ) (xs : List A) → All P xs →
+    fold (λ (n : ℕ) (x : A). min n (f x)) start xs ≤ most → (start ≤ most) ⊎ Q
+least_in f P Q most one start [] all low = inl low
+least_in f P Q most one start (x ∷ xs) all low =
+    elim (least_in f P Q most one (min start (f x)) xs (All-tail P x xs all) low) [
+      | inl first ↦ elim (lesser start (f x) first) [ inl here ↦ inl here | inr there ↦ inr (one x (All-head P x xs all) there) ]
+      | inr found ↦ inr found
+    ]
+  where
+    lesser : (a b : ℕ) → min a b ≤ most → (a ≤ most) ⊎ (b ≤ most)
+    lesser a b h = grind arith
+
+stalled_seat : (round : RoundId) (floor window : ℕ) → floor < never → (s : SeatView) → IsPlayedOut round floor window s → s.least ≤ floor → IsStall floor window
+stalled_seat round floor window before s (played, marked) low =
+    elim (least_in (λ (v : Visited). v.least) (IsVisited floor window) (IsStall floor window) floor
+    (λ v made past. record { sent = v.sent; least = v.least; visit = made; back = past }) never played.visits played.visited.made
+    (subst (λ (n : ℕ). n ≤ floor) played.visited.told low)) [
+      | inl none ↦ absurd (omega arith)
+      | inr stall ↦ stall
+    ]
+
+-- where the least time that is told isn't past the floor, a visit told it
+pub stalled_round : (round : RoundId) (floor window : ℕ) → floor < never → (seats : List SeatView) → All (IsPlayedOut round floor window) seats →
+    least_of seats ≤ floor → IsStall floor window
+stalled_round round floor window before seats all low =
+    elim (least_in (λ (s : SeatView). s.least) (IsPlayedOut round floor window) (IsStall floor window) floor (stalled_seat round floor window before) never seats all low) [
+      | inl none ↦ absurd (omega arith)
+      | inr stall ↦ stall
+    ]
+
+-- the end of a round refuses no seats that are all there and played out
+pub never_refused : (r : RoundView) (round : RoundId) (floor window : ℕ) (seats : List SeatView) (fault : EndFault) → 1 ≤ r.seats → length seats ≡ r.seats →
+    All (IsPlayedOut round floor window) seats → IsEnd r seats (Err fault) → ⊥
+never_refused r round floor window seats WrongSeats some count all missing = absurd (omega arith)
+never_refused r round floor window [] Undrawn some count all end = absurd (omega arith)
+never_refused r round floor window (s ∷ seats) Undrawn some count all end =
+    true≢false (sym (All-head (IsPlayedOut round floor window) s seats all).1 ∙ All-head IsUnmarked s seats end.2)

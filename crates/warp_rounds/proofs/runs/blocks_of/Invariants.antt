@@ -1,0 +1,12 @@
+use Rattle.std.proofs.Common.{◌≡◌, ◌+◌, All, length}
+use Rattle.std.specs.Vec.Iter.{into_iter_items}
+use Rattle.warp_block.specs.Lawful.{IsLawfulProcess}
+use Rattle.warp_rounds.proofs.runs.blocks_of.Given as goal
+
+abbrev pub invariant-loop-site : goal.invariant-loop-site
+invariant-loop-site l = record {
+  can_next : (goal.iterator-loop-site).can_next l.site-iterator;
+  is_finite : (goal.iterator-loop-site).is_finite l.site-iterator;
+  count : length l.blocks.items + length (into_iter_items l.site-iterator) ≡ length l.fn.sites.items;
+  lawful : All IsLawfulProcess l.blocks.items;
+}
