@@ -2,3 +2,4 @@ pub mod Words
 pub mod StopBits
 pub mod Stops
 pub mod Least
+pub mod Lists

@@ -1,4 +1,5 @@
 pub mod Words
 pub mod Dated
 pub mod Least
+pub mod Lists
 pub mod Inner

@@ -1,0 +1,130 @@
+//! Lists of changes, one for each place.
+ghost use Rattle.std.specs.Prelude.{◌≡◌, ◌≤◌, ◌<◌, ◌∷◌, [], IfOk, IfErr, OnOk, OnErr, length, take, replicate, get_or};
+ghost use Rattle.std.specs.List.{All};
+ghost use Rattle.warp_stores.specs.Lists.{AreLonger, AreShorter};
+ghost use Rattle.warp_stores.specs.Inner.Lists.{lists_of};
+
+use crate::word::Word;
+use gate_values::Change;
+use std::alloc::{AllocError, Global};
+use std::marker::Model;
+
+/// For each place the list of its changes. The words of a time are told to the lists of their places, and taken back.
+#[derive(Debug, Drop)]
+pub struct Lists {
+    lists: Vec<Vec<Change>>,
+}
+
+impl Model for Lists {
+    ghost use Rattle.std.specs.Prelude.{List};
+    ghost use Rattle.gate_values.specs.declared.logic.Change.{Change};
+
+    ghost Value = { List (List Change) };
+
+    ghost use Rattle.warp_stores.specs.Inner.Lists.{lists_of};
+
+    ghost view = { λ lists. lists_of lists.lists.items };
+}
+
+impl Lists {
+    /// So many empty lists. An error is a refused growth.
+    pub fn new(alloc: Global, count: usize) -> Result<Lists, AllocError>
+        ensures { IfOk result (λ lists. lists ≡ replicate count []) }
+    {
+        let lists = empty_lists(alloc, count)?;
+        Ok(Lists { lists })
+    }
+
+    /// The changes of a place.
+    pub fn changes(&self, place: usize) -> &[Change]
+        requires { place < length self.now }
+        ensures { result.now ≡ get_or self.now place [] }
+    {
+        self.lists[place].as_slice()
+    }
+
+    /// Puts the words of a time behind the lists of their places, in order. An error is a refused growth; then all lists
+    /// stay.
+    pub fn append(&mut self, time: u64, words: &[Word]) -> Result<(), AllocError>
+        requires { All (λ word. word.place < length self.old) words.now }
+        ensures ok { OnOk result (AreLonger time words.now self.old self.new) }
+        ensures err { OnErr result (self.new ≡ self.old) }
+    {
+        match push_all(&mut self.lists, time, words) {
+            Ok(()) => Ok(()),
+            Err(pushed) => {
+                pop_all(&mut self.lists, &words[..pushed]);
+                Err(AllocError)
+            }
+        }
+    }
+
+    /// Takes words back: each shortens the list of its place by one.
+    pub fn shorten(&mut self, words: &[Word])
+        requires { All (λ word. word.place < length self.old) words.now }
+        ensures { AreShorter words.now self.old self.new }
+    {
+        pop_all(&mut self.lists, words);
+    }
+}
+
+/// So many empty lists.
+fn empty_lists(alloc: Global, count: usize) -> Result<Vec<Vec<Change>>, AllocError>
+    ensures { IfOk result (λ lists. lists_of lists.items ≡ replicate count []) }
+{
+    let mut lists = Vec::new(alloc);
+    for _ in 0..count {
+        lists.push(Vec::new(alloc))?;
+    }
+    Ok(lists)
+}
+
+/// Puts a word of a time behind the list of its place.
+fn push_one(lists: &mut Vec<Vec<Change>>, time: u64, word: Word) -> Result<(), AllocError>
+    requires { word.place < length lists.old.items }
+    ensures ok { OnOk result (AreLonger time (word ∷ []) (lists_of lists.old.items) (lists_of lists.new.items)) }
+    ensures err { OnErr result (lists_of lists.new.items ≡ lists_of lists.old.items) }
+{
+    let place = word.place() as usize;
+    lists[place].push(Change {
+        time,
+        value: word.after(),
+    })?;
+    Ok(())
+}
+
+/// Puts the words of a time behind the lists of their places. An error is a refused growth, and says how many words were
+/// put.
+fn push_all(lists: &mut Vec<Vec<Change>>, time: u64, words: &[Word]) -> Result<(), usize>
+    requires { All (λ word. word.place < length lists.old.items) words.now }
+    ensures ok { OnOk result (AreLonger time words.now (lists_of lists.old.items) (lists_of lists.new.items)) }
+    ensures within { IfErr result (λ pushed. pushed ≤ length words.now) }
+    ensures err { IfErr result (λ pushed. AreLonger time (take pushed words.now) (lists_of lists.old.items) (lists_of lists.new.items)) }
+{
+    for (pushed, word) in words.iter().enumerate() {
+        match push_one(lists, time, *word) {
+            Ok(()) => {}
+            Err(_) => return Err(pushed),
+        }
+    }
+    Ok(())
+}
+
+/// Shortens the list of a place by one.
+fn pop_one(lists: &mut Vec<Vec<Change>>, word: Word)
+    requires { word.place < length lists.old.items }
+    ensures { AreShorter (word ∷ []) (lists_of lists.old.items) (lists_of lists.new.items) }
+{
+    let place = word.place() as usize;
+    lists[place].pop();
+}
+
+/// Shortens the lists of the places of words, by one for each.
+fn pop_all(lists: &mut Vec<Vec<Change>>, words: &[Word])
+    requires { All (λ word. word.place < length lists.old.items) words.now }
+    ensures { AreShorter words.now (lists_of lists.old.items) (lists_of lists.new.items) }
+{
+    for word in words {
+        pop_one(lists, *word);
+    }
+}
