@@ -1,7 +1,38 @@
 ghost use Rattle.std.specs.Prelude.{◌≡◌};
 ghost use Rattle.gate_netlist.specs.Seeds.{seed_of};
 
-use std::hash::{BuildHasher, DefaultHasher, Hasher};
+use std::hash::{BuildHasher, DefaultHasher, FoldHasher, Hasher};
+
+/// A hasher that takes eight bytes a step, from a state that a text's seed has set.
+#[derive(Clone, Copy)]
+pub struct TextHasher {
+    words: FoldHasher,
+}
+
+impl Hasher for TextHasher {
+    ghost use Rattle.gate_netlist.specs.Seeds.{written};
+    ghost use Rattle.std.specs.Hash.FoldHasher.{finish};
+
+    ghost write = { written };
+
+    ghost finish = { λ h. finish h.words };
+
+    fn finish(&self) -> u64 {
+        self.words.finish()
+    }
+
+    // At most eight bytes at a time: more would be multiplied with each other, and whoever picks them could make
+    // such a product 0 under each seed.
+    fn write(&mut self, bytes: &[u8]) {
+        let mut rest = bytes;
+        while rest.len() > 8 {
+            let (word, after) = rest.split_at(8);
+            self.words.write(word);
+            rest = after;
+        }
+        self.words.write(rest);
+    }
+}
 
 /// Hashes what stands in a text by a seed taken from the whole text.
 ///
@@ -10,7 +41,7 @@ use std::hash::{BuildHasher, DefaultHasher, Hasher};
 /// a seed would have to stand in a text which has that very seed.
 #[derive(Clone, Copy)]
 pub struct TextSeed {
-    seeded: DefaultHasher,
+    seeded: TextHasher,
 }
 
 impl TextSeed {
@@ -20,18 +51,20 @@ impl TextSeed {
     {
         let mut whole = DefaultHasher::new();
         whole.write(text);
-        let mut seeded = DefaultHasher::new();
-        seeded.write_u64(whole.finish());
-        TextSeed { seeded }
+        let mut words = FoldHasher::default();
+        words.write_u64(whole.finish());
+        TextSeed {
+            seeded: TextHasher { words },
+        }
     }
 }
 
 impl BuildHasher for TextSeed {
-    type Hasher = DefaultHasher;
+    type Hasher = TextHasher;
 
     ghost build_hasher = { λ seed. seed.seeded };
 
-    fn build_hasher(&self) -> DefaultHasher {
+    fn build_hasher(&self) -> TextHasher {
         self.seeded
     }
 }

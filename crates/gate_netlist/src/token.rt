@@ -28,25 +28,40 @@ fn mark_of(byte: u8) -> Option<Token<'static>>
     }
 }
 
+// Each byte that a word may have stands at its own place, and a `#` at every other place.
+static LETTERS: [u8; 256] = *b"\
+    ################################\
+    #!\"#$%&'##*+#-./0123456789:;<#>?\
+    @ABCDEFGHIJKLMNOPQRSTUVWXYZ[\\]^_\
+    `abcdefghijklmnopqrstuvwxyz{|}~#\
+    ################################\
+    ################################\
+    ################################\
+    ################################";
+
 /// Whether a word may have this byte.
 pub(crate) fn is_letter(byte: u8) -> bool
     ensures { result ≡ is_letter byte }
 {
-    match byte {
-        b'(' | b')' | b',' | b'=' | b'#' => false,
-        _ => 33 <= byte && byte <= 126,
-    }
+    LETTERS[byte as usize] != b'#'
 }
+
+// Each byte that may stand outside a comment stands at its own place, and a `#` at every other place.
+static ALLOWED: [u8; 256] = *b"\
+    #########\t######################\
+    \x20!\"#$%&'()*+,-./0123456789:;<=>?\
+    @ABCDEFGHIJKLMNOPQRSTUVWXYZ[\\]^_\
+    `abcdefghijklmnopqrstuvwxyz{|}~#\
+    ################################\
+    ################################\
+    ################################\
+    ################################";
 
 /// Whether this byte may stand outside a comment.
 fn may_stand(byte: u8) -> bool
     ensures { result ≡ is_allowed byte }
 {
-    match byte {
-        b'#' => false,
-        b'\t' => true,
-        _ => 32 <= byte && byte <= 126,
-    }
+    ALLOWED[byte as usize] != b'#'
 }
 
 /// How many bytes in front may stand outside a comment.
@@ -98,10 +113,8 @@ fn split_word(code: &[u8]) -> (&str, &[u8])
     ensures shorter { length result.1.now < length code.now }
 {
     let (word, rest) = code.split_at(word_len(code));
-    match str::from_utf8(word) {
-        Ok(word) => (word, rest),
-        Err(_) => unreachable!(),
-    }
+    // Letters are ASCII.
+    (unsafe { str::from_utf8_unchecked(word) }, rest)
 }
 
 /// The token in front, if one is there, and what follows it.
