@@ -18,6 +18,7 @@ use Rattle.gate_vcd.specs.declared.fault.StimFault.{StimFault}
 use Rattle.gate_vcd.specs.declared.fault.StimCause.{StimCause}
 use Rattle.std.proofs.lemmas.Slice.Eq.{bytes_eq-Decides}
 use Rattle.gate_vcd.specs.Tokens.{Token, tokens_of}
+use Rattle.gate_vcd.specs.declared.timescale.Timescale.{Timescale}
 use Rattle.gate_netlist.specs.Bench.{◌>>=◌}
 use Rattle.gate_vcd.specs.Reading.{Fails}
 use Rattle.gate_vcd.specs.Declarations.{Header, Variable, no_header, declaring}
@@ -34,6 +35,7 @@ use Rattle.gate_vcd.specs.Inner.Lists.{IsRising}
 use Rattle.gate_vcd.specs.Given.{Given, AreItsChanges, Fits, changes_of, value_at}
 use Rattle.gate_vcd.specs.Inner.Held.{given_by, AreLaidOut}
 use Rattle.gate_vcd.specs.Inner.Scalars.{numbers_of}
+use Rattle.gate_vcd.specs.Sources.{AreDeclared}
 use Rattle.gate_vcd.specs.Stimulus.{reading_of, has_code, value_of_source, Means}
 use Rattle.gate_vcd.proofs.DeclarationLaws.{fails_then}
 use Rattle.gate_vcd.proofs.Settling.{AreBelow, latest-flat, changes-below}
@@ -257,13 +259,9 @@ used-at [] n s e = cc
 used-at (o ∷ found) zero s e = rw (e, own_source s) refl
 used-at (o ∷ found) (suc n) s e = rw (used-at found n s e) (elim (option_map_or (same_source s) o false) as (λ b. (b || true) ≡ true) [ true ↦ refl | false ↦ refl ])
 
--- What is kept of a text whose reading is this one.
-module _ (d : Design) (h : Header) (used : Sources) (lists : List (Vec Change Global)) (list_of : List (Option ℕ)) (es : List Event) (now : ℕ) (found : List (Option Source))
-    (taken : (s : Source) → is_taken used s ≡ takes found s) (kept : AreKept (map source used.keys) now es (lists_in lists)) (numbers : list_of ≡ numbers_of used found)
-    (read : sources_below d h.variables (nets_of d) ≡ Ok found) (drivers : length d.drivers ≡ nets_of d) where
-  sourced : (n : ℕ) → n < nets_of d → (is_some (get_or found n None) ≡ is_input (driver_of d n)) × ((s : Source) → get_or found n None ≡ Some s → has_code h.variables s.code ≡ true)
-  sourced n l = sourced-by (is_input (driver_of d n)) h.variables (name_of d n) n _ (get_or found n None) (found-at d h.variables (nets_of d) n found read l)
-
+-- What is kept of the changes of these sources.
+module _ (timescale : Timescale) (used : Sources) (lists : List (Vec Change Global)) (list_of : List (Option ℕ)) (es : List Event) (now : ℕ) (found : List (Option Source))
+    (taken : (s : Source) → is_taken used s ≡ takes found s) (kept : AreKept (map source used.keys) now es (lists_in lists)) (numbers : list_of ≡ numbers_of used found) where
   known-at : (n : ℕ) (s : Source) → get_or found n None ≡ Some s → (k : ℕ) × (number_of used s ≡ Some k)
   known-at n s e = number-some used s (taken s ∙ used-at found n s e)
 
@@ -271,7 +269,7 @@ module _ (d : Design) (h : Header) (used : Sources) (lists : List (Vec Change Gl
   number-at n = rw numbers (map-at (option_and_then (number_of used)) found n None)
 
   abbrev given : Given
-  given = given_by h.timescale lists list_of
+  given = given_by timescale lists list_of
 
   list-at : (s : Source) (k : ℕ) → number_of used s ≡ Some k → get_or (lists_in lists) k [] ≡ changes (value_with s es) (last_stamp + 1)
   list-at s k e = kept.changes k s (numbered used s k e).1
@@ -287,22 +285,12 @@ module _ (d : Design) (h : Header) (used : Sources) (lists : List (Vec Change Gl
   flat-source None u l = refl
   flat-source (Some s) u l = latest-flat X (changes_with s es) last_stamp u (up_to_with last_stamp s es (past-later now last_stamp es kept.within kept.past)) l
 
-  value-is : (n t : ℕ) → value_at given n t ≡ value_of_source es (get_or found n None) t
+  pub value-is : (n t : ℕ) → value_at given n t ≡ value_of_source es (get_or found n None) t
   value-is n t = ap (λ cs. latest X cs t) (wave-at n) ∙ latest-all (value_of_source es (get_or found n None)) last_stamp t (flat-source (get_or found n None))
 
   some-number : (o : Option Source) → ((s : Source) → o ≡ Some s → (k : ℕ) × (number_of used s ≡ Some k)) → is_some (option_and_then (number_of used) o) ≡ is_some o
   some-number None has = refl
   some-number (Some s) has = let (k, e) = has s refl in rw e refl
-
-  lengths : length list_of ≡ nets_of d
-  lengths = ap length numbers ∙ length-map found (option_and_then (number_of used)) ∙ found-length d h.variables (nets_of d) found read
-
-  fits-circuit : Fits given d
-  fits-circuit = some-mapped (λ k. get_or (lists_in lists) k []) list_of ∙ fits-all list_of d.drivers (lengths ∙ sym drivers)
-      (λ n l. (let below : n < nets_of d = omega (arith, lengths) in ap is_some (number-at n) ∙ some-number (get_or found n None) (known-at n) ∙ (sourced n below).0))
-
-  pub means : Means d (record { timescale = h.timescale; events = es; sources = found }) given
-  means = record { timescale = refl; fits = fits-circuit; values = value-is; changes = wave-at }
 
   laid-by : (o : Option ℕ) (s : Option Source) → o ≡ option_and_then (number_of used) s → IfSome o (λ k. (k < length lists) × AreItsChanges (get_or (lists_in lists) k []))
   laid-by None s e = tt
@@ -313,6 +301,26 @@ module _ (d : Design) (h : Header) (used : Sources) (lists : List (Vec Change Gl
 
   pub laid : AreLaidOut lists list_of
   laid n o l = laid-by (get_or list_of n o) (get_or found n None) (get_or_default list_of n o None l ∙ number-at n)
+
+-- What is kept of a text whose reading is this one.
+module _ (d : Design) (h : Header) (used : Sources) (lists : List (Vec Change Global)) (list_of : List (Option ℕ)) (es : List Event) (now : ℕ) (found : List (Option Source))
+    (taken : (s : Source) → is_taken used s ≡ takes found s) (kept : AreKept (map source used.keys) now es (lists_in lists)) (numbers : list_of ≡ numbers_of used found)
+    (read : sources_below d h.variables (nets_of d) ≡ Ok found) (drivers : length d.drivers ≡ nets_of d) where
+  sourced : (n : ℕ) → n < nets_of d → (is_some (get_or found n None) ≡ is_input (driver_of d n)) × ((s : Source) → get_or found n None ≡ Some s → has_code h.variables s.code ≡ true)
+  sourced n l = sourced-by (is_input (driver_of d n)) h.variables (name_of d n) n _ (get_or found n None) (found-at d h.variables (nets_of d) n found read l)
+
+  abbrev held : Given
+  held = given_by h.timescale lists list_of
+
+  lengths : length list_of ≡ nets_of d
+  lengths = ap length numbers ∙ length-map found (option_and_then (number_of used)) ∙ found-length d h.variables (nets_of d) found read
+
+  fits-circuit : Fits held d
+  fits-circuit = some-mapped (λ k. get_or (lists_in lists) k []) list_of ∙ fits-all list_of d.drivers (lengths ∙ sym drivers)
+      (λ n l. (let below : n < nets_of d = omega (arith, lengths) in ap is_some (number-at h.timescale used lists list_of es now found taken kept numbers n) ∙ some-number h.timescale used lists list_of es now found taken kept numbers (get_or found n None) (known-at h.timescale used lists list_of es now found taken kept numbers n) ∙ (sourced n below).0))
+
+  pub means : Means d (record { timescale = h.timescale; events = es; sources = found }) held
+  means = record { timescale = refl; fits = fits-circuit; values = value-is h.timescale used lists list_of es now found taken kept numbers; changes = wave-at h.timescale used lists list_of es now found taken kept numbers }
 
 -- from what the readers of the parts answered
 pub declared-read : (d : Design) (text : List ℕ) (asked : Option (List ℕ)) (ts : List Token) (P : Result (Header × List Token) StimFault → Type 0) → asked ≡ d.scope → ts ≡ tokens_of text
@@ -345,6 +353,11 @@ either-known false false f = refl
 pub known-codes : (d : Design) (vs : List Variable) (known : KnownCodes) (found : List (Option Source)) → ((code : List ℕ) → knows known code ≡ (has_code vs code || is_used found code)) → sources_below d vs (nets_of d) ≡ Ok found
     → (code : List ℕ) → knows known code ≡ has_code vs code
 known-codes d vs known found all read code = all code ∙ either-known (has_code vs code) (is_used found code) (some-sourced d vs (nets_of d) found read code)
+
+-- the same where each source takes the code of a variable
+pub declared-codes : (vs : List Variable) (known : KnownCodes) (takers : List (Option Source)) → ((code : List ℕ) → knows known code ≡ (has_code vs code || is_used takers code)) → AreDeclared vs takers
+    → (code : List ℕ) → knows known code ≡ has_code vs code
+declared-codes vs known takers all declared code = all code ∙ either-known (has_code vs code) (is_used takers code) (declared code)
 
 -- also where no net has a source
 pub unused-codes : (vs : List Variable) (known : KnownCodes) → ((code : List ℕ) → knows known code ≡ (has_code vs code || is_used [] code)) → (code : List ℕ) → knows known code ≡ has_code vs code

@@ -111,6 +111,13 @@ events_from is_known now (change t code digits ∷ is) =
     else Err (fault_at t causes.UnknownCode)
 events_from is_known now (wrong t cause ∷ is) = Err (fault_at t cause)
 
+-- the time of the last stamp among these items, or the time before them
+abbrev pub last_time : ℕ → List Item → ℕ
+last_time now [] = now
+last_time now (stamp t ∷ is) = last_time (number (drop 1 t.text)) is
+last_time now (change t code digits ∷ is) = last_time now is
+last_time now (wrong t cause ∷ is) = last_time now is
+
 -- the value that a digit writes
 abbrev pub digit : ℕ → Logic
 digit b = unwrap_or (value_of b) logic.X

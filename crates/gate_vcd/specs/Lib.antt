@@ -13,5 +13,6 @@ pub mod Changes
 pub mod Vectors
 pub mod Inputs
 pub mod Stimulus
+pub mod Sources
 pub mod Refusals
 pub mod Inner

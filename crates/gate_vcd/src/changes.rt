@@ -1,6 +1,6 @@
 ghost use Rattle.std.specs.Prelude.{◌≡◌, ◌<◌, ◌-◌, ◌++◌, ◌∷◌, List, [], Some, length, map, slice_get, replicate, not, IfErr, IfOk, MatchResult, OnOk};
 ghost use Rattle.gate_values.specs.Changes.{same};
-ghost use Rattle.gate_vcd.specs.Changes.{Event, Source as TextSource, Item as TextItem, events_from, items, nothing, stamped};
+ghost use Rattle.gate_vcd.specs.Changes.{Event, Source as TextSource, Item as TextItem, events_from, items, last_time, nothing, stamped};
 ghost use Rattle.gate_vcd.specs.Faults.{out_of_memory};
 ghost use Rattle.gate_vcd.specs.Inner.Items.{AreHeld, AreSettled, AreTaken, IsTaken, TakesItem, ends_at, item_of, last_of, reaches, settled, taken_in, undone, value_after};
 ghost use Rattle.gate_vcd.specs.Inner.Known.{IsLinked, knows, source, sources_in};
@@ -262,19 +262,29 @@ fn take_item<'a>(
     }
 }
 
-/// Reads the changes of a stimulus: for each number of a source that inputs take the list of its changes.
+/// The changes of a text: for each number of a source the list of its changes, and the time of the last stamp.
+#[derive(Drop)]
+pub struct Read {
+    pub lists: Vec<Vec<Change>>,
+    pub last: u64,
+}
+
+/// Reads the changes of a stimulus, for each number of a source that inputs take.
 pub fn read_changes<'a>(
     alloc: Global,
     words: &mut Words<'a>,
     codes: &KnownCodes<'a>,
-) -> Result<Vec<Vec<Change>>, StimFault>
+) -> Result<Read, StimFault>
     requires { IsLinked codes.now }
-    ensures { MatchResult result (λ lists. AreTaken (sources_in codes.now) (lists_in lists.items) (events_from (knows codes.now) 0 (items nothing words.old))) (λ e. Fails e (events_from (knows codes.now) 0 (items nothing words.old))) }
+    ensures { MatchResult result (λ read. AreTaken (sources_in codes.now) (lists_in read.lists.items) read.last (events_from (knows codes.now) 0 (items nothing words.old)) × (read.last ≡ last_time 0 (items nothing words.old))) (λ e. Fails e (events_from (knows codes.now) 0 (items nothing words.old))) }
 {
     let mut taken = nothing_taken(alloc, codes.used.len())?;
     let mut now = 0;
     while let Some(item) = next_item(words)? {
         now = take_item(codes, &mut taken, now, item)?;
     }
-    Ok(taken.lists)
+    Ok(Read {
+        lists: taken.lists,
+        last: now,
+    })
 }

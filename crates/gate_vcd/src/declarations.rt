@@ -51,7 +51,7 @@ fn has_texts(keyword: Keyword) -> bool
 }
 
 /// The rest of a command: its words, where it is about them, or none, so that a comment takes no memory.
-fn body_of<'a>(
+pub fn body_of<'a>(
     alloc: Global,
     words: &mut Words<'a>,
     first: Word<'a>,
@@ -82,7 +82,7 @@ fn timescale_in<'a>(
 }
 
 /// The name that a `$scope` gives: its second word, and none where there is no second.
-fn scope_name<'a>(body: &[&'a [u8]]) -> &'a [u8]
+pub fn scope_name<'a>(body: &[&'a [u8]]) -> &'a [u8]
     ensures { result.now ≡ get_or (texts body.now) 1 [] }
 {
     match body {
@@ -93,7 +93,7 @@ fn scope_name<'a>(body: &[&'a [u8]]) -> &'a [u8]
 
 impl<'a, 's> Declared<'a, 's> {
     /// Nothing was declared yet.
-    fn new(alloc: Global, asked: Option<&'s [u8]>) -> Declared<'a, 's>
+    pub fn new(alloc: Global, asked: Option<&'s [u8]>) -> Declared<'a, 's>
         ensures header { IsHeader result no_header }
         ensures asked { result.scopes.asked ≡ asked.entry }
     {
@@ -109,7 +109,7 @@ impl<'a, 's> Declared<'a, 's> {
 }
 
 /// What a command makes of the declarations before it.
-fn declare<'a, 's>(
+pub fn declare<'a, 's>(
     alloc: Global,
     declared: &mut Declared<'a, 's>,
     first: Word<'a>,
@@ -141,7 +141,8 @@ fn declare<'a, 's>(
     }
 }
 
-fn ends_declarations(keyword: Keyword) -> bool
+/// Whether the command ends the declarations.
+pub fn ends_declarations(keyword: Keyword) -> bool
     ensures { result ≡ ends_declarations keyword }
 {
     matches!(keyword, Keyword::EndDefinitions)

@@ -4,6 +4,9 @@
 //! its place. [`Waves`] hold the changes of every net, and [`write_vcd`] writes them as the one text of a
 //! dump into a [`Sink`]. The definitions stand in `specs/`: `Tokens`, `Declarations`, `Changes`, `Vectors`,
 //! `Inputs` and `Stimulus` for what is read, `Codes`, `Waves` and `Dump` for what is written.
+//!
+//! Readers of dumps for other ends share the parts of this one: [`Words`], the commands of the declarations
+//! ([`Declared`], [`body_of`], [`declare`]), the vectors ([`vector_of`]), and the changes ([`read_sources`]).
 #![tactic(auto)]
 
 mod buckets;
@@ -33,6 +36,7 @@ mod runs;
 mod scopes;
 mod sink;
 mod source;
+mod sources;
 mod stimulus;
 mod table;
 mod timeline;
@@ -43,12 +47,20 @@ mod waves;
 mod words;
 
 pub use codes::{code, code_laws};
+pub use declarations::{Declared, body_of, declare, ends_declarations, scope_name};
 pub use dump::write_vcd;
 pub use fault::{StimCause, StimFault, WriteFault};
+pub use keyword::{Keyword, keyword_of, opens_command};
 pub use laws::{dump_laws, refusal_laws};
 pub use numbers::{is_numeral, number_up_to};
 pub use reading::read_stimulus;
+pub use scopes::Scopes;
 pub use sink::{Grow, Sink};
+pub use source::Source;
+pub use sources::{Followed, read_sources};
 pub use stimulus::Stimulus;
 pub use timescale::{Timescale, Unit};
+pub use variable::Variable;
+pub use vectors::{Vector, vector_of};
 pub use waves::{Waves, are_waves, is_wave};
+pub use words::{Word, Words};

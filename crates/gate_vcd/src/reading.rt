@@ -26,9 +26,9 @@ pub fn read_stimulus(alloc: Global, text: &[u8], circuit: &Circuit) -> Result<St
     match inputs_of(alloc, seed, circuit, variables)? {
         Inputs::Found(sources) => {
             let codes = KnownCodes::of(alloc, seed, variables, &sources)?;
-            let lists = read_changes(alloc, &mut words, &codes)?;
+            let read = read_changes(alloc, &mut words, &codes)?;
             let list_of = numbers_of(alloc, &sources, &codes.used)?;
-            Ok(Stimulus::new(declared.timescale, lists, list_of))
+            Ok(Stimulus::new(declared.timescale, read.lists, list_of))
         }
         Inputs::Lacking(fault) => {
             // A fault of the changes comes before that of an input.

@@ -114,7 +114,7 @@ fn ranged(text: &[u8]) -> Option<Vector<'_>>
 }
 
 /// The vector that a variable is.
-fn vector_of<'v, 'a>(variable: &'v Variable<'a>) -> Option<Vector<'v>>
+pub fn vector_of<'v, 'a>(variable: &'v Variable<'a>) -> Option<Vector<'v>>
     ensures value { vector_by result ≡ vector_of (variable_of variable.now) }
     ensures small { IfSome result (λ vector. (vector.left ≤ last_bit) × (vector.right ≤ last_bit)) }
 {

@@ -17,7 +17,7 @@ use Rattle.gate_vcd.specs.declared.items.Item.{Item as Read}
 use Rattle.gate_vcd.specs.declared.items.Item.TheVariants as read
 use Rattle.gate_vcd.specs.Tokens.{Token, fault_at}
 use Rattle.gate_vcd.specs.Inner.Words.{token_of, bytes_of, texts}
-use Rattle.gate_vcd.specs.Changes.{Item, stamp, change, wrong, nothing, items, Event, Source, event_at, events_from, value_with, past_end, value_at_place, last_stamp}
+use Rattle.gate_vcd.specs.Changes.{Item, stamp, change, wrong, nothing, items, Event, Source, event_at, events_from, last_time, value_with, past_end, value_at_place, last_stamp}
 use Rattle.gate_vcd.specs.Inner.Known.{is_of, knows, last_below, sources_in}
 use Rattle.gate_vcd.specs.Waves.{lists_in}
 use Rattle.gate_vcd.specs.declared.changes.Taken.{Taken as Held}
@@ -113,13 +113,14 @@ abbrev pub IsTaken : KnownCodes → ℕ → Token → List ℕ → Option (List 
 IsTaken known now first code digits es new (Ok _) = (knows known code ≡ true) × AreHeld (sources_in known) now (es ++ event_at now code digits) new
 IsTaken known now first code digits es new (Err e) = (e ≡ out_of_memory) ⊎ ((knows known code ≡ false) × (e ≡ fault_at first causes.UnknownCode))
 
--- the changes that were read are kept
-abbrev pub AreTaken : List Source → List (List Change) → Result (List Event) StimFault → Type 0
-AreTaken sources lists reading = (es : List Event) × (now : ℕ) × (reading ≡ Ok es) × AreKept sources now es lists
+-- the changes that were read are kept, up to the last stamp
+abbrev pub AreTaken : List Source → List (List Change) → ℕ → Result (List Event) StimFault → Type 0
+AreTaken sources lists last reading = (es : List Event) × (reading ≡ Ok es) × AreKept sources last es lists
 
 -- An item is taken in: the changes that it makes, and the time after it, from which the other items go on.
 abbrev pub TakesItem : KnownCodes → ℕ → Item → List Item → List Event → Taken → Result ℕ StimFault → Type 0
 TakesItem known now item others es new (Ok next) =
     (more : List Event) × AreHeld (sources_in known) next (es ++ more) new
     × (events_from (knows known) now (item ∷ others) ≡ (events_from (knows known) next others >>= λ later. Ok (more ++ later)))
+    × (last_time now (item ∷ others) ≡ last_time next others)
 TakesItem known now item others es new (Err e) = Fails e (events_from (knows known) now (item ∷ others))

@@ -1,5 +1,5 @@
 use Rattle.std.proofs.lemmas.Result.{err_from_is_err_and}
-use Rattle.gate_vcd.specs.Changes.{items, nothing, events_from}
+use Rattle.gate_vcd.specs.Changes.{items, last_time, nothing, events_from}
 use Rattle.gate_vcd.specs.Inner.Items.{item_of, taken_in}
 use Rattle.gate_vcd.specs.Inner.Known.{knows}
 use Rattle.gate_vcd.proofs.ItemLaws.{goes-start, goes-on, goes-wrong, goes-out}
@@ -11,7 +11,7 @@ loop-taken-init c = goes-start c.args.codes.now c.len.result (taken_in c.in_ok-t
 pub returns-in_err-item : goal.returns-in_err-item
 returns-in_err-item c =
     let p = err_from_is_err_and c.from_residual-in_err-item.result c.from_residual-in_err-item.ensures.1 in
-    rw (p.1, p.2) (goes-wrong c.args.codes.now c.loop-taken.now (taken_in c.loop-taken.taken) (items nothing c.loop-taken.words) _ (events_from (knows c.args.codes.now) 0 (items nothing c.args.words.now)) c.in_err-item.ensures.items c.loop-taken.invariant)
+    rw (p.1, p.2) (goes-wrong c.args.codes.now c.loop-taken.now (taken_in c.loop-taken.taken) (items nothing c.loop-taken.words) _ (events_from (knows c.args.codes.now) 0 (items nothing c.args.words.now)) (last_time 0 (items nothing c.args.words.now)) c.in_err-item.ensures.items c.loop-taken.invariant)
 
 pub take_item-requires : goal.take_item-requires
 take_item-requires c = record { linked = c.requires; held = (c.loop-taken.invariant.0, c.loop-taken.invariant.1) }
@@ -23,9 +23,9 @@ pub loop-taken-preserved : goal.loop-taken-preserved
 loop-taken-preserved c =
     let next = rw c.in-Some.is at c.in_ok-item.ensures.items in
     goes-on c.args.codes.now c.loop-taken.now c.in_ok-now.now (taken_in c.loop-taken.taken) (taken_in c.take_item.new.taken) (item_of c.in-Some.item) (items nothing c.loop-taken.words) (items nothing c.next_item.new.words)
-    (events_from (knows c.args.codes.now) 0 (items nothing c.args.words.now)) next c.loop-taken.invariant (λ es kept. c.in_ok-now.ensures es (items nothing c.next_item.new.words) kept)
+    (events_from (knows c.args.codes.now) 0 (items nothing c.args.words.now)) (last_time 0 (items nothing c.args.words.now)) next c.loop-taken.invariant (λ es kept. c.in_ok-now.ensures es (items nothing c.next_item.new.words) kept)
 
 pub returns : goal.returns
 returns c =
     let over = rw c.in_default.is at c.in_ok-item.ensures.items in
-    goes-out c.args.codes.now c.loop-taken.now (taken_in c.loop-taken.taken) (items nothing c.loop-taken.words) (events_from (knows c.args.codes.now) 0 (items nothing c.args.words.now)) over c.loop-taken.invariant
+    goes-out c.args.codes.now c.loop-taken.now (taken_in c.loop-taken.taken) (items nothing c.loop-taken.words) (events_from (knows c.args.codes.now) 0 (items nothing c.args.words.now)) (last_time 0 (items nothing c.args.words.now)) over c.loop-taken.invariant

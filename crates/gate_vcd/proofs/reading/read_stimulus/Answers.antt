@@ -22,24 +22,23 @@ returns-in_err-declared c =
     rw (p.1, p.2) (declared-fails c.args.text.now c.args.circuit.now _
     (declared-read c.args.circuit.now c.args.text.now _ _ (λ (r : Read). Fails c.in_err-declared.field-0.0 r) c.asked_scope.ensures c.new-words.ensures c.in_err-declared.ensures))
 
-pub returns-in_err-lists-in-Found : goal.returns-in_err-lists-in-Found
-returns-in_err-lists-in-Found c =
-    let p = err_from_is_err_and c.from_residual-in_err-lists-in-Found.result c.from_residual-in_err-lists-in-Found.ensures.1 in
+pub returns-in_err-read-in-Found : goal.returns-in_err-read-in-Found
+returns-in_err-read-in-Found c =
+    let p = err_from_is_err_and c.from_residual-in_err-read-in-Found.result c.from_residual-in_err-read-in-Found.ensures.1 in
     let (h, declared, is) = c.in_ok-declared.ensures in
     let read = declared-read c.args.circuit.now c.args.text.now _ _ (λ (r : Read). r ≡ Ok (h, c.read_declarations.new.words)) c.asked_scope.ensures c.new-words.ensures declared in
     let same : variables c.as_slice-variables.result.now ≡ h.variables = ap variables c.as_slice-variables.ensures.value ∙ is.variables in
     let below : sources_below c.args.circuit.now h.variables (nets_of c.args.circuit.now) ≡ Ok (sources_by c.in-Found.sources.items) = rw (← same) (rw c.in-Found.is at c.in_ok-sources.ensures.ok) in
     let known = known-codes c.args.circuit.now h.variables c.in_ok-codes-in-Found.codes (sources_by c.in-Found.sources.items) (rw (← same, ← c.deref.ensures.value) c.in_ok-codes-in-Found.ensures.all) below in
     rw (p.1, p.2) (changes-fail c.args.text.now c.args.circuit.now _ h c.read_declarations.new.words read
-    (events-fail (knows c.in_ok-codes-in-Found.codes) (has_code h.variables) (items nothing c.read_declarations.new.words) _ known c.in_err-lists-in-Found.ensures))
+    (events-fail (knows c.in_ok-codes-in-Found.codes) (has_code h.variables) (items nothing c.read_declarations.new.words) _ known c.in_err-read-in-Found.ensures))
 
 pub new-requires : goal.new-requires
 new-requires c =
     let (h, declared, is) = c.in_ok-declared.ensures in
-    let same : variables c.as_slice-variables.result.now ≡ h.variables = ap variables c.as_slice-variables.ensures.value ∙ is.variables in
-    let (es, now, events, kept) = c.in_ok-lists-in-Found.ensures in
-    laid c.args.circuit.now h c.in_ok-codes-in-Found.codes.used c.in_ok-lists-in-Found.lists.items c.in_ok-list_of-in-Found.list_of.items es now (sources_by c.in-Found.sources.items) (rw (← c.deref.ensures.value) c.in_ok-codes-in-Found.ensures.used) kept
-    (rw c.deref-in-Found.ensures.value at c.in_ok-list_of-in-Found.ensures.ok) (rw (← same) (rw c.in-Found.is at c.in_ok-sources.ensures.ok)) c.law.ensures.drivers
+    let ((es, events, kept), _) = c.in_ok-read-in-Found.ensures in
+    laid h.timescale c.in_ok-codes-in-Found.codes.used c.in_ok-read-in-Found.read.lists.items c.in_ok-list_of-in-Found.list_of.items es c.in_ok-read-in-Found.read.last (sources_by c.in-Found.sources.items) (rw (← c.deref.ensures.value) c.in_ok-codes-in-Found.ensures.used) kept
+    (rw c.deref-in-Found.ensures.value at c.in_ok-list_of-in-Found.ensures.ok)
 
 pub returns-in-Found : goal.returns-in-Found
 returns-in-Found c =
@@ -48,10 +47,10 @@ returns-in-Found c =
     let same : variables c.as_slice-variables.result.now ≡ h.variables = ap variables c.as_slice-variables.ensures.value ∙ is.variables in
     let below : sources_below c.args.circuit.now h.variables (nets_of c.args.circuit.now) ≡ Ok (sources_by c.in-Found.sources.items) = rw (← same) (rw c.in-Found.is at c.in_ok-sources.ensures.ok) in
     let known = known-codes c.args.circuit.now h.variables c.in_ok-codes-in-Found.codes (sources_by c.in-Found.sources.items) (rw (← same, ← c.deref.ensures.value) c.in_ok-codes-in-Found.ensures.all) below in
-    let (es, now, events, kept) = c.in_ok-lists-in-Found.ensures in (
+    let ((es, events, kept), _) = c.in_ok-read-in-Found.ensures in (
       record { timescale = h.timescale; events = es; sources = sources_by c.in-Found.sources.items },
       reads c.args.text.now c.args.circuit.now h c.read_declarations.new.words es (sources_by c.in-Found.sources.items) read (events-read (knows c.in_ok-codes-in-Found.codes) (has_code h.variables) (items nothing c.read_declarations.new.words) es known events) below,
-      rw (c.new.ensures, is.timescale) (means c.args.circuit.now h c.in_ok-codes-in-Found.codes.used c.in_ok-lists-in-Found.lists.items c.in_ok-list_of-in-Found.list_of.items es now (sources_by c.in-Found.sources.items) (rw (← c.deref.ensures.value) c.in_ok-codes-in-Found.ensures.used) kept
+      rw (c.new.ensures, is.timescale) (means c.args.circuit.now h c.in_ok-codes-in-Found.codes.used c.in_ok-read-in-Found.read.lists.items c.in_ok-list_of-in-Found.list_of.items es c.in_ok-read-in-Found.read.last (sources_by c.in-Found.sources.items) (rw (← c.deref.ensures.value) c.in_ok-codes-in-Found.ensures.used) kept
           (rw c.deref-in-Found.ensures.value at c.in_ok-list_of-in-Found.ensures.ok) below c.law.ensures.drivers),
     )
 
@@ -71,7 +70,7 @@ returns c =
     let read = declared-read c.args.circuit.now c.args.text.now _ _ (λ (r : Read). r ≡ Ok (h, c.read_declarations.new.words)) c.asked_scope.ensures c.new-words.ensures declared in
     let same : variables c.as_slice-variables.result.now ≡ h.variables = ap variables c.as_slice-variables.ensures.value ∙ is.variables in
     let known = unused-codes h.variables c.in_ok-codes-in-Lacking.codes (rw (← same) c.in_ok-codes-in-Lacking.ensures.all) in
-    let (es, now, events, kept) = c.in_ok-read_changes-in-Lacking.ensures in
+    let ((es, events, kept), _) = c.in_ok-read_changes-in-Lacking.ensures in
     let lacking : sources_below c.args.circuit.now h.variables (nets_of c.args.circuit.now) ≡ Err c.in-Lacking.fault = rw (← same) (rw c.in-Lacking.is at c.in_ok-sources.ensures.ok) in
     inputs-fail c.args.text.now c.args.circuit.now _ h c.read_declarations.new.words es read
     (events-read (knows c.in_ok-codes-in-Lacking.codes) (has_code h.variables) (items nothing c.read_declarations.new.words) es known events) (inr lacking)

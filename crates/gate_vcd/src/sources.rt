@@ -1,0 +1,46 @@
+ghost use Rattle.gate_vcd.specs.Changes.{items, nothing};
+ghost use Rattle.gate_vcd.specs.Inner.Commands.{variables as variables_of};
+ghost use Rattle.gate_vcd.specs.Inner.Known.{sources_by};
+ghost use Rattle.gate_vcd.specs.Sources.{AreDeclared, IsFollowed};
+
+use crate::changes::read_changes;
+use crate::fault::StimFault;
+use crate::inputs::numbers_of;
+use crate::known::KnownCodes;
+use crate::source::Source;
+use crate::stimulus::Stimulus;
+use crate::timescale::Timescale;
+use crate::variable::Variable;
+use crate::words::Words;
+use gate_netlist::TextSeed;
+use std::alloc::Global;
+
+/// What the changes of a text give to takers with numbers, and the time of its last stamp.
+#[derive(Drop)]
+pub struct Followed {
+    pub given: Stimulus,
+    pub last: u64,
+}
+
+/// Reads the changes of a text after its declarations, for takers that take their values from sources.
+///
+/// The changes of other codes are read and not kept. A fault is the first one of the changes.
+pub fn read_sources<'a>(
+    alloc: Global,
+    words: &mut Words<'a>,
+    seed: TextSeed,
+    timescale: Timescale,
+    all: &[Variable<'a>],
+    takers: &[Option<Source<'a>>],
+) -> Result<Followed, StimFault>
+    requires { AreDeclared (variables_of all.now) (sources_by takers.now) }
+    ensures { IsFollowed (variables_of all.now) (sources_by takers.now) (items nothing words.old) result }
+{
+    let codes = KnownCodes::of(alloc, seed, all, takers)?;
+    let read = read_changes(alloc, words, &codes)?;
+    let list_of = numbers_of(alloc, takers, &codes.used)?;
+    Ok(Followed {
+        given: Stimulus::new(timescale, read.lists, list_of),
+        last: read.last,
+    })
+}
