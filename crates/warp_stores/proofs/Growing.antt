@@ -1,6 +1,7 @@
 -- Stops that count one word more, and what they tell.
 use Rattle.std.proofs.Common.{◌≡◌, ℕ, suc, ◌+◌, ◌-◌, ◌<◌, ◌≤◌, ◌⊎◌, inl, inr, List, [], ◌∷◌, ◌++◌, length, take, drop, map, refl, ap, sym, ◌∙◌, subst, arith, append_assoc, length-append, length-drop}
-use Rattle.std.proofs.lemmas.List.Elements.{All-head, All-tail, All-push}
+use Rattle.std.specs.List.{All}
+use Rattle.std.proofs.lemmas.List.Elements.{All-nil, All-cons, All-head, All-tail, All-push}
 use Rattle.std.proofs.lemmas.List.{take-append-drop, take_more, take-append-le, drop-append-le, take_all, drop_all, append-nil, map-append, set_split, length_push, length-take-le}
 use Rattle.warp_stores.specs.Dated.{Dated, last_from, RisesFrom}
 use Rattle.warp_stores.specs.Inner.StopBits.{Tally}
@@ -143,16 +144,24 @@ last_from-at_once low time [] ds h = absurd (omega arith)
 last_from-at_once low time (u ∷ []) ds h = refl
 last_from-at_once low time (u ∷ v ∷ us) ds h = last_from-at_once time time (v ∷ us) ds (omega arith)
 
--- a stop that isn't before what is told last may stand behind
-pub Climbs-push : {T : Type 0} (low : ℕ) (ss : List Tally) (ws : List T) (time count : ℕ) → Climbs low ss → AreFull ss → total ss ≡ length ws → last_from low (dated ss ws) ≤ time → Climbs low (ss ++ record { time = time; count = count } ∷ [])
-Climbs-push low [] ws time count c full whole h = (h, tt)
-Climbs-push low (s ∷ ss) ws time count c full whole h =
+-- stops of one time that isn't before another
+Climbs-once : (low time : ℕ) (ss : List Tally) → low ≤ time → All (λ s. s.time ≡ time) ss → Climbs low ss
+Climbs-once low time [] h all = tt
+Climbs-once low time (s ∷ ss) h all =
+    let P : Tally → Type 0 = λ x. x.time ≡ time in
+    let first : s.time ≡ time = All-head P s ss all in
+    (omega arith, Climbs-once s.time time ss (omega arith) (All-tail P s ss all))
+
+-- stops of a time that isn't before what is told last may stand behind
+pub Climbs-extend : {T : Type 0} (low : ℕ) (ss : List Tally) (ws : List T) (time : ℕ) (added : List Tally) → Climbs low ss → AreFull ss → total ss ≡ length ws → last_from low (dated ss ws) ≤ time → All (λ s. s.time ≡ time) added → Climbs low (ss ++ added)
+Climbs-extend low [] ws time added c full whole h once = Climbs-once low time added h once
+Climbs-extend low (s ∷ ss) ws time added c full whole h once =
     let P : Tally → Type 0 = λ x. 0 < x.count in
     let some : 0 < s.count = All-head P s ss full in
     let many : length (take s.count ws) ≡ s.count = length-take-le s.count ws (omega arith) in
     let rest : total ss ≡ length (drop s.count ws) = omega (arith, length-drop s.count ws) in
     let last : last_from low (map (λ w. (s.time, w)) (take s.count ws) ++ dated ss (drop s.count ws)) ≡ last_from s.time (dated ss (drop s.count ws)) = last_from-at_once low s.time (take s.count ws) (dated ss (drop s.count ws)) (omega arith) in
-    (c.0, Climbs-push s.time ss (drop s.count ws) time count c.1 (All-tail P s ss full) rest (omega arith))
+    (c.0, Climbs-extend s.time ss (drop s.count ws) time added c.1 (All-tail P s ss full) rest (omega arith) once)
 
 -- a stop's count is nothing to the order
 Climbs-recount : (low : ℕ) (front : List Tally) (time count count' : ℕ) → Climbs low (front ++ record { time = time; count = count } ∷ []) → Climbs low (front ++ record { time = time; count = count' } ∷ [])
@@ -163,7 +172,7 @@ pub Climbs-growth : {T : Type 0} (fixed time : ℕ) (ss ss' : List Tally) (ws : 
 Climbs-growth fixed time ss ss' ws g c full whole h =
     let grown : Climbs 0 (g.front ++ record { time = time; count = g.count + 1 } ∷ []) =
     elim g.was [
-      | inl e ↦ subst (λ (xs : List Tally). Climbs 0 (xs ++ record { time = time; count = g.count + 1 } ∷ [])) e.0 (Climbs-push 0 ss ws time (g.count + 1) c full whole h)
+      | inl e ↦ subst (λ (xs : List Tally). Climbs 0 (xs ++ record { time = time; count = g.count + 1 } ∷ [])) e.0 (Climbs-extend 0 ss ws time (record { time = time; count = g.count + 1 } ∷ []) c full whole h (All-cons (λ (s : Tally). s.time ≡ time) (record { time = time; count = g.count + 1 }) [] refl (All-nil (λ (s : Tally). s.time ≡ time))))
       | inr e ↦ Climbs-recount 0 g.front time g.count (g.count + 1) (subst (λ (xs : List Tally). Climbs 0 xs) e c)
     ] in
     subst (λ (xs : List Tally). Climbs 0 xs) (sym g.is) grown
@@ -179,7 +188,7 @@ pub RisesFrom-dated : {T : Type 0} (low : ℕ) (ss : List Tally) (ws : List T) �
 RisesFrom-dated low [] ws c = tt
 RisesFrom-dated low (s ∷ ss) ws c = RisesFrom-at_once low s.time (take s.count ws) (dated ss (drop s.count ws)) c.0 (RisesFrom-dated s.time ss (drop s.count ws) c.1)
 
-last_from-append : {T : Type 0} (low : ℕ) (a b : List (Dated T)) → last_from low (a ++ b) ≡ last_from (last_from low a) b
+pub last_from-append : {T : Type 0} (low : ℕ) (a b : List (Dated T)) → last_from low (a ++ b) ≡ last_from (last_from low a) b
 last_from-append low [] b = refl
 last_from-append low (d ∷ a) b = last_from-append d.0 a b
 

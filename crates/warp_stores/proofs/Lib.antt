@@ -1,11 +1,12 @@
 -- Laws of parts of lists (`Parts`), of stops and places between them (`Stops`, `Seeking`), of what stops tell (`Telling`)
--- and tell more (`Growing`), of a queue's calls (`Queues`), of lists that words lengthen (`Listing`), of words at times
+-- and tell more (`Growing`, `Extending`), of a queue's calls (`Queues`), of lists that words lengthen (`Listing`), of words at times
 -- (`Times`), and of tournaments (`Tournaments`).
 pub mod Parts
 pub mod Stops
 pub mod Seeking
 pub mod Telling
 pub mod Growing
+pub mod Extending
 pub mod Queues
 pub mod Listing
 pub mod Times

@@ -7,7 +7,7 @@ use Rattle.std.proofs.lemmas.List.{take-take, take-append-le, drop-append-le, le
 use Rattle.std.proofs.lemmas.List.Edits.{between_more}
 use Rattle.std.proofs.lemmas.Grind.{common_steps}
 use Rattle.warp_stores.specs.declared.place.Place.{Place}
-use Rattle.warp_stores.specs.Dated.{Dated, Line, before, since, undated, standing, first_time, last_time, Rises}
+use Rattle.warp_stores.specs.Dated.{Dated, Line, at, before, since, undated, standing, first_time, last_time, Rises}
 use Rattle.warp_stores.specs.Inner.StopBits.{Tally}
 use Rattle.warp_stores.specs.Inner.Stops.{total, dated, AreSince, AreBefore, Climbs, told, IsPlace, IsSpan, IsParted, HaveOneMore, end_of, IsQueue, line_of}
 use Rattle.warp_stores.proofs.Parts.{between_append, between-take, between_end, between_cons, All-between}
@@ -34,7 +34,7 @@ climbs_ahead_of {T} {ss} {ws} {dead} {read} q =
     (subst (λ (xs : List Tally). Climbs 0 xs) (between_append ss dead.stops read.stops (length ss) q.span.order q.span.end.within q.span.end.within) q.climbs)
 
 -- what is told up to the end
-ends : {T : Type 0} (ss : List Tally) (ws : List T) (p : Place) → told ss ws p (end_of ss ws) ≡ dated (drop p.stops ss) (drop p.words ws)
+pub ends : {T : Type 0} (ss : List Tally) (ws : List T) (p : Place) → told ss ws p (end_of ss ws) ≡ dated (drop p.stops ss) (drop p.words ws)
 ends ss ws p = rw (between_end ss p.stops, between_end ws p.words) refl
 
 -- all that stands
@@ -235,14 +235,14 @@ line_freed {T} ss ws dead read q =
       told-drop ss ws dead.stops dead.words (read.stops - dead.stops) (read.words - dead.words) (length (drop dead.stops ss)) (length (drop dead.words ws)) ∙ cc,
     )
 
--- one word more
-pub record Grows {T : Type 0} (time : ℕ) (ss ss' : List Tally) (ws : List T) (w : T) (dead read : Place) : Type 0 where
-  pub queue : IsQueue ss' (ws ++ w ∷ []) dead read
-  pub told_read : told ss' (ws ++ w ∷ []) dead read ≡ told ss ws dead read
-  pub told_ahead : told ss' (ws ++ w ∷ []) read (end_of ss' (ws ++ w ∷ [])) ≡ told ss ws read (end_of ss ws) ++ (time, w) ∷ []
+-- words more
+pub record Grows {T : Type 0} (time : ℕ) (ss ss' : List Tally) (ws us : List T) (dead read : Place) : Type 0 where
+  pub queue : IsQueue ss' (ws ++ us) dead read
+  pub told_read : told ss' (ws ++ us) dead read ≡ told ss ws dead read
+  pub told_ahead : told ss' (ws ++ us) read (end_of ss' (ws ++ us)) ≡ told ss ws read (end_of ss ws) ++ at time us
 
 pub queue_grows : {T : Type 0} (time : ℕ) (ss ss' : List Tally) (ws : List T) (w : T) (dead read : Place) → IsQueue ss ws dead read → HaveOneMore read.stops time ss ss' → last_time (standing (line_of ss ws dead read)) ≤ time
-    → Grows time ss ss' ws w dead read
+    → Grows time ss ss' ws (w ∷ []) dead read
 queue_grows {T} time ss ss' ws w dead read q more h =
     let g : Growth read.stops time ss ss' = growth_of read.stops time ss ss' q.span.end.within more in
     let order : dead.stops ≤ read.stops = q.span.order in

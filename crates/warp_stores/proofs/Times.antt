@@ -42,7 +42,7 @@ last_from-push low t [] w = refl
 last_from-push low t (d ∷ ds) w = last_from-push d.0 t ds w
 
 -- the last is no earlier than the first
-last_from-low : {T : Type 0} (low : ℕ) (ds : List (Dated T)) → RisesFrom low ds → low ≤ last_from low ds
+pub last_from-low : {T : Type 0} (low : ℕ) (ds : List (Dated T)) → RisesFrom low ds → low ≤ last_from low ds
 last_from-low low [] r = omega arith
 last_from-low low (d ∷ ds) r = let g : low ≤ d.0 = r.0 in let h : d.0 ≤ last_from d.0 ds = last_from-low d.0 ds r.1 in omega arith
 

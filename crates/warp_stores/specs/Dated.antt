@@ -6,6 +6,10 @@ use Rattle.std.specs.List.{filter}
 abbrev pub Dated : Type 0 → Type 0
 Dated T = ℕ × T
 
+-- what came at a time, with the time
+abbrev pub at : {T : Type 0} → ℕ → List T → List (Dated T)
+at time words = map (λ w. (time, w)) words
+
 -- what came before a time
 abbrev pub before : {T : Type 0} → ℕ → List (Dated T) → List (Dated T)
 before time words = filter (λ d. nat_lt d.0 time) words

@@ -1,9 +1,9 @@
 //! Places between stops.
 ghost use Rattle.std.specs.Prelude.{◌≡◌, ◌<◌, ◌≤◌, ◌+◌, ◌-◌, ◌^◌, ◌++◌, ◌∷◌, [], OnOk, OnErr, length, drop};
 ghost use Rattle.std.specs.List.{between};
-ghost use Rattle.warp_stores.specs.Inner.Stops.{total, Climbs, IsSpan, IsParted, HaveOneMore, end_of};
+ghost use Rattle.warp_stores.specs.Inner.Stops.{total, Climbs, IsSpan, IsParted, HaveOneMore, HaveMore, end_of};
 
-use crate::stop::{Stop, TIMES};
+use crate::stop::{MOST_COUNTED, Stop, TIMES};
 use std::alloc::AllocError;
 
 /// A place between stops: how many stops are ahead of it, and how many words they have.
@@ -101,7 +101,7 @@ pub(crate) fn count_one(stops: &mut Vec<Stop>, fixed: usize, time: u64) -> Resul
             return Ok(());
         }
     }
-    stops.push(Stop::one(time))?;
+    stops.push(Stop::new(time, 1))?;
     Ok(())
 }
 
@@ -124,6 +124,46 @@ where
     words.reserve(1)?;
     count_one(stops, fixed, time)?;
     words.push_reserved(word);
+    Ok(())
+}
+
+/// Counts so many words more at a time, in stops of their own.
+fn count_all(stops: &mut Vec<Stop>, time: u64, count: usize) -> Result<(), AllocError>
+    requires { time < TIMES }
+    ensures ok { OnOk result (HaveMore time count stops.old.items stops.new.items) }
+    ensures err { OnErr result (stops.new.items ≡ stops.old.items) }
+{
+    let len = stops.len();
+    let mut left = count as u64;
+    while left > 0 {
+        let some = left.min(MOST_COUNTED);
+        if stops.push(Stop::new(time, some)).is_err() {
+            stops.truncate(len);
+            return Err(AllocError);
+        }
+        left -= some;
+    }
+    Ok(())
+}
+
+/// Counts words more, and appends them.
+pub(crate) fn append_all<T>(
+    stops: &mut Vec<Stop>,
+    words: &mut Vec<T>,
+    time: u64,
+    more: &[T],
+) -> Result<(), AllocError>
+where
+    T: Copy,
+    requires { time < TIMES }
+    ensures stops { OnOk result (HaveMore time (length more.now) stops.old.items stops.new.items) }
+    ensures words { OnOk result (words.new.items ≡ words.old.items ++ more.now) }
+    ensures stops_err { OnErr result (stops.new.items ≡ stops.old.items) }
+    ensures words_err { OnErr result (words.new.items ≡ words.old.items) }
+{
+    words.reserve(more.len())?;
+    count_all(stops, time, more.len())?;
+    words.extend_from_slice(more)?;
     Ok(())
 }
 

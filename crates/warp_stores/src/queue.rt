@@ -1,8 +1,8 @@
 //! Words in the order in which they came, and a head that reads them.
-ghost use Rattle.std.specs.Prelude.{◌≡◌, ◌≤◌, ◌<◌, ◌+◌, ◌++◌, ◌∷◌, [], OnOk, OnErr, length, nat_lt};
-ghost use Rattle.warp_stores.specs.Dated.{before, since, undated, first_time, last_time, standing, Rises};
+ghost use Rattle.std.specs.Prelude.{◌≡◌, ◌≤◌, ◌<◌, ◌+◌, ◌++◌, ◌∷◌, [], OnOk, OnErr, IfSome, length, nat_lt};
+ghost use Rattle.warp_stores.specs.Dated.{at, before, since, undated, first_time, last_time, standing, Rises};
 
-use crate::place::{Place, append, drop_front, end_of, first_since, last_before, part};
+use crate::place::{Place, append, append_all, drop_front, end_of, first_since, last_before, part};
 use crate::stop::{Stop, TIMES};
 use std::alloc::{AllocError, Global};
 use std::marker::Model;
@@ -68,9 +68,20 @@ impl<T: Copy> Queue<T> {
         )
     }
 
+    /// Appends the words of a time. An error is a refused growth; then all stays.
+    pub fn append_all(&mut self, time: u64, words: &[T]) -> Result<(), AllocError>
+        requires time { time < TIMES }
+        requires order { last_time (standing self.old) ≤ time }
+        ensures ok { OnOk result (self.new ≡ record self.old { ahead = self.old.ahead ++ at time words.now }) }
+        ensures err { OnErr result (self.new ≡ self.old) }
+    {
+        append_all(&mut self.stops, &mut self.words, time, words)
+    }
+
     /// The time of the first word ahead.
     pub fn head(&self) -> Option<u64>
-        ensures { result ≡ first_time self.now.ahead }
+        ensures first { result ≡ first_time self.now.ahead }
+        ensures within { IfSome result (λ time. time < TIMES) }
     {
         if self.read.stops == self.stops.len() {
             return None;

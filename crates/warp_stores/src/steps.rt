@@ -1,6 +1,6 @@
 //! All that came, step by step.
 ghost use Rattle.std.specs.Prelude.{◌≡◌, ◌≤◌, ◌<◌, ◌++◌, ◌∷◌, [], OnOk, OnErr};
-ghost use Rattle.warp_stores.specs.Dated.{before, since, undated, last_time, Rises};
+ghost use Rattle.warp_stores.specs.Dated.{at, before, since, undated, last_time, Rises};
 
 use crate::queue::Queue;
 use crate::stop::TIMES;
@@ -50,6 +50,16 @@ impl<T: Copy> Steps<T> {
         ensures err { OnErr result (self.new ≡ self.old) }
     {
         self.words.append(time, word)
+    }
+
+    /// Appends the words of a time. An error is a refused growth; then all stays.
+    pub fn append_all(&mut self, time: u64, words: &[T]) -> Result<(), AllocError>
+        requires time { time < TIMES }
+        requires order { last_time self.old ≤ time }
+        ensures ok { OnOk result (self.new ≡ self.old ++ at time words.now) }
+        ensures err { OnErr result (self.new ≡ self.old) }
+    {
+        self.words.append_all(time, words)
     }
 
     /// The time of the last step, 0 where there is none.

@@ -1,5 +1,5 @@
 //! So many words at a time, in eight bytes.
-ghost use Rattle.std.specs.Prelude.{◌≡◌, ◌<◌, ◌+◌, nat_lt};
+ghost use Rattle.std.specs.Prelude.{◌≡◌, ◌<◌, ◌≤◌, ◌+◌, nat_lt};
 
 use std::marker::Model;
 
@@ -27,14 +27,18 @@ impl Model for Stop {
     ghost inverse_ok = { λ stop h. bits_of-tally_of stop };
 }
 
+/// The most words that a stop counts.
+pub(crate) const MOST_COUNTED: u64 = COUNTS - 1;
+
 impl Stop {
-    /// One word at a time.
-    pub(crate) fn one(time: u64) -> Stop
-        requires { time < TIMES }
-        ensures { result ≡ record { time = time; count = 1 } }
+    /// So many words at a time.
+    pub(crate) fn new(time: u64, count: u64) -> Stop
+        requires time { time < TIMES }
+        requires count { count ≤ MOST_COUNTED }
+        ensures { result ≡ record { time = time; count = count } }
     {
         Stop {
-            bits: time * COUNTS + 1,
+            bits: time * COUNTS + count,
         }
     }
 

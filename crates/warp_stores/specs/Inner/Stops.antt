@@ -69,6 +69,14 @@ pub record IsJoined (fixed time : ℕ) (stops stops' : List Tally) (last : Tally
 abbrev pub HaveOneMore : ℕ → ℕ → List Tally → List Tally → Type 0
 HaveOneMore fixed time stops stops' = (stops' ≡ stops ++ record { time = time; count = 1 } ∷ []) ⊎ ((last : Tally) × IsJoined fixed time stops stops' last)
 
+-- behind some stops stand others of one time, that have so many words
+pub record HaveMore (time count : ℕ) (stops stops' : List Tally) : Type 0 where
+  pub added : List Tally
+  pub after : stops' ≡ stops ++ added
+  pub words : total added ≡ count
+  pub full : AreFull added
+  pub once : All (λ s. s.time ≡ time) added
+
 -- how stops and words lie in a queue
 pub record IsQueue {T : Type 0} (stops : List Tally) (words : List T) (dead read : Place) : Type 0 where
   pub whole : total stops ≡ length words

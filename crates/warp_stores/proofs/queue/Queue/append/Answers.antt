@@ -1,4 +1,4 @@
-use Rattle.std.proofs.Common.{◌≤◌, sym, subst}
+use Rattle.std.proofs.Common.{◌≤◌, [], ◌∷◌, sym, subst}
 use Rattle.warp_stores.specs.Dated.{Line, last_time, standing}
 use Rattle.warp_stores.specs.Inner.Stops.{line_of}
 use Rattle.warp_stores.proofs.Queues.{line_equal, on_either, on_ok_both, Grows, queue_grows}
@@ -16,5 +16,5 @@ returns-clause-ok g c =
     let late : last_time (standing (line_of c.self.inside.stops.items c.self.inside.words.items c.self.inside.dead c.self.inside.read)) ≤ c.args.time = subst (λ (x : Line g.row.T.Denot). last_time (standing x) ≤ c.args.time) (sym c.self.view_is) c.requires.order in
     on_ok_both c.append.result c.append.ensures.stops c.append.ensures.words
     (λ stops words.
-    let grows : Grows c.args.time c.self.inside.stops.items c.append.new.stops.items c.self.inside.words.items c.args.word c.self.inside.dead c.self.inside.read = queue_grows c.args.time c.self.inside.stops.items c.append.new.stops.items c.self.inside.words.items c.args.word c.self.inside.dead c.self.inside.read c.self.invariant stops late in
+    let grows : Grows c.args.time c.self.inside.stops.items c.append.new.stops.items c.self.inside.words.items (c.args.word ∷ []) c.self.inside.dead c.self.inside.read = queue_grows c.args.time c.self.inside.stops.items c.append.new.stops.items c.self.inside.words.items c.args.word c.self.inside.dead c.self.inside.read c.self.invariant stops late in
     rw (words, ← c.self.view_is) (line_equal c.self.inside.dead.words _ _ _ _ grows.told_read grows.told_ahead))
