@@ -1,6 +1,6 @@
 -- Laws of parts of lists (`Parts`), of stops and places between them (`Stops`, `Seeking`), of what stops tell (`Telling`)
 -- and tell more (`Growing`, `Extending`), of a queue's calls (`Queues`), of lists that words lengthen (`Listing`), of words at times
--- (`Times`), and of tournaments (`Tournaments`).
+-- (`Times`), of lists made from others one by one (`Mixing`), of queues by delay (`Delaying`), and of tournaments (`Tournaments`).
 pub mod Parts
 pub mod Stops
 pub mod Seeking
@@ -10,4 +10,6 @@ pub mod Extending
 pub mod Queues
 pub mod Listing
 pub mod Times
+pub mod Mixing
+pub mod Delaying
 pub mod Tournaments

@@ -1,5 +1,6 @@
 pub mod Words
 pub mod Dated
 pub mod Least
+pub mod Delays
 pub mod Lists
 pub mod Inner

@@ -51,6 +51,22 @@ impl Least {
         self.nodes[1]
     }
 
+    /// The first place from one on whose time is no later than a time, or how many places there are.
+    pub fn first_by(&self, from: usize, time: u64) -> usize
+        requires { from ≤ length self.now }
+        ensures within { from ≤ result × result ≤ length self.now }
+        ensures passed { (k : ℕ) → from ≤ k → k < result → time < slice_index self.now k }
+        ensures found { result < length self.now → slice_index self.now result ≤ time }
+    {
+        let half = self.nodes.len() / 2;
+        for place in from..half {
+            if self.nodes[half + place] <= time {
+                return place;
+            }
+        }
+        half
+    }
+
     /// Puts a time into a place.
     pub fn set(&mut self, place: usize, time: u64)
         requires { place < length self.old }

@@ -1,0 +1,135 @@
+//! A queue of words that come true a delay after the steps that made them.
+ghost use Rattle.std.specs.Prelude.{◌≡◌, ◌≤◌, ◌<◌, ◌∷◌, [], OnOk, OnErr, is_none, false};
+ghost use Rattle.warp_stores.specs.Dated.{first_time, last_time, standing};
+ghost use Rattle.warp_stores.specs.Delays.{empty_after, due_of, with_made, due_by, read_by, back_from, made_since, cut_since, IsForgotten};
+
+use crate::least::NEVER;
+use crate::queue::Queue;
+use crate::stop::TIMES;
+use crate::word::Word;
+use std::alloc::{AllocError, Global};
+use std::marker::Model;
+
+/// Words at the times of the steps that made them. They come true a delay after.
+#[derive(Debug, Drop)]
+pub(crate) struct DelayQueue {
+    words: Queue<Word>,
+    delay: u32,
+}
+
+impl Model for DelayQueue {
+    ghost use Rattle.warp_stores.specs.Delays.{Delayed};
+
+    ghost Value = { Delayed };
+
+    ghost view = { λ queue. record { delay = queue.delay; line = queue.words } };
+}
+
+impl DelayQueue {
+    /// No word.
+    pub(crate) fn new(alloc: Global, delay: u32) -> DelayQueue
+        ensures { result ≡ empty_after delay }
+    {
+        DelayQueue {
+            words: Queue::new(alloc),
+            delay,
+        }
+    }
+
+    /// The time at which the first word ahead comes true, [`NEVER`] where none is ahead.
+    pub(crate) fn due(&self) -> u64
+        ensures { result ≡ due_of self.now }
+    {
+        self.words.law();
+        match self.words.head() {
+            Some(step) => step + self.delay as u64,
+            None => NEVER,
+        }
+    }
+
+    /// Whether no word is ahead.
+    pub(crate) fn is_read(&self) -> bool
+        ensures { result ≡ is_none (first_time self.now.line.ahead) }
+    {
+        self.words.head().is_none()
+    }
+
+    /// The last step that made a word, 0 where there is none.
+    pub(crate) fn last_step(&self) -> u64
+        ensures { result ≡ last_time (standing self.now.line) }
+    {
+        self.words.last_time()
+    }
+
+    /// Puts a word that a step made. An error is a refused growth; then all stays.
+    pub(crate) fn put(&mut self, step: u64, word: Word) -> Result<(), AllocError>
+        requires time { step < TIMES }
+        requires order { last_time (standing self.old.line) ≤ step }
+        ensures ok { OnOk result (self.new ≡ with_made step (word ∷ []) self.old) }
+        ensures err { OnErr result (self.new ≡ self.old) }
+        ensures due { is_none (first_time self.old.line.ahead) ≡ false → OnOk result (due_of self.new ≡ due_of self.old) }
+    {
+        self.words.law();
+        self.words.append(step, word)
+    }
+
+    /// Puts the words that a step made. An error is a refused growth; then all stays.
+    pub(crate) fn put_all(&mut self, step: u64, words: &[Word]) -> Result<(), AllocError>
+        requires time { step < TIMES }
+        requires order { last_time (standing self.old.line) ≤ step }
+        ensures ok { OnOk result (self.new ≡ with_made step words.now self.old) }
+        ensures err { OnErr result (self.new ≡ self.old) }
+        ensures due { is_none (first_time self.old.line.ahead) ≡ false → OnOk result (due_of self.new ≡ due_of self.old) }
+    {
+        self.words.law();
+        self.words.append_all(step, words)
+    }
+
+    /// The words ahead that come true by a time.
+    pub(crate) fn due_by(&self, time: u64) -> &[Word]
+        requires { time < NEVER }
+        ensures { result.now ≡ due_by time self.now }
+    {
+        self.words
+            .ahead_before((time + 1).saturating_sub(self.delay as u64))
+    }
+
+    /// Reads the words ahead that come true by a time.
+    pub(crate) fn read_by(&mut self, time: u64)
+        requires { time < NEVER }
+        ensures { self.new ≡ read_by time self.old }
+    {
+        let step = (time + 1).saturating_sub(self.delay as u64);
+        self.words.read_before(step);
+    }
+
+    /// Puts back the words that were read and come true at a time or later.
+    pub(crate) fn put_back(&mut self, time: u64)
+        ensures { self.new ≡ back_from time self.old }
+    {
+        let step = time.saturating_sub(self.delay as u64);
+        self.words.put_back(step);
+    }
+
+    /// The words that a step and later ones made.
+    pub(crate) fn made_since(&self, step: u64) -> &[Word]
+        ensures { result.now ≡ made_since step self.now }
+    {
+        self.words.since(step)
+    }
+
+    /// Cuts off the words that a step and later ones made.
+    pub(crate) fn cut_from(&mut self, step: u64)
+        ensures { self.new ≡ cut_since step self.old }
+    {
+        self.words.cut_from(step);
+    }
+
+    /// Forgets the words that were read and came true before a time.
+    pub(crate) fn forget_below(&mut self, time: u64)
+        ensures { IsForgotten time self.old self.new }
+    {
+        let step = time.saturating_sub(self.delay as u64);
+        self.words.forget_below(step);
+    }
+}
