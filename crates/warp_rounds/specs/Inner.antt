@@ -1,5 +1,4 @@
 -- What only the proofs of this crate need: no contract of a public call speaks of it.
-pub mod Fit
 pub mod Inside
 pub mod Rule
 pub mod Turn

@@ -12,14 +12,15 @@
 //! Times are whole numbers in units of the stimulus's timescale. The definitions stand in `specs/`: `Turn` says what a
 //! turn does to a block, what it reports, and what it has done where it meets a fault; `Visit` what is known of a turn under
 //! a lock; `Runs` where each fault of a run comes from; `Seats` what callers see of a round and of its seats; and in
-//! `specs/Inner/` `Fit` says how far the turns of visits go, `Work` what workers have done, and `Rule` the rule of a
-//! round's two shared words, and what each step does to a seat.
+//! `specs/Inner/` `Work` says what workers have done, and `Rule` the rule of a round's two shared words, and what each step
+//! does to a seat.
 #![tactic(auto)]
 
 mod desk;
 mod fault;
 mod gate;
 mod hand;
+mod pace;
 mod round;
 mod runs;
 mod site;

@@ -12,6 +12,7 @@ ghost use Rattle.warp_rounds.specs.Inner.Work.{IsRoundsFault};
 use crate::desk::Desk;
 use crate::fault::RunFault;
 use crate::gate::Gate;
+use crate::pace::{Lead, tellers_of};
 use crate::site::Site;
 use crate::work::play_round;
 use gate_netlist::{Circuit, Cut};
@@ -21,9 +22,6 @@ use std::sync::Wait;
 use std::thread::Threads;
 use warp_block::{Block, Part};
 use warp_core::gather;
-
-// A round with fewer event times and messages isn't worth other threads than the caller's.
-const LITTLE: u64 = 256;
 
 /// The waves of a circuit under a stimulus, from time 0 to the horizon, which is at most 10^12. The blocks of the cut
 /// run ahead on their own in rounds. In each, up to `workers` workers (1 to 64) draw the blocks, and a block that is drawn takes a
@@ -78,14 +76,16 @@ fn sites_of<R: Wait>(
     let mut desk = Desk::new(alloc);
     for number in 0..cut.blocks() {
         let part = Part::of(alloc, circuit, cut, number)?;
+        let tellers = tellers_of(alloc, circuit, cut, &part)?;
         let block = Block::new(alloc, part, stimulus, horizon, &mut desk.sent)?;
-        sites.push(Site::new(alloc, block))?;
+        sites.push(Site::told_by(alloc, block, tellers))?;
     }
     desk.deliver(rt, sites.as_slice())?;
     Ok(sites)
 }
 
-// Plays rounds until the floor is past the horizon: by all workers, but by one where the round before did little.
+// Plays rounds until the floor is past the horizon: by all workers, but by one alone where the round before had little work, or
+// most of it in one turn.
 fn play_rounds<G: Gate + Sync, R: Threads + Wait + Sync>(
     rt: &R,
     alloc: Global,
@@ -103,12 +103,16 @@ fn play_rounds<G: Gate + Sync, R: Threads + Wait + Sync>(
     let all = workers.min(sites.len() as u32).max(1);
     let mut desks = Vec::new(alloc);
     let mut floor = 0;
-    let mut load = u64::MAX;
+    let mut lead = Lead::first();
+    let mut is_alone = false;
     while floor <= horizon {
-        let seats = if load < LITTLE { 1 } else { all };
-        let played = play_round(rt, alloc, sites, &mut desks, seats, floor, window, gate)?;
+        let seats = if is_alone { 1 } else { all };
+        let played = play_round(
+            rt, alloc, sites, &mut desks, seats, floor, window, lead, gate,
+        )?;
         floor = played.least;
-        load = played.load;
+        lead = lead.after(played.tally);
+        is_alone = played.tally.is_for_one();
     }
     Ok(())
 }

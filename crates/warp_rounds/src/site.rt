@@ -1,13 +1,15 @@
-ghost use Rattle.std.specs.Prelude.{◌≡◌, ◌<◌, min, IfOk, IfErr, OnOk, []};
+ghost use Rattle.std.specs.Prelude.{◌≡◌, ℕ, IfOk, IfErr, OnOk, []};
 ghost use Rattle.warp_block.specs.Lawful.{IsLawful, IsLawfulProcess};
 ghost use Rattle.warp_rounds.specs.Turn.{IsTurn, StaysInFront};
-ghost use Rattle.warp_rounds.specs.Visit.{IsVisit, IsFaultyVisit};
-ghost use Rattle.warp_rounds.specs.Inner.Fit.{refitted};
+ghost use Rattle.warp_rounds.specs.Visit.{Fits, IsVisit, IsFaultyVisit};
 
 use crate::gate::Gate;
-use crate::turns::{TurnReport, Turned, turn_through};
+use crate::pace::{Density, Teller};
+use crate::turns::{TurnReport, Turned, least_pending, turn_through};
 use std::alloc::{AllocError, Global};
 use std::mem;
+use std::sync::atomic::AtomicU64;
+use std::sync::atomic::Ordering::SeqCst;
 use std::sync::{Mutex, Wait};
 use warp_block::{Block, BlockFault, Look, Message};
 
@@ -20,65 +22,88 @@ use warp_block::{Block, BlockFault, Look, Message};
 pub struct Site {
     held: Mutex<Held>,
     inbox: Mutex<Vec<Message>>,
+    /// Up to when nothing will be taken back that the block tells, as its last visit knew. It sets the pace alone.
+    settled: AtomicU64,
+    /// Who tells the block, as far as that is known.
+    tellers: Vec<Teller>,
 }
 
 /// What a site's lock keeps: the block, and what its visits leave to one another.
 #[derive(Drop)]
 struct Held {
     block: Block,
-    /// The window that fits the next turn: before the first one any.
-    window: u32,
+    /// How its event times have lain.
+    density: Density,
     /// The messages of a turn, which are swapped for the inbox's. It is empty between visits, and keeps its memory.
     messages: Vec<Message>,
-    ghost some: { 0 < window },
 }
 
 impl Held {
-    /// A turn of the block with the messages that were taken, by the window that fits it and is at most `most`.
-    fn turn(&mut self, floor: u64, most: u32, out: &mut Vec<Message>) -> Result<Turned, BlockFault>
-        ensures turn { OnOk result (IsTurn self.old.block self.new.block self.old.messages.items floor (min self.old.window most)) }
-        ensures window { IfOk result (λ turned. self.new.window ≡ refitted (min self.old.window most) most turned.undone) }
+    /// A turn of the block with the messages that were taken, of up to `most` event times; where a time is given, of as
+    /// many as are to be expected before it.
+    fn turn(
+        &mut self,
+        floor: u64,
+        most: u32,
+        until: Option<u64>,
+        out: &mut Vec<Message>,
+    ) -> Result<Turned, BlockFault>
+        ensures turn { OnOk result ((own : ℕ) × Fits own most × IsTurn self.old.block self.new.block self.old.messages.items floor own) }
         ensures taken { self.new.messages.items ≡ [] }
         ensures front { StaysInFront out.old.items out.new.items }
         ensures visit { IfOk result (λ turned. IsVisit floor most out.old.items out.new.items turned.report.least) }
         ensures fault { IfErr result (IsFaultyVisit floor most out.old.items out.new.items) }
     {
         self.block.law();
-        let window = self.window.min(most);
+        let start = least_pending(&self.block, self.messages.as_slice());
+        let window = self.density.window(start, until, most);
         let messages = self.messages.as_slice();
         let turned = turn_through(&mut self.block, messages, floor, window, out);
         self.messages.clear();
         if let Ok(turned) = turned {
-            self.window = next_window(window, most, turned.undone);
+            self.density = self.density.after(turned.finished, turned.risen);
         }
         turned
     }
-}
-
-/// The window of the turn after one by `window`.
-fn next_window(window: u32, most: u32, undone: bool) -> u32
-    ensures { result ≡ refitted window most undone }
-{
-    let next = if undone {
-        window / 2
-    } else {
-        window.saturating_add(1).min(most)
-    };
-    next.max(1)
 }
 
 impl Site {
     /// The block behind its lock, and no message in the inbox. It takes no memory: what the inbox grows by is asked of the
     /// allocator later.
     pub fn new(alloc: Global, block: Block) -> Site {
+        Site::told_by(alloc, block, Vec::new(alloc))
+    }
+
+    /// The same, where it is known who tells the block.
+    pub(crate) fn told_by(alloc: Global, block: Block, tellers: Vec<Teller>) -> Site {
         Site {
             held: Mutex::new(Held {
                 block,
-                window: u32::MAX,
+                density: Density::full(),
                 messages: Vec::new(alloc),
             }),
             inbox: Mutex::new(Vec::new(alloc)),
+            settled: AtomicU64::new(0),
+            tellers,
         }
+    }
+
+    /// Up to when nothing will be taken back that the block was told, by what its tellers say at a floor. A message
+    /// below it lies in the inbox by then.
+    pub(crate) fn sure(&self, sites: &[Site], floor: u64) -> u64 {
+        let mut sure = u64::MAX;
+        for teller in &self.tellers {
+            if let Some(site) = sites.get(teller.block as usize) {
+                let settled = site.settled.load(SeqCst).max(floor);
+                sure = sure.min(settled.saturating_add(u64::from(teller.delay)));
+            }
+        }
+        sure
+    }
+
+    /// Says up to when nothing will be taken back that the block tells. All that it told below is in the inboxes.
+    pub(crate) fn settle(&self, until: u64) {
+        self.settled.store(until, SeqCst);
     }
 
     /// Puts a message into the inbox: it is in flight until a visit takes it. The error is a refused growth; after it
@@ -97,9 +122,7 @@ impl Site {
     /// A turn of the block with what the inbox holds, at a floor, under one hold of the block's lock. The gate is lent the
     /// block before it and after it. What is sent goes behind `out`.
     ///
-    /// The turn finishes up to `window` event times, and fewer where the site's visits had to take some back: after each
-    /// that did the block's own window is half of it, after each other one is one more; by a window of 1 or more it finishes
-    /// one at least, if there is one. The first visit's is `window`.
+    /// The turn finishes up to `window` event times, and one at least, if there is one and the window isn't 0.
     ///
     /// After a fault the messages that were taken out of the inbox are gone, and what the turn did before stands.
     pub fn visit<R: Wait, G: Gate>(
@@ -114,16 +137,17 @@ impl Site {
         ensures visit { IfOk result (λ report. IsVisit floor window out.old.items out.new.items report.least) }
         ensures fault { IfErr result (IsFaultyVisit floor window out.old.items out.new.items) }
     {
-        let turned = self.visit_through(rt, floor, window, gate, out)?;
+        let turned = self.visit_through(rt, floor, window, None, gate, out)?;
         Ok(turned.report)
     }
 
-    /// A visit, with what its turn did beside what it reports.
+    /// A visit whose turn, where a time is given, goes about as far as that; with what it did beside what it reports.
     pub(crate) fn visit_through<R: Wait, G: Gate>(
         &self,
         rt: &R,
         floor: u64,
         window: u32,
+        until: Option<u64>,
         gate: &G,
         out: &mut Vec<Message>,
     ) -> Result<Turned, BlockFault>
@@ -135,7 +159,7 @@ impl Site {
         let held = &mut *guard;
         gate.entered(&held.block);
         mem::swap(&mut held.messages, &mut *self.inbox.lock(rt));
-        let turned = held.turn(floor, window, out);
+        let turned = held.turn(floor, window, until, out);
         gate.leaving(&held.block);
         turned
     }
@@ -154,10 +178,15 @@ impl Site {
     pub fn into_block(self) -> Block
         ensures { IsLawfulProcess result }
     {
-        let Site { held, inbox: _ } = self;
+        let Site {
+            held,
+            inbox: _,
+            settled: _,
+            tellers: _,
+        } = self;
         let Held {
             block,
-            window: _,
+            density: _,
             messages: _,
         } = held.into_inner();
         block.law();

@@ -19,10 +19,13 @@ pub struct TurnReport {
 #[derive(Clone, Copy)]
 pub(crate) struct Turned {
     pub report: TurnReport,
-    /// Whether its messages took event times back that were finished.
-    pub undone: bool,
+    /// By how much its messages took the block's mark back, and by how much the mark rose then.
+    pub fallen: u64,
+    pub risen: u64,
     /// How many event times it finished.
     pub finished: u32,
+    /// The block's next time after it.
+    pub next: Option<u64>,
 }
 
 /// What a block does at one go: it receives the messages in order, commits what is below the floor, and finishes up to
@@ -64,14 +67,15 @@ pub(crate) fn turn_through(
     ensures numbers { OnOk result (AddsUp block.old.seen block.new.seen messages.now) }
     ensures turn { OnOk result (IsTurn block.old block.new messages.now floor window) }
     ensures least { IfOk result (λ turned. IsLeastPending block.new.seen (put_behind out.old.items out.new.items) turned.report.least) }
-    ensures undone { IfOk result (λ turned. AreFelt block.old.seen messages.now turned.undone) }
+    ensures fallen { IfOk result (λ turned. AreFelt block.old.seen messages.now turned.fallen) }
     ensures fault { IfErr result (IsFaultyTurn block.old block.new messages.now floor window) }
     ensures sends { Sends block.old.seen block.new.seen (IsAfterPending block.old.seen messages.now) out.old.items out.new.items }
 {
     let start = out.len();
     let mark = block.mark();
     receive_all(block, messages, out)?;
-    let undone = block.mark() < mark;
+    let heard = block.mark();
+    let fallen = mark.saturating_sub(heard);
     block.commit(floor)?;
     block.law();
     let finished = block.advance(window, out)?;
@@ -80,8 +84,10 @@ pub(crate) fn turn_through(
         report: TurnReport {
             least: least.unwrap_or(block.horizon() + 1),
         },
-        undone,
+        fallen,
+        risen: block.mark().saturating_sub(heard),
         finished,
+        next: block.next_time(),
     })
 }
 
@@ -107,7 +113,7 @@ fn receive_all(
 }
 
 /// The least of the next time of a block and the times of some messages.
-fn least_pending(block: &Block, messages: &[Message]) -> Option<u64>
+pub(crate) fn least_pending(block: &Block, messages: &[Message]) -> Option<u64>
     ensures { IsLeast (IsPending block.now.seen messages.now) result }
 {
     let mut least = block.next_time();

@@ -10,6 +10,7 @@ ghost use Rattle.warp_rounds.specs.Inner.Work.{IsReady, HasWorked, IsPlayedOut, 
 use crate::desk::Desk;
 use crate::fault::RunFault;
 use crate::gate::Gate;
+use crate::pace::{Lead, Tally};
 use crate::round::{Round, RoundSeat};
 use crate::site::Site;
 use std::alloc::{AllocError, Global};
@@ -22,8 +23,8 @@ use std::thread::{Promise, PromisedHandle, Threads};
 pub struct Worker {
     pub seat: RoundSeat,
     pub desk: Desk,
-    /// How many event times it let blocks finish, and how many messages they sent.
-    pub load: u64,
+    /// What the turns did that it let blocks take.
+    pub tally: Tally,
     /// The fault that ended its work before no block was left.
     pub fault: Option<RunFault>,
 }
@@ -47,11 +48,12 @@ impl<'a> Promise<Worker> for OfRound<'a> {
 pub struct Played {
     /// The least time that the turns report.
     pub least: u64,
-    /// How many event times were finished, and how many messages were sent.
-    pub load: u64,
+    /// What the turns did.
+    pub tally: Tally,
 }
 
-/// Plays a round: every block takes a turn at the floor, of up to `window` event times. So many workers let them, the
+/// Plays a round: every block takes a turn at the floor, of up to `window` event times, about as far as its tellers or
+/// the lead allow. So many workers let them, the
 /// first in the caller's thread and each other in one of its own. Their desks are taken from `desks`, as far as there
 /// are any, and put back. The least time that is told is above the floor.
 ///
@@ -64,6 +66,7 @@ pub fn play_round<G: Gate + Sync, R: Threads + Wait + Sync>(
     workers: u32,
     floor: u64,
     window: u32,
+    lead: Lead,
     gate: &G,
 ) -> Result<Played, RunFault>
     requires blocks { length sites.now < 2 ^ 32 }
@@ -74,11 +77,11 @@ pub fn play_round<G: Gate + Sync, R: Threads + Wait + Sync>(
 {
     let (round, seats) = Round::new(alloc, sites.len() as u32, workers)?;
     let ready = seated(alloc, seats, desks)?;
-    let done = work_all(rt, alloc, &round, sites, ready, floor, window, gate)?;
-    let load = load_of(done.as_slice());
+    let done = work_all(rt, alloc, &round, sites, ready, floor, window, lead, gate)?;
+    let tally = tally_of(done.as_slice());
     let seats = unseated(alloc, done, desks)?;
     match round.end(seats) {
-        Ok(least) if floor < least => Ok(Played { least, load }),
+        Ok(least) if floor < least => Ok(Played { least, tally }),
         _ => Err(RunFault::Stalled { time: floor }),
     }
 }
@@ -99,20 +102,20 @@ fn seated(
         workers.push_reserved(Worker {
             seat,
             desk,
-            load: 0,
+            tally: Tally::none(),
             fault: None,
         });
     }
     Ok(workers)
 }
 
-// How much all workers did.
-fn load_of(workers: &[Worker]) -> u64 {
-    let mut load = 0u64;
+// What all workers did.
+fn tally_of(workers: &[Worker]) -> Tally {
+    let mut tally = Tally::none();
     for worker in workers {
-        load = load.saturating_add(worker.load);
+        tally = tally.with(worker.tally);
     }
-    load
+    tally
 }
 
 // The seats of workers, or a fault of one. Their desks are put back.
@@ -130,7 +133,7 @@ fn unseated(
         let Worker {
             seat,
             desk,
-            load: _,
+            tally: _,
             fault,
         } = worker;
         if let Some(fault) = fault {
@@ -152,6 +155,7 @@ fn work_all<G: Gate + Sync, R: Threads + Wait + Sync>(
     workers: Vec<Worker>,
     floor: u64,
     window: u32,
+    lead: Lead,
     gate: &G,
 ) -> Result<Vec<Worker>, RunFault>
     requires workers { All (IsReady round.now.round) workers.items }
@@ -185,14 +189,14 @@ fn work_all<G: Gate + Sync, R: Threads + Wait + Sync>(
                     move || -> Worker
                         requires { IsReady round.now.round worker × (round.now.round.blocks ≡ length sites.now) }
                         ensures { HasWorked round.entry.now.round floor window result }
-                    { work(rt, round, sites, worker, floor, window, gate) },
+                    { work(rt, round, sites, worker, floor, window, lead, gate) },
                 );
                 match started {
                     Ok(handle) => handles.push_reserved(handle),
                     Err(_) => return Err(RunFault::NoThread),
                 }
             }
-            let own = work(rt, round, sites, own, floor, window, gate);
+            let own = work(rt, round, sites, own, floor, window, lead, gate);
             let mut done = joined(rt, handles)?;
             done.push(own)?;
             Ok(done)
@@ -223,6 +227,7 @@ fn work<G: Gate, R: Wait>(
     mut worker: Worker,
     floor: u64,
     window: u32,
+    lead: Lead,
     gate: &G,
 ) -> Worker
     requires ready { IsReady round.now.round worker }
@@ -233,10 +238,19 @@ fn work<G: Gate, R: Wait>(
         let Some(block) = round.draw(&mut worker.seat) else {
             return worker;
         };
-        match play(rt, sites, block, &mut worker.desk, floor, window, gate) {
+        match play(
+            rt,
+            sites,
+            block,
+            &mut worker.desk,
+            floor,
+            window,
+            lead,
+            gate,
+        ) {
             Ok(played) => {
                 round.report(&mut worker.seat, played.least);
-                worker.load = worker.load.saturating_add(played.load);
+                worker.tally = worker.tally.with(played.tally);
             }
             Err(fault) => {
                 worker.fault = Some(fault);
@@ -255,6 +269,7 @@ fn play<G: Gate, R: Wait>(
     desk: &mut Desk,
     floor: u64,
     window: u32,
+    lead: Lead,
     gate: &G,
 ) -> Result<Played, RunFault>
     requires { block < length sites.now }
@@ -262,11 +277,15 @@ fn play<G: Gate, R: Wait>(
     ensures fault { IfErr result (IsWorkFault (length sites.now) floor window) }
 {
     desk.sent.clear();
-    let turned = sites[block as usize].visit_through(rt, floor, window, gate, &mut desk.sent)?;
-    let load = u64::from(turned.finished).saturating_add(desk.sent.len() as u64);
+    let site = &sites[block as usize];
+    let sure = site.sure(sites, floor);
+    let until = Some(lead.above(floor).max(sure));
+    let turned = site.visit_through(rt, floor, window, until, gate, &mut desk.sent)?;
+    let tally = Tally::of(&turned, desk.sent.len());
     desk.deliver(rt, sites)?;
+    site.settle(turned.next.unwrap_or(sure).min(sure));
     Ok(Played {
         least: turned.report.least,
-        load,
+        tally,
     })
 }

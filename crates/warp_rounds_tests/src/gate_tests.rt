@@ -168,3 +168,62 @@ fn as_many_blocks_take_turns_at_once_as_there_are_workers(rt: HostRuntime) -> Re
     }
     Ok(())
 }
+
+/// B swings from 1 on, in block 0, which reads A of block 1.
+const TOLD: &str = "INPUT(P)\nINPUT(Q)\nA = BUFF(P)\nB = NAND(B, Q)\nC = AND(A, B)\n";
+
+const TOLD_SETTINGS: &str = "[block]\nA = 1\nB = 0\nC = 0\n";
+
+const TOLD_STIMULUS: &str = "$var wire 1 p P $end $var wire 1 q Q $end
+$enddefinitions $end
+#0 0p 0q #1 1p 1q";
+
+/// The mark of block 0 after its first turn.
+#[derive(Drop)]
+struct First {
+    mark: AtomicU64,
+}
+
+impl Gate for First {
+    fn entered(&self, _block: &Block) {}
+
+    fn leaving(&self, block: &Block) {
+        if block.part().block() == 0 {
+            let _ = self.mark.compare_exchange(0, block.mark(), SeqCst, SeqCst);
+        }
+    }
+}
+
+/// Runs the swing by one worker up to 500, by a window that is larger.
+fn run_swing<R: Threads + Wait + Sync>(
+    rt: &R,
+    alloc: Global,
+    circuit: &Circuit,
+    gate: &First,
+) -> Result<(), Fail> {
+    let cut = circuit.cut().ok_or("a cut")?;
+    if !cut.fits(circuit) {
+        return Err(Fail::from("a cut of another circuit"));
+    }
+    let stimulus = read_stimulus(alloc, TOLD_STIMULUS.as_bytes(), circuit)?;
+    let waves = run(rt, alloc, circuit, cut, &stimulus, 500, 1, 1000, gate);
+    drop(stimulus);
+    drop(waves?);
+    Ok(())
+}
+
+/// Before the block that tells it has had a turn, a block goes about as far as the first lead, which is 64.
+#[test]
+fn a_block_waits_for_what_it_is_told(rt: HostRuntime) -> Result<(), Fail> {
+    let gate = First {
+        mark: AtomicU64::new(0),
+    };
+    let bench = read_bench(rt.alloc(), TOLD.as_bytes())?;
+    let circuit = Circuit::of(rt.alloc(), bench, TOLD_SETTINGS.as_bytes())?;
+    let ran = run_swing(&rt, rt.alloc(), &circuit, &gate);
+    drop(circuit);
+    ran?;
+    let mark = gate.mark.load(SeqCst);
+    assert!(rt; 32 < mark && mark < 128, "{mark}");
+    Ok(())
+}

@@ -188,34 +188,3 @@ fn a_visit_commits_at_its_floor(rt: HostRuntime) -> Result<(), Fail> {
     drop(site);
     committed
 }
-
-/// What a visit of up to four event times takes, and the mark after it: by windows of 4, 4, 2, 1, 1 and 2.
-static VISITS: [(Option<(u32, u64)>, u64); 6] = [
-    (Some((A, 5)), 6),
-    (Some((B, 4)), 6),
-    (Some((B, 3)), 5),
-    (Some((B, 2)), 3),
-    (None, 4),
-    (None, 6),
-];
-
-fn assert_visits<R: Abort + Wait>(rt: &R, site: &Site, out: &mut Vec<Message>) -> Result<(), Fail> {
-    for (told, after) in &VISITS {
-        if let Some((net, time)) = told {
-            site.put(rt, rises(1, *net, *time))?;
-        }
-        assert!(rt; site.visit(rt, 0, 4, &NoGate, out).is_ok());
-        let (mark, _, _) = shown(rt, site)?;
-        assert_eq!(rt; mark, *after);
-    }
-    Ok(())
-}
-
-#[test]
-fn a_window_fits_what_was_taken_back(rt: HostRuntime) -> Result<(), Fail> {
-    let site = site_of_and(rt.alloc())?;
-    let mut out = Vec::new(rt.alloc());
-    let visited = assert_visits(&rt, &site, &mut out);
-    drop(site);
-    visited
-}

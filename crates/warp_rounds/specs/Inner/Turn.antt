@@ -1,14 +1,14 @@
 -- What only proofs need beside `Turn`.
-use Rattle.std.specs.Prelude.{◌↔◌, Bool, IsTrue, ℕ, ◌<◌, ◌≤◌, List}
+use Rattle.std.specs.Prelude.{◌≡◌, ℕ, ◌-◌, ◌≤◌, List}
 use Rattle.warp_block.specs.declared.message.Message.{Message}
 use Rattle.warp_block.specs.View.{View, IsEventTime}
 use Rattle.warp_block.specs.Lawful.{IsLawful}
 use Rattle.warp_block.specs.Sends.{Sends}
 use Rattle.warp_rounds.specs.Turn.{AreReceived, IsPending, IsAfterPending}
 
--- whether the messages, received one after another, take finished event times back: the mark falls
-abbrev pub AreFelt : View → List Message → Bool → Type 0
-AreFelt old ms felt = (heard : View) × AreReceived old heard ms × (IsTrue felt ↔ (heard.mark < old.mark))
+-- by how much the messages, received one after another, take the mark back, and with it finished event times
+abbrev pub AreFelt : View → List Message → ℕ → Type 0
+AreFelt old ms fallen = (heard : View) × AreReceived old heard ms × (fallen ≡ old.mark - heard.mark)
 
 -- a time at or after one at which something is left
 abbrev pub IsFromPending : View → List Message → ℕ → Type 0
