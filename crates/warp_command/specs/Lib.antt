@@ -2,7 +2,7 @@ pub mod Failures
 pub mod Joined
 pub mod Replies
 pub mod Outside
-pub mod Deliveries
+pub mod Channels
 pub mod Endings
 pub mod App
 pub mod Lines

@@ -2,12 +2,12 @@
 //!
 //! [`program`] reads a command line and the texts that it names, and says the status with which the process ends: it
 //! writes the answer of `warp_text` on standard output, or a line on standard error. Where the texts come from stands
-//! behind the trait [`Texts`], of which [`Outside`] is files and standard input. What is promised stands in `specs/`:
-//! `Lines`, `Replies` and `Endings`.
+//! behind the trait [`Texts`], of which [`Outside`] is files and standard input; where the answers go, behind the trait
+//! [`Channel`], of which [`Stream`] is a writer. What is promised stands in `specs/`: `Lines`, `Replies` and `Endings`.
 #![tactic(auto)]
 
 mod app;
-mod delivery;
+mod channel;
 mod ending;
 mod failure;
 mod joined;
@@ -18,8 +18,8 @@ mod request;
 mod texts;
 
 pub use app::VERSION;
-pub use delivery::{Delivery, put, tell};
-pub use ending::{Ending, answer, execute, program, show};
+pub use channel::{Channel, Stream, Unwritten};
+pub use ending::{execute, program, show};
 pub use failure::Failure;
 pub use joined::split_joined;
 pub use line::read_line;

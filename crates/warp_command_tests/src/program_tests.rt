@@ -2,13 +2,15 @@ use crate::told::{Answer, Failing, Shelf, assert_told, tell};
 use gate_netlist::{BenchCause, BenchFault, SettingsFault};
 use gate_vcd::{StimCause, StimFault};
 use std::alloc::Global;
-use std::io::{self, Read, Write};
+use std::io::{self, Read};
 use std::process::Abort;
 use std::sync::Wait;
 use std::test::Fail;
 use std::thread::Threads;
 use warp_block::{BlockFault, MOST_HORIZON};
-use warp_command::{FetchFault, Request, Run, Sources, program, read_all, read_line, split_joined};
+use warp_command::{
+    Channel, FetchFault, Request, Run, Sources, Stream, program, read_all, read_line, split_joined,
+};
 use warp_core::{GatherFault, PlayFault, ScheduleCause, ScheduleFault};
 use warp_rounds::RunFault;
 use warp_text::{Fault, Options};
@@ -131,8 +133,8 @@ fn status_of<R: Threads + Wait + Sync>(
     rt: &R,
     alloc: Global,
     words: &[&str],
-    out: &mut impl Write,
-    err: &mut impl Write,
+    out: &mut impl Channel,
+    err: &mut impl Channel,
 ) -> u8 {
     let mut shelf = Shelf {
         texts: &[],
@@ -153,11 +155,30 @@ fn help_is_shown_on_standard_output(rt: HostRuntime) -> Result<(), Fail> {
     ] {
         assert_helped(&rt, alloc, line)?;
     }
-    let words = ["warp_sim", "--help"];
-    let mut err = Vec::new(alloc);
-    let status = status_of(&rt, alloc, &words, &mut Failing(30), &mut err);
-    assert_eq!(rt; status, 4);
-    assert_eq!(rt; err.as_slice(), b"cannot write\n".as_slice());
+    Ok(())
+}
+
+/// The status where standard output fails after so many bytes of the version's fifteen, and what is told.
+fn status_after<R: Threads + Wait + Sync>(rt: &R, alloc: Global, bytes: u32) -> (u8, Vec<u8>) {
+    let mut out = Stream::new(Failing(bytes));
+    let mut err = Stream::new(Vec::new(alloc));
+    let status = status_of(rt, alloc, &["warp_sim", "--version"], &mut out, &mut err);
+    (status, err.into_writer())
+}
+
+#[test]
+fn a_failing_out_ends_with_4(rt: HostRuntime) -> Result<(), Fail> {
+    let failed = b"cannot write\n".as_slice();
+    for (bytes, status, told) in [
+        (0, 4, failed),
+        (14, 4, failed),
+        (15, 4, failed),
+        (16, 0, b""),
+    ] {
+        let (ended, err) = status_after(&rt, rt.alloc(), bytes);
+        assert_eq!(rt; ended, status, "{bytes}");
+        assert_eq!(rt; err.as_slice(), told, "{bytes}");
+    }
     Ok(())
 }
 
@@ -179,8 +200,9 @@ fn a_failing_err_changes_no_status(rt: HostRuntime) -> Result<(), Fail> {
     let alloc = rt.alloc();
     for (word, status) in [("full", 3), ("b", 4), ("--speed", 2)] {
         let words = ["warp_sim", "check", word];
-        let mut out = Vec::new(alloc);
-        let told = status_of(&rt, alloc, &words, &mut out, &mut Failing(3));
+        let mut out = Stream::new(Vec::new(alloc));
+        let mut err = Stream::new(Failing(3));
+        let told = status_of(&rt, alloc, &words, &mut out, &mut err);
         assert_eq!(rt; told, status, "{word}");
     }
     Ok(())

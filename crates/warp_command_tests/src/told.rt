@@ -6,7 +6,7 @@ use std::process::Abort;
 use std::sync::Wait;
 use std::test::Fail;
 use std::thread::Threads;
-use warp_command::{FetchFault, Texts, program};
+use warp_command::{FetchFault, Stream, Texts, program};
 
 /// Texts by name; `full` has no memory left, and all other names are unreadable.
 #[derive(Drop)]
@@ -39,7 +39,7 @@ pub fn named<'a>(bench: &'a str, settings: &'a str, stimulus: &'a str) -> [(&'a 
     ]
 }
 
-/// Takes so many bytes, one at a time, and then fails.
+/// Takes so many bytes, one at a time, and then fails, at a flush too.
 #[derive(Drop)]
 pub struct Failing(pub u32);
 
@@ -53,6 +53,9 @@ impl Write for Failing {
     }
 
     fn flush(&mut self) -> io::Result<()> {
+        if self.0 == 0 {
+            return Err(io::ErrorKind::BrokenPipe.into());
+        }
         Ok(())
     }
 }
@@ -100,13 +103,13 @@ pub fn tell<R: Threads + Wait + Sync>(
         texts,
         asked: String::new(alloc),
     };
-    let mut out = Vec::new(alloc);
-    let mut err = Vec::new(alloc);
+    let mut out = Stream::new(Vec::new(alloc));
+    let mut err = Stream::new(Vec::new(alloc));
     let status = program(rt, alloc, words.as_slice(), &mut shelf, &mut out, &mut err);
     Ok(Told {
         status,
-        out,
-        err,
+        out: out.into_writer(),
+        err: err.into_writer(),
         asked: shelf.asked,
     })
 }

@@ -8,7 +8,7 @@ use std::alloc::Global;
 use std::env;
 use std::io::ErrorKind;
 use std::process::ExitCode;
-use warp_command::{Failure, Outside, program, show};
+use warp_command::{Failure, Outside, Stream, program, show};
 use warp_text::Fault;
 
 /// The words of the command line, the program's own name first.
@@ -26,11 +26,11 @@ fn words_of(rt: &HostRuntime) -> Result<Vec<String>, Failure<'static>> {
 }
 
 fn main(rt: HostRuntime) -> ExitCode {
-    let mut out = rt.stdout();
-    let mut err = rt.stderr();
+    let mut out = Stream::new(rt.stdout());
+    let mut err = Stream::new(rt.stderr());
     let words = match words_of(&rt) {
         Ok(words) => words,
-        Err(failure) => return ExitCode::from(show(&Err(failure), &mut out, &mut err).status),
+        Err(failure) => return ExitCode::from(show(&Err(failure), &mut out, &mut err)),
     };
     let mut texts = Outside::new(&rt);
     let status = program(
