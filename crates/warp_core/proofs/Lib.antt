@@ -23,3 +23,4 @@ pub mod Scheduling
 pub mod ScheduleRefusals
 pub mod Driving
 pub mod Turning
+pub mod Ordering

@@ -4,4 +4,5 @@ pub mod Gather
 pub mod HeldWorld
 pub mod Kept
 pub mod Opened
+pub mod Order
 pub mod Walk

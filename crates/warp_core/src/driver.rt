@@ -6,12 +6,13 @@ ghost use Rattle.warp_block.specs.Limits.{most_horizon};
 ghost use Rattle.warp_core.specs.Values.{AreCircuitWaves};
 ghost use Rattle.warp_core.specs.World.{IsBefore, IsLeastTime};
 ghost use Rattle.warp_core.specs.Play.{IsSameCourse};
-ghost use Rattle.warp_core.specs.Drive.{IsOrder, IsRaised, IsRound, IsAfterRound, IsTurn, IsTurnBegun, AreReached, flying_to, IsDriven, IsDriveRefusal, drive_fault_number, drive_fault_name};
+ghost use Rattle.warp_core.specs.Drive.{IsOrder, IsRaised, IsRound, IsRoundBegun, IsAfterRound, IsTurn, IsTurnBegun, AreReached, flying_to, IsDriven, IsDriveRefusal, drive_fault_number, drive_fault_name};
 ghost use Rattle.warp_core.specs.Inner.Drive.{IsPast};
 ghost use Rattle.warp_core.specs.declared.event.PlayFault.TheVariants as play;
 ghost use Rattle.warp_core.specs.declared.driver.DriveFault.TheVariants as fault;
 
-use crate::event::{Event, PlayFault};
+use crate::event::PlayFault;
+use crate::order::is_order;
 use crate::world::World;
 use gate_netlist::{Circuit, Cut};
 use gate_vcd::{Stimulus, Waves};
@@ -71,7 +72,6 @@ impl<'a> World<'a> {
     ///
     /// An order that is no permutation of the blocks is refused, without memory, and nothing has changed then. After
     /// want of memory a beginning of these events is played. The least time never falls.
-    #[tactic(auto, using(crate::proofs::Turning::round_started, crate::proofs::Turning::round_begun, crate::proofs::Played::never_falls))]
     pub fn round(&mut self, order: &[u32]) -> Result<(), DriveFault>
         ensures course { IsSameCourse self.old self.new }
         ensures ordered { OnOk result (IsOrder self.old.cut.blocks order.now) }
@@ -84,12 +84,28 @@ impl<'a> World<'a> {
         if !is_order(order, self.count()) {
             return Err(DriveFault::BadOrder);
         }
+        match self.play_round(order) {
+            Ok(()) => Ok(()),
+            Err(_) => Err(DriveFault::Memory),
+        }
+    }
+
+    /// A round, in an order that is a permutation of the blocks. The one error is want of memory.
+    #[tactic(auto, using(crate::proofs::Turning::round_started, crate::proofs::Turning::round_begun, crate::proofs::Played::never_falls))]
+    fn play_round(&mut self, order: &[u32]) -> Result<(), PlayFault>
+        requires { IsOrder self.old.cut.blocks order.now }
+        ensures course { IsSameCourse self.old self.new }
+        ensures played { OnOk result (IsRound order.now self.old self.new) }
+        ensures raised { OnOk result (IsRaised self.old self.new) }
+        ensures never_falls { (s t : ℕ) → IsLeastTime self.old s → IsLeastTime self.new t → s ≤ t }
+        ensures begun { OnErr result (IsRoundBegun order.now self.old self.new) }
+    {
         self.commit();
         self.law();
         for number in order {
             match self.turn_for(*number) {
                 Ok(()) => {}
-                Err(_) => return Err(DriveFault::Memory),
+                Err(cause) => return Err(cause),
             }
         }
         self.law();
@@ -135,38 +151,6 @@ impl<'a> World<'a> {
     }
 }
 
-/// Whether an order is a permutation of so many blocks: each number below the count stands in it once, and no other.
-fn is_order(order: &[u32], count: u32) -> bool
-    ensures { IsTrue result ↔ IsOrder count order.now }
-{
-    if !are_below(order, count) {
-        return false;
-    }
-    for number in 0..count {
-        if !stands_once(order, number) {
-            return false;
-        }
-    }
-    true
-}
-
-fn are_below(order: &[u32], count: u32) -> bool
-    ensures { IsTrue result ↔ All (λ b. b < count) order.now }
-{
-    for number in order {
-        if *number >= count {
-            return false;
-        }
-    }
-    true
-}
-
-fn stands_once(order: &[u32], number: u32) -> bool
-    ensures { IsTrue result ↔ (count_by (λ x. x == number) order.now ≡ 1) }
-{
-    order.iter().filter(|other| **other == number).count() == 1
-}
-
 /// The circuit's waves, by rounds in this order of the blocks, and how many rounds were played: at most one more than
 /// the horizon. The cut and the stimulus fit the circuit; the horizon is at most
 /// [`MOST_HORIZON`](warp_block::MOST_HORIZON).
@@ -197,9 +181,9 @@ pub fn drive(
     let mut rounds = 0;
     let mut least = world.least();
     while least <= horizon {
-        match world.round(order) {
+        match world.play_round(order) {
             Ok(()) => {}
-            Err(cause) => return Err(cause),
+            Err(_) => return Err(DriveFault::Memory),
         }
         rounds += 1;
         least = world.least();

@@ -21,6 +21,7 @@ mod event;
 mod fault;
 mod flight;
 mod gathering;
+mod order;
 mod schedule;
 mod world;
 

@@ -146,16 +146,10 @@ impl<'a> World<'a> {
         self.blocks.get(number as usize)
     }
 
-    /// The horizon.
-    pub(crate) fn horizon(&self) -> u64
-        ensures { result ≡ self.now.horizon }
-    {
-        self.horizon
-    }
-
     /// The number of blocks.
     pub(crate) fn count(&self) -> u32
-        ensures { result ≡ self.now.cut.blocks }
+        ensures count { result ≡ self.now.cut.blocks }
+        ensures within { result ≤ 1024 }
     {
         self.cut.blocks()
     }

@@ -30,7 +30,7 @@ loop-least-smaller c =
 pub loop-least-preserved : goal.loop-least-preserved
 loop-least-preserved c =
     let inv = c.loop-least.invariant in
-    let course = c.round.ensures.course in
+    let course = c.play_round.ensures.course in
     let higher = higher_than c.loop-least.world c.loop-least.least c.least-least-in-loop-least.result c.args.horizon inv.horizon c.loop-least-test.true
     (c.in-Ok.ensures.raised c.loop-least.least c.least-least-in-loop-least.result inv.least c.least-least-in-loop-least.ensures) in
     record {
@@ -42,7 +42,7 @@ loop-least-preserved c =
       few = (let few = inv.few in omega (arith, few, higher));
       start = inv.start;
       is_start = inv.is_start;
-      played = rounds_more c.args.order.now c.loop-least.rounds inv.start c.loop-least.world c.round.new.self inv.played (c.loop-least.least, inv.least, omega (arith, inv.horizon, c.loop-least-test.true)) c.in-Ok.ensures.played;
+      played = rounds_more c.args.order.now c.loop-least.rounds inv.start c.loop-least.world c.play_round.new.self inv.played (c.loop-least.least, inv.least, omega (arith, inv.horizon, c.loop-least-test.true)) c.in-Ok.ensures.played;
     }
 
 pub returns-in-Ok-finish-clause-rounds : goal.returns-in-Ok-finish-clause-rounds
