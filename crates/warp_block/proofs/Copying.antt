@@ -1,7 +1,7 @@
 -- Copies of lists, one more at a time.
 use Rattle.std.proofs.Common.{◌≡◌, ℕ, ◌+◌, ◌<◌, List, [], ◌∷◌, ◌++◌, length, get_or, take, Vec, Global, ap, sym, ◌∙◌}
 use Rattle.std.proofs.lemmas.List.{map-append, map_more}
-use Rattle.warp_block.specs.Inner.Held.{lists_in}
+use Rattle.warp_block.specs.Shown.Look.{lists_in}
 
 pub copied-more : {T : Type 0} (copies more lists : List (Vec T Global)) (i : ℕ) (copy list : Vec T Global) → i < length lists → list ≡ get_or lists i list → copy.items ≡ list.items
     → more ≡ copies ++ copy ∷ [] → lists_in copies ≡ lists_in (take i lists) → lists_in more ≡ lists_in (take (i + 1) lists)

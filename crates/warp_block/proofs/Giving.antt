@@ -9,7 +9,7 @@ use Rattle.gate_values.specs.Behaviour.{Outside}
 use Rattle.gate_vcd.specs.Waves.{wave_of}
 use Rattle.warp_block.specs.Portion.{Portion, is_driven, owns, slot_of, at_slot}
 use Rattle.warp_block.specs.View.{View, log_of}
-use Rattle.warp_block.specs.Inner.Held.{lists_in}
+use Rattle.warp_block.specs.Shown.Look.{lists_in}
 use Rattle.warp_block.specs.Inner.Step.{net_at, log_at}
 use Rattle.warp_block.specs.Inner.Give.{IsOwnAt, AreGiven}
 use Rattle.warp_block.proofs.Slots.{slot_is, slot_at}

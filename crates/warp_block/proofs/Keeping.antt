@@ -6,7 +6,8 @@ use Rattle.warp_block.specs.declared.state.TheConstants.{SAVE_EVERY}
 use Rattle.warp_block.specs.View.{View, Saved, is_busy, IsLeast, IsEventTime}
 use Rattle.warp_block.specs.Lawful.{IsLawful, IsSaved, AreSpaced, AreSaved, IsLawfulProcess}
 use Rattle.warp_block.specs.Inner.Advance.{IsCaughtUp}
-use Rattle.warp_block.specs.Inner.StateLists.{now_of, saved_by, FitTogether}
+use Rattle.warp_block.specs.Shown.States.{now_of, saved_by}
+use Rattle.warp_block.specs.Inner.StateLists.{FitTogether}
 use Rattle.warp_block.specs.Inner.Present.{newest, newest_of, oldest_of, IsPresent, AreStates}
 use Rattle.warp_block.proofs.Newest.{newest_of_push}
 use Rattle.warp_block.proofs.SavingStep.{one_saved, one_unsaved, one_present}

@@ -14,7 +14,7 @@ use Rattle.warp_block.specs.declared.entry.Entry.{Entry}
 use Rattle.warp_block.specs.declared.look.Look.TheInside.{Inside}
 use Rattle.warp_block.specs.Inner.Building.{has}
 use Rattle.warp_block.specs.Entries.{Received, entry_in}
-use Rattle.warp_block.specs.Inner.Held.{lists_in, view_of}
+use Rattle.warp_block.specs.Shown.Look.{lists_in, view_of}
 use Rattle.std.specs.declared.alloc.Global.{Global}
 use Rattle.warp_block.specs.Lawful.{IsLawful}
 use Rattle.warp_block.specs.Portion.{Portion}

@@ -19,7 +19,7 @@ use Rattle.warp_block.specs.declared.cell.Cell.TheVariants as cell
 use Rattle.warp_block.specs.declared.cell.Span.{Span}
 use Rattle.warp_block.specs.Portion.{slot_of, uses, does_use}
 use Rattle.warp_block.specs.PartOf.{is_own, is_used_by, part_nets, part_source}
-use Rattle.warp_block.specs.Inner.HeldPart.{stretch}
+use Rattle.warp_block.specs.Shown.Part.{stretch}
 use Rattle.warp_block.specs.Inner.Building.{driver_uses, place_of, has, is_used_among, IsCell, HasMore, AreCells}
 use Rattle.warp_block.proofs.Slots.{slot_at, slot_is}
 use Rattle.warp_block.proofs.PartLists.{any_below, any_kept, any_same, has_at, has_past, has_kept, past_kept, range_below, kept_below, kept_is, kept_rises, kept_few}

@@ -20,7 +20,8 @@ use Rattle.warp_block.specs.declared.cell.Cell.{Cell}
 use Rattle.warp_block.specs.declared.cell.Cell.TheVariants as cell
 use Rattle.warp_block.specs.declared.cell.Span.{Span}
 use Rattle.warp_block.specs.declared.part.Part.TheInside.{Inside}
-use Rattle.warp_block.specs.Inner.HeldPart.{IsHeld, portion_of, CellFits, cell_source, is_input_cell, stretch}
+use Rattle.warp_block.specs.Inner.HeldPart.{IsHeld, CellFits}
+use Rattle.warp_block.specs.Shown.Part.{portion_of, cell_source, is_input_cell, stretch}
 use Rattle.warp_block.specs.Portion.{Portion, IsPortion}
 use Rattle.warp_block.specs.SamePart.{kind_place, logic_place, numbers_of, same_part}
 use Rattle.warp_block.specs.Inner.SamePart.{SameAt, IsGate, SameCell}

@@ -12,7 +12,8 @@ use Rattle.gate_values.specs.Behaviour.{Outside, output, next_content}
 use Rattle.warp_block.specs.declared.cell.Cell.{Cell}
 use Rattle.warp_block.specs.declared.cell.Cell.TheVariants.{Pair, Gate, Flop}
 use Rattle.warp_block.specs.declared.part.Part.TheInside.{Inside}
-use Rattle.warp_block.specs.Inner.HeldPart.{IsHeld, portion_of, cell_source, stretch, CellFits}
+use Rattle.warp_block.specs.Inner.HeldPart.{IsHeld, CellFits}
+use Rattle.warp_block.specs.Shown.Part.{portion_of, cell_source, stretch}
 use Rattle.warp_block.specs.declared.cell.Span.{Span}
 use Rattle.warp_block.specs.Inner.Moments.{value_in, moment_of}
 use Rattle.warp_block.proofs.Slots.{of_net-at}

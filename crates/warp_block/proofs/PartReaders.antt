@@ -15,7 +15,7 @@ use Rattle.gate_netlist.specs.declared.driver.Driver.TheVariants.{Input, Gate, F
 use Rattle.warp_block.specs.declared.cell.Span.{Span}
 use Rattle.warp_block.specs.Portion.{does_use}
 use Rattle.warp_block.specs.PartOf.{is_own, is_used_by, part_readers}
-use Rattle.warp_block.specs.Inner.HeldPart.{stretch}
+use Rattle.warp_block.specs.Shown.Part.{stretch}
 use Rattle.warp_block.specs.Inner.Building.{driver_uses, has, lists_of, is_other_owner, AreReaders}
 use Rattle.warp_block.proofs.PartLists.{or_none, any_kept, any_same, kept_is}
 use Rattle.warp_block.proofs.PartBuilding.{uses-driver, stretch-append, stretch-behind}

@@ -15,7 +15,8 @@ use Rattle.warp_block.specs.declared.cell.Span.{Span}
 use Rattle.warp_block.specs.declared.part.Part.TheInside.{Inside}
 use Rattle.warp_block.specs.Portion.{Portion, IsPortion, is_driven, is_used, slot_of, uses, does_use}
 use Rattle.warp_block.specs.PartOf.{is_own, is_used_by, part_nets, part_source, part_readers, part_of}
-use Rattle.warp_block.specs.Inner.HeldPart.{IsHeld, portion_of, cell_source, is_input_cell, stretch}
+use Rattle.warp_block.specs.Inner.HeldPart.{IsHeld}
+use Rattle.warp_block.specs.Shown.Part.{portion_of, cell_source, is_input_cell, stretch}
 use Rattle.warp_block.specs.Inner.Building.{AreCells}
 use Rattle.warp_block.proofs.PartLists.{and_none, any_kept, any_same, kept_rises}
 use Rattle.warp_block.proofs.PartBuilding.{uses-driver, is_net, nets_rise, nets_within, nets_few, own_uses}

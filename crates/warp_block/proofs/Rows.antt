@@ -19,7 +19,7 @@ use Rattle.warp_block.specs.Inner.Logs.{IsLog}
 use Rattle.warp_block.specs.Portion.{is_driven, source_of, owns}
 use Rattle.warp_block.specs.View.{View, queue_of, entry_of, effective_at, log_of, news_of, block_value, IsLeast}
 use Rattle.warp_block.specs.Lawful.{IsLawful, lawful_log}
-use Rattle.warp_block.specs.Inner.Held.{lists_in, view_of}
+use Rattle.warp_block.specs.Shown.Look.{lists_in, view_of}
 use Rattle.warp_block.specs.Inner.Advance.{IsQuiet}
 use Rattle.warp_block.proofs.Slots.{of_net-at}
 use Rattle.warp_block.proofs.LogOrder.{IsLog-run}

@@ -9,7 +9,8 @@ use Rattle.warp_block.specs.declared.state.TheConstants.{SAVE_EVERY}
 use Rattle.warp_block.specs.Portion.{source_of}
 use Rattle.warp_block.specs.View.{View, Saved, busy_times}
 use Rattle.warp_block.specs.Lawful.{IsLawful, IsSaved, IsLawfulProcess}
-use Rattle.warp_block.specs.Inner.StateLists.{now_of, saved_by, FitTogether}
+use Rattle.warp_block.specs.Shown.States.{now_of, saved_by}
+use Rattle.warp_block.specs.Inner.StateLists.{FitTogether}
 use Rattle.warp_block.specs.Inner.Present.{IsPresent, AreStates}
 use Rattle.warp_block.proofs.SavingStates.{saves}
 use Rattle.warp_block.proofs.Going.{no_times}

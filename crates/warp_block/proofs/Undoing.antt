@@ -9,7 +9,8 @@ use Rattle.warp_block.specs.declared.states.Old.{Old}
 use Rattle.warp_block.specs.declared.states.Old.TheVariants.{Value, Content}
 use Rattle.warp_block.specs.declared.states.Place.{Place}
 use Rattle.warp_block.specs.View.{Saved}
-use Rattle.warp_block.specs.Inner.States.{put_back, back, state_at, states_at, earlier, AreWithin}
+use Rattle.warp_block.specs.Shown.States.{put_back, back, state_at, states_at}
+use Rattle.warp_block.specs.Inner.States.{earlier, AreWithin}
 use Rattle.warp_block.specs.Inner.StateLists.{IsOld}
 
 pub back-append : (xs ys : List Old) (s : Saved) → back (xs ++ ys) s ≡ back xs (back ys s)

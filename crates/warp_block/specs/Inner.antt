@@ -6,7 +6,6 @@ pub mod Contents
 pub mod Entries
 pub mod Fan
 pub mod Give
-pub mod Held
 pub mod HeldBlock
 pub mod HeldPart
 pub mod Index
@@ -22,6 +21,5 @@ pub mod SamePart
 pub mod StateLists
 pub mod States
 pub mod Step
-pub mod Timed
 pub mod View
 pub mod Woken

@@ -11,4 +11,5 @@ pub mod Opening
 pub mod Receive
 pub mod Advance
 pub mod Commit
+pub mod Shown
 pub mod Inner

@@ -44,7 +44,8 @@ impl Model for Block {
 
     ghost Value = { Process };
 
-    ghost use Rattle.warp_block.specs.Inner.HeldBlock.{process_of, IsHeldBlock};
+    ghost use Rattle.warp_block.specs.Shown.Block.{process_of};
+    ghost use Rattle.warp_block.specs.Inner.HeldBlock.{IsHeldBlock};
 
     ghost view = { process_of };
 

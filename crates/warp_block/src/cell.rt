@@ -1,5 +1,5 @@
 ghost use Rattle.std.specs.Prelude.{◌≡◌, ◌≤◌, ◌+◌, IfOk, length};
-ghost use Rattle.warp_block.specs.Inner.HeldPart.{stretch};
+ghost use Rattle.warp_block.specs.Shown.Part.{stretch};
 
 use gate_values::{Kind, Logic};
 use std::alloc::AllocError;

@@ -51,7 +51,7 @@ impl Model for Look {
 
     ghost Value = { View };
 
-    ghost use Rattle.warp_block.specs.Inner.Held.{view_of};
+    ghost use Rattle.warp_block.specs.Shown.Look.{view_of};
     ghost use Rattle.warp_block.specs.Lawful.{IsLawful};
 
     ghost view = { view_of };

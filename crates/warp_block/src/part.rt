@@ -44,7 +44,8 @@ impl Model for Part {
 
     ghost Value = { Portion };
 
-    ghost use Rattle.warp_block.specs.Inner.HeldPart.{portion_of, IsHeld};
+    ghost use Rattle.warp_block.specs.Shown.Part.{portion_of};
+    ghost use Rattle.warp_block.specs.Inner.HeldPart.{IsHeld};
 
     ghost view = { portion_of };
 

@@ -6,7 +6,7 @@ ghost use Rattle.gate_vcd.specs.Inner.Lists.{IsRising};
 ghost use Rattle.warp_block.specs.Opening.{message_of};
 ghost use Rattle.warp_block.specs.Entries.{entry_in, no_messages, is_settled, IsQueue};
 ghost use Rattle.warp_block.specs.Inner.Entries.{effective_in};
-ghost use Rattle.warp_block.specs.Inner.Held.{lists_in};
+ghost use Rattle.warp_block.specs.Shown.Look.{lists_in};
 ghost use Rattle.warp_block.specs.View.{IsLeast};
 
 use crate::entry::Entry;

@@ -4,8 +4,9 @@ ghost use Rattle.std.specs.List.{All};
 ghost use Rattle.std.specs.List.Sorted.{IsNonDecreasingBy, IsPartitionPoint};
 ghost use Rattle.warp_block.specs.View.{Saved};
 ghost use Rattle.warp_block.specs.Inner.Present.{newest_of, oldest_of};
-ghost use Rattle.warp_block.specs.Inner.States.{put_back, back, earlier};
-ghost use Rattle.warp_block.specs.Inner.StateLists.{now_of, saved_by, IsOld, FitTogether, HasRoom};
+ghost use Rattle.warp_block.specs.Shown.States.{put_back, back, now_of, saved_by};
+ghost use Rattle.warp_block.specs.Inner.States.{earlier};
+ghost use Rattle.warp_block.specs.Inner.StateLists.{IsOld, FitTogether, HasRoom};
 
 use crate::state::SAVE_EVERY;
 use gate_values::Logic;

@@ -1,5 +1,5 @@
 ghost use Rattle.std.specs.Prelude.{◌≡◌, IfOk, IfSome};
-ghost use Rattle.warp_block.specs.Inner.Timed.{received_of};
+ghost use Rattle.warp_block.specs.Shown.Received.{received_of};
 
 use crate::entry::Entry;
 use std::alloc::{AllocError, Global};
@@ -39,7 +39,7 @@ impl Model for Timed {
 
     ghost Value = { Received };
 
-    ghost use Rattle.warp_block.specs.Inner.Timed.{received_of};
+    ghost use Rattle.warp_block.specs.Shown.Received.{received_of};
 
     ghost view = { λ timed. received_of timed.numbers };
 }

@@ -6,4 +6,5 @@ pub mod Play
 pub mod Played
 pub mod Schedule
 pub mod Drive
+pub mod Shown
 pub mod Inner

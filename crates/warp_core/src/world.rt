@@ -44,7 +44,8 @@ impl<'a> Model for World<'a> {
 
     ghost Value = { Scene };
 
-    ghost use Rattle.warp_core.specs.Inner.HeldWorld.{scene_of, IsHeldWorld};
+    ghost use Rattle.warp_core.specs.Shown.{scene_of};
+    ghost use Rattle.warp_core.specs.Inner.HeldWorld.{IsHeldWorld};
 
     ghost view = { scene_of };
 

@@ -8,7 +8,8 @@ use Rattle.gate_netlist.specs.Circuit.{Design, driver_of, source_by, is_input}
 use Rattle.gate_netlist.specs.Cut.{Ownership}
 use Rattle.gate_netlist.specs.declared.driver.Driver.{Driver}
 use Rattle.warp_block.specs.declared.cell.Cell.{Cell}
-use Rattle.warp_block.specs.Inner.HeldPart.{CellFits, cell_source, is_input_cell}
+use Rattle.warp_block.specs.Inner.HeldPart.{CellFits}
+use Rattle.warp_block.specs.Shown.Part.{cell_source, is_input_cell}
 use Rattle.warp_block.specs.PartOf.{is_own, part_source, part_readers}
 use Rattle.warp_block.specs.Portion.{uses, slot_of}
 

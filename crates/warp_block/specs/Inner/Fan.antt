@@ -4,7 +4,7 @@ use Rattle.std.specs.List.{All}
 use Rattle.warp_block.specs.declared.cell.Span.{Span}
 use Rattle.warp_block.specs.declared.part.fan.Fan.{Fan}
 use Rattle.warp_block.specs.Inner.Building.{has}
-use Rattle.warp_block.specs.Inner.HeldPart.{stretch}
+use Rattle.warp_block.specs.Shown.Part.{stretch}
 
 abbrev pub fan_of : Fan → List (List ℕ)
 fan_of fan = map (stretch fan.places.items) fan.spans.items

@@ -1,16 +1,12 @@
--- What contracts see of a block.
+-- What is true of the fields of every block.
 use Rattle.std.specs.Prelude.{length}
 use Rattle.warp_block.specs.declared.block.Block.TheInside.{Inside}
-use Rattle.warp_block.specs.Inner.StateLists.{saved_by}
-use Rattle.warp_block.specs.View.{Process}
+use Rattle.warp_block.specs.Shown.States.{saved_by}
 use Rattle.warp_block.specs.Inner.Agenda.{places_at}
 use Rattle.warp_block.specs.Inner.Fan.{fan_of, IsFlat}
 use Rattle.warp_block.specs.Inner.Index.{IsIndexed, IsNoted}
 use Rattle.warp_block.specs.Inner.Woken.{AreWoken}
 use Rattle.warp_block.specs.Inner.Present.{AreStates, oldest_of}
-
-abbrev pub process_of : Inside → Process
-process_of block = record { seen = block.look; saved = saved_by block.states }
 
 -- what is true of the fields of every block
 pub record IsHeldBlock (block : Inside) : Type 0 where

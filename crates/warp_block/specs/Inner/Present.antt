@@ -3,7 +3,8 @@ use Rattle.std.specs.Prelude.{◌≡◌, ℕ, ◌≤◌, List, [], ◌∷◌}
 use Rattle.warp_block.specs.declared.states.States.{States}
 use Rattle.warp_block.specs.View.{View, Saved, busy_times}
 use Rattle.warp_block.specs.Lawful.{IsSaved, IsLawfulProcess}
-use Rattle.warp_block.specs.Inner.StateLists.{now_of, saved_by, FitTogether}
+use Rattle.warp_block.specs.Shown.States.{now_of, saved_by}
+use Rattle.warp_block.specs.Inner.StateLists.{FitTogether}
 
 -- the last of some states
 abbrev pub newest : Saved → List Saved → Saved

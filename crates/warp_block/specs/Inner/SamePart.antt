@@ -4,7 +4,7 @@ use Rattle.gate_values.specs.declared.gate.Kind.{Kind}
 use Rattle.gate_values.specs.Behaviour.{Outside}
 use Rattle.warp_block.specs.declared.cell.Cell.{Cell}
 use Rattle.warp_block.specs.declared.cell.Cell.TheVariants as cell
-use Rattle.warp_block.specs.Inner.HeldPart.{stretch}
+use Rattle.warp_block.specs.Shown.Part.{stretch}
 use Rattle.warp_block.specs.Portion.{Portion}
 
 -- The parts say the same of the net at a place: what sets it, whether it is an input, and who reads it.

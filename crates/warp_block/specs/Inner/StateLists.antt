@@ -1,4 +1,4 @@
--- What contracts see of a block's states.
+-- What is true of the lists that a block's states are kept in.
 use Rattle.std.specs.Prelude.{ℕ, ◌<◌, List, length, vec_len, vec_capacity}
 use Rattle.std.specs.List.{All}
 use Rattle.std.specs.List.Sorted.{IsNonDecreasingBy}
@@ -6,16 +6,7 @@ use Rattle.warp_block.specs.declared.states.Old.{Old}
 use Rattle.warp_block.specs.declared.states.Old.TheVariants.{Value, Content}
 use Rattle.warp_block.specs.declared.states.Place.{Place}
 use Rattle.warp_block.specs.declared.states.States.{States}
-use Rattle.warp_block.specs.View.{Saved}
-use Rattle.warp_block.specs.Inner.States.{states_at, AreWithin}
-
--- the present state
-abbrev pub now_of : States → Saved
-now_of s = record { mark = s.mark; values = s.values.items; contents = s.contents.items }
-
--- the saved states, the oldest first
-abbrev pub saved_by : States → List Saved
-saved_by s = states_at (now_of s) s.undo.items s.saved.items
+use Rattle.warp_block.specs.Inner.States.{AreWithin}
 
 -- what is to be put back belongs to places that there are
 abbrev pub IsOld : ℕ → ℕ → Old → Type 0

@@ -2,7 +2,8 @@ ghost use Rattle.std.specs.Prelude.{◌≡◌, ◌++◌, [], ◌∷◌, IfOk, On
 ghost use Rattle.gate_values.specs.declared.logic.Logic.TheVariants.{X};
 ghost use Rattle.warp_block.specs.declared.message.Sign.TheVariants.{Plus};
 ghost use Rattle.warp_block.specs.Opening.{initial_log};
-ghost use Rattle.warp_block.specs.Inner.StateLists.{now_of, saved_by, FitTogether};
+ghost use Rattle.warp_block.specs.Shown.States.{now_of, saved_by};
+ghost use Rattle.warp_block.specs.Inner.StateLists.{FitTogether};
 ghost use Rattle.warp_block.specs.Lawful.{IsSaved};
 ghost use Rattle.warp_block.specs.Inner.Step.{log_at, told, Extends};
 

@@ -2,7 +2,7 @@ ghost use Rattle.std.specs.Prelude.{◌≡◌, ◌≤◌, ◌+◌, ℕ, [], IfOk
 ghost use Rattle.std.specs.List.{All};
 ghost use Rattle.std.specs.List.Sorted.{IsStrictlyIncreasing};
 ghost use Rattle.warp_block.specs.PartOf.{part_nets, part_readers};
-ghost use Rattle.warp_block.specs.Inner.HeldPart.{stretch};
+ghost use Rattle.warp_block.specs.Shown.Part.{stretch};
 ghost use Rattle.warp_block.specs.Inner.Building.{has, lists_of, is_other_owner};
 
 use super::build::is_own;

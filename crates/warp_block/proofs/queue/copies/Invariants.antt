@@ -1,5 +1,5 @@
 use Rattle.std.proofs.Common.{◌≡◌, take}
-use Rattle.warp_block.specs.Inner.Held.{lists_in}
+use Rattle.warp_block.specs.Shown.Look.{lists_in}
 use Rattle.warp_block.proofs.queue.copies.Given as goal
 
 -- so many queues are copied

@@ -3,7 +3,7 @@ use Rattle.std.specs.Result.{IfErr}
 use Rattle.std.specs.List.Sorted.{IsPartitionPoint}
 use Rattle.warp_block.specs.View.{View, Process, Saved}
 use Rattle.warp_block.specs.Lawful.{IsLawfulProcess}
-use Rattle.warp_block.specs.Inner.StateLists.{now_of, saved_by}
+use Rattle.warp_block.specs.Shown.States.{now_of, saved_by}
 use Rattle.warp_block.specs.Inner.Present.{oldest_of, IsPresent}
 use Rattle.warp_block.specs.Inner.Agenda.{places_at}
 use Rattle.warp_block.specs.Inner.Index.{IsIndexed}

@@ -1,7 +1,7 @@
 use Rattle.std.proofs.Common.{◌≡◌, ℕ, length, ap, sym, ◌∙◌, subst}
 use Rattle.warp_block.specs.Portion.{Portion, IsPortion}
 use Rattle.warp_block.specs.View.{View}
-use Rattle.warp_block.specs.Inner.StateLists.{saved_by}
+use Rattle.warp_block.specs.Shown.States.{saved_by}
 use Rattle.warp_block.specs.Inner.Present.{oldest_of}
 use Rattle.warp_block.specs.Inner.Agenda.{places_at}
 use Rattle.warp_block.specs.Inner.Fan.{fan_of}

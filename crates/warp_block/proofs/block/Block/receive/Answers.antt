@@ -9,7 +9,7 @@ use Rattle.warp_block.specs.View.{View, Process, Saved, effective_at}
 use Rattle.warp_block.specs.Lawful.{IsSaved, AreSaved}
 use Rattle.warp_block.specs.Receive.{IsRefusal, refusal_of}
 use Rattle.warp_block.specs.Inner.Receive.{IsPut}
-use Rattle.warp_block.specs.Inner.StateLists.{now_of, saved_by}
+use Rattle.warp_block.specs.Shown.States.{now_of, saved_by}
 use Rattle.warp_block.proofs.Slots.{slot_is}
 use Rattle.warp_block.proofs.Sends.{once_nothing, same_logs, same_standing}
 use Rattle.warp_block.proofs.Receiving.{rolled, kept, rolled_saved, kept_saved, refused_memory, saved_rise, not_late, kept_present}

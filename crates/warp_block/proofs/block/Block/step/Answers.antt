@@ -3,7 +3,7 @@ use Rattle.std.proofs.lemmas.Bool.{eqb-true, eq-eqb, true≢false}
 use Rattle.std.proofs.lemmas.Result.{err_from_is_err_and}
 use Rattle.warp_block.specs.declared.state.TheConstants.{SAVE_EVERY}
 use Rattle.warp_block.specs.View.{View, Process, Saved}
-use Rattle.warp_block.specs.Inner.StateLists.{now_of, saved_by}
+use Rattle.warp_block.specs.Shown.States.{now_of, saved_by}
 use Rattle.warp_block.specs.Inner.Present.{AreStates, oldest_of}
 use Rattle.warp_block.specs.Inner.Agenda.{places_at}
 use Rattle.warp_block.specs.Inner.Fan.{fan_of}

@@ -1,5 +1,5 @@
 use Rattle.std.proofs.Common.{ap, ◌∙◌}
-use Rattle.warp_block.specs.Inner.StateLists.{saved_by}
+use Rattle.warp_block.specs.Shown.States.{saved_by}
 use Rattle.warp_block.specs.Inner.Present.{oldest_of}
 use Rattle.warp_block.specs.Inner.Agenda.{places_at}
 use Rattle.warp_block.proofs.Holding.{same_oldest}

@@ -1,5 +1,5 @@
 use Rattle.std.proofs.Common.{◌≡◌, ◌-◌}
-use Rattle.warp_block.specs.Inner.StateLists.{now_of, saved_by}
+use Rattle.warp_block.specs.Shown.States.{now_of, saved_by}
 use Rattle.warp_block.specs.Inner.Present.{AreStates, oldest_of}
 use Rattle.warp_block.specs.Inner.Agenda.{places_at}
 use Rattle.warp_block.specs.Inner.Index.{IsIndexed}

@@ -2,7 +2,7 @@ use Rattle.std.proofs.Common.{◌+◌, ◌≤◌, ℕ, Option, Some, None, inl, 
 use Rattle.warp_block.specs.View.{Saved, IsLeast}
 use Rattle.warp_block.specs.Lawful.{IsSaved}
 use Rattle.warp_block.specs.Inner.Advance.{IsBusyFrom}
-use Rattle.warp_block.specs.Inner.StateLists.{now_of, saved_by}
+use Rattle.warp_block.specs.Shown.States.{now_of, saved_by}
 use Rattle.warp_block.proofs.Running.{le_cases}
 use Rattle.warp_block.proofs.Going.{idle_past}
 use Rattle.warp_block.proofs.Keeping.{AreKept, rising, none_dropped, back_again, few_since_saved, gone_on, oldest_low}

@@ -1,4 +1,4 @@
-use Rattle.warp_block.specs.Inner.Held.{view_of}
+use Rattle.warp_block.specs.Shown.Look.{view_of}
 use Rattle.warp_block.proofs.Committed.{committed_lawful}
 use Rattle.warp_block.proofs.look.Look.commit.Goals as goal
 

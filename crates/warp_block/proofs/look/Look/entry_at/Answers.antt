@@ -1,6 +1,6 @@
 use Rattle.std.proofs.Common.{ap, sym, ◌∙◌, subst, List}
 use Rattle.warp_block.specs.Entries.{Received, IsQueue, entry_in}
-use Rattle.warp_block.specs.Inner.Held.{view_of}
+use Rattle.warp_block.specs.Shown.Look.{view_of}
 use Rattle.warp_block.proofs.Rows.{in_part, queue_row, queue_ordered, entry_here}
 use Rattle.warp_block.proofs.look.Look.entry_at.Goals as goal
 

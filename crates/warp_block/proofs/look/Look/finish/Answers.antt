@@ -1,7 +1,7 @@
 use Rattle.std.proofs.Common.{◌≡◌, ◌+◌, length, refl, arith}
 use Rattle.warp_block.specs.Inner.Agenda.{places_at}
 use Rattle.warp_block.specs.Inner.Moments.{moment_of}
-use Rattle.warp_block.specs.Inner.Held.{view_of}
+use Rattle.warp_block.specs.Shown.Look.{view_of}
 use Rattle.warp_block.proofs.Finishing.{finish_lawful, finish_sends}
 use Rattle.warp_block.proofs.Indexing.{IsIndexed-grown, IsIndexed-step, IsNoted-step, IsNoted-back}
 use Rattle.warp_block.proofs.Rows.{rows_len}

@@ -3,7 +3,7 @@ use Rattle.gate_values.specs.declared.logic.Logic.TheVariants.{X}
 use Rattle.gate_values.specs.Behaviour.{initial_of}
 use Rattle.warp_block.specs.Portion.{source_of}
 use Rattle.warp_block.specs.Lawful.{IsSaved}
-use Rattle.warp_block.specs.Inner.Held.{view_of}
+use Rattle.warp_block.specs.Shown.Look.{view_of}
 use Rattle.warp_block.proofs.Filling.{map_more, map_all}
 use Rattle.warp_block.proofs.Rows.{source_here}
 use Rattle.warp_block.proofs.Starting.{first_saved}

@@ -1,7 +1,7 @@
 use Rattle.std.proofs.Common.{◌≡◌, map, take}
 use Rattle.gate_values.specs.Behaviour.{initial_of}
 use Rattle.warp_block.specs.Portion.{source_of}
-use Rattle.warp_block.specs.Inner.Held.{view_of}
+use Rattle.warp_block.specs.Shown.Look.{view_of}
 use Rattle.warp_block.proofs.look.Look.first_states.Given as goal
 
 abbrev pub invariant-loop-slot : goal.invariant-loop-slot

@@ -1,6 +1,6 @@
 use Rattle.std.proofs.Common.{◌<◌, Some, None, [], length, get_or, sym, ◌∙◌, subst, arith}
 use Rattle.warp_block.specs.Entries.{IsQueue}
-use Rattle.warp_block.specs.Inner.Held.{view_of}
+use Rattle.warp_block.specs.Shown.Look.{view_of}
 use Rattle.warp_block.proofs.Rows.{queue_row, queue_ordered}
 use Rattle.warp_block.proofs.Unsettled.{least_same}
 use Rattle.warp_block.proofs.Committing.{none_more, first_found, none_unsettled}

@@ -1,4 +1,4 @@
-use Rattle.warp_block.specs.Inner.Held.{view_of}
+use Rattle.warp_block.specs.Shown.Look.{view_of}
 use Rattle.warp_block.proofs.Committing.{NoneUnsettled}
 use Rattle.warp_block.proofs.look.Look.first_unsettled.Given as goal
 

@@ -1,4 +1,4 @@
-use Rattle.warp_block.specs.Inner.Held.{lists_in, view_of}
+use Rattle.warp_block.specs.Shown.Look.{lists_in, view_of}
 use Rattle.warp_block.proofs.Giving.{given_own, given_others}
 use Rattle.warp_block.proofs.look.Look.give_logs.Goals as goal
 

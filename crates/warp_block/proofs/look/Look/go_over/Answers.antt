@@ -3,7 +3,7 @@ use Rattle.warp_block.specs.Inner.Index.{IsIndexed}
 use Rattle.warp_block.specs.Inner.Agenda.{places_at}
 use Rattle.warp_block.proofs.Indexing.{IsIndexed-later}
 use Rattle.warp_block.specs.View.{moment_before}
-use Rattle.warp_block.specs.Inner.StateLists.{now_of}
+use Rattle.warp_block.specs.Shown.States.{now_of}
 use Rattle.warp_block.proofs.look.Look.go_over.Goals as goal
 
 pub set_values-requires-clause-values : goal.set_values-requires-clause-values

@@ -6,7 +6,7 @@ use Rattle.gate_values.specs.Behaviour.{Outside, initial_of}
 use Rattle.warp_block.specs.Entries.{IsQueue}
 use Rattle.warp_block.specs.Portion.{source_of}
 use Rattle.warp_block.specs.Opening.{opening_queue, initial_log}
-use Rattle.warp_block.specs.Inner.Held.{lists_in}
+use Rattle.warp_block.specs.Shown.Look.{lists_in}
 use Rattle.warp_block.proofs.Slots.{of_net-at}
 use Rattle.warp_block.proofs.Filling.{map_more, map_all}
 use Rattle.warp_block.proofs.Opening.{opening_lawful}

@@ -3,7 +3,7 @@ use Rattle.gate_values.specs.Behaviour.{initial_of}
 use Rattle.warp_block.specs.Entries.{IsQueue}
 use Rattle.warp_block.specs.Opening.{opening_queue, initial_log}
 use Rattle.warp_block.specs.Portion.{source_of}
-use Rattle.warp_block.specs.Inner.Held.{lists_in}
+use Rattle.warp_block.specs.Shown.Look.{lists_in}
 use Rattle.warp_block.proofs.look.Look.new.Given as goal
 
 abbrev pub invariant-loop-slot : goal.invariant-loop-slot

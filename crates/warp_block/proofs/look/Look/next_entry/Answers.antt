@@ -1,6 +1,6 @@
 use Rattle.std.proofs.Common.{sym, ◌∙◌, subst}
 use Rattle.warp_block.specs.Entries.{IsQueue}
-use Rattle.warp_block.specs.Inner.Held.{view_of}
+use Rattle.warp_block.specs.Shown.Look.{view_of}
 use Rattle.warp_block.proofs.Slots.{slot_is}
 use Rattle.warp_block.proofs.Rows.{queue_row, queue_ordered}
 use Rattle.warp_block.proofs.look.Look.next_entry.Goals as goal

@@ -1,6 +1,6 @@
 use Rattle.std.proofs.Common.{◌≡◌, ℕ, ◌+◌, Option, Some, None, length, sym, ◌∙◌, subst, arith}
 use Rattle.warp_block.specs.View.{IsLeast}
-use Rattle.warp_block.specs.Inner.Held.{view_of}
+use Rattle.warp_block.specs.Shown.Look.{view_of}
 use Rattle.warp_block.proofs.Next.{HasNews, next_none, next_skip, next_more, next_some, next_past, next_never}
 use Rattle.warp_block.proofs.look.Look.next_from.Goals as goal
 use Rattle.warp_block.proofs.look.Look.next_from.Goals.{then-is_used, else-is_used}

@@ -1,5 +1,5 @@
 use Rattle.warp_block.specs.View.{IsLeast}
-use Rattle.warp_block.specs.Inner.Held.{view_of}
+use Rattle.warp_block.specs.Shown.Look.{view_of}
 use Rattle.warp_block.proofs.Next.{HasNews}
 use Rattle.warp_block.proofs.look.Look.next_from.Given as goal
 

@@ -5,7 +5,7 @@ use Rattle.warp_block.specs.Entries.{Received, IsQueue}
 use Rattle.warp_block.specs.Inner.Entries.{effective_in}
 use Rattle.warp_block.specs.Inner.Logs.{IsLog}
 use Rattle.warp_block.specs.View.{news_of}
-use Rattle.warp_block.specs.Inner.Held.{view_of}
+use Rattle.warp_block.specs.Shown.Look.{view_of}
 use Rattle.warp_block.proofs.Rows.{in_part, queue_row, log_row, queue_ordered, log_rises, news_own, news_read, same_next}
 use Rattle.warp_block.proofs.look.Look.next_news.Goals as goal
 

@@ -3,7 +3,7 @@ use Rattle.gate_values.specs.declared.logic.Change.{Change}
 use Rattle.warp_block.specs.Inner.Agenda.{places_at}
 use Rattle.warp_block.specs.Inner.Building.{has}
 use Rattle.warp_block.specs.Entries.{Received}
-use Rattle.warp_block.specs.Inner.Held.{view_of}
+use Rattle.warp_block.specs.Shown.Look.{view_of}
 use Rattle.warp_block.proofs.Opened.{IsOpened-none, IsOpened-more, IsOpened-all}
 use Rattle.warp_block.proofs.Rows.{queue_row, log_row}
 use Rattle.warp_block.proofs.look.Look.opening_agenda.Goals as goal

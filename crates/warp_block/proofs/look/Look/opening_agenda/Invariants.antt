@@ -1,5 +1,5 @@
 use Rattle.warp_block.specs.Inner.Agenda.{places_at}
-use Rattle.warp_block.specs.Inner.Held.{view_of}
+use Rattle.warp_block.specs.Shown.Look.{view_of}
 use Rattle.warp_block.proofs.Opened.{IsOpened}
 use Rattle.warp_block.proofs.look.Look.opening_agenda.Given as goal
 

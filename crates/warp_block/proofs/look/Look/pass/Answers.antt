@@ -1,5 +1,5 @@
 use Rattle.std.proofs.Common.{arith}
-use Rattle.warp_block.specs.Inner.StateLists.{now_of}
+use Rattle.warp_block.specs.Shown.States.{now_of}
 use Rattle.warp_block.specs.Inner.Agenda.{places_at}
 use Rattle.warp_block.proofs.Holding.{same_places}
 use Rattle.warp_block.proofs.look.Look.pass.Goals as goal

@@ -3,7 +3,7 @@ use Rattle.std.proofs.lemmas.List.{map-set}
 use Rattle.gate_values.specs.declared.logic.Change.{Change}
 use Rattle.warp_block.specs.Entries.{IsQueue}
 use Rattle.warp_block.specs.Inner.Logs.{IsLog}
-use Rattle.warp_block.specs.Inner.Held.{view_of}
+use Rattle.warp_block.specs.Shown.Look.{view_of}
 use Rattle.warp_block.proofs.Late.{late_cut, late_told, queue_put}
 use Rattle.warp_block.proofs.Rows.{in_part, queue_row, queue_ordered, queues_kept, rows_len, all_rise}
 use Rattle.warp_block.proofs.Rolling.{roll_lawful, roll_sends, put_is}

@@ -1,7 +1,7 @@
 use Rattle.std.proofs.Common.{◌+◌, ◌<◌, map, length, get_or, refl, ap, sym, ◌∙◌, subst, arith}
 use Rattle.std.proofs.lemmas.List.{length-map}
 use Rattle.warp_block.specs.View.{Saved, moment_before}
-use Rattle.warp_block.specs.Inner.StateLists.{now_of}
+use Rattle.warp_block.specs.Shown.States.{now_of}
 use Rattle.warp_block.specs.Inner.Placed.{IsSetAt, IsAmong}
 use Rattle.warp_block.proofs.Coasting.{content_here}
 use Rattle.warp_block.proofs.Listing.{has_place}

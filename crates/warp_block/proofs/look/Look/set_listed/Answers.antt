@@ -2,7 +2,7 @@ use Rattle.std.proofs.Common.{◌≡◌, ◌+◌, ◌<◌, suc, ℕ, map, length
 use Rattle.std.proofs.lemmas.List.{get_or-map}
 use Rattle.gate_values.specs.declared.logic.Logic.TheVariants.{X}
 use Rattle.warp_block.specs.View.{Saved, moment_before}
-use Rattle.warp_block.specs.Inner.StateLists.{now_of}
+use Rattle.warp_block.specs.Shown.States.{now_of}
 use Rattle.warp_block.specs.Inner.Placed.{IsSetAt, IsAmong}
 use Rattle.warp_block.proofs.Listed.{none_among, among_more}
 use Rattle.warp_block.proofs.look.Look.set_listed.Goals as goal

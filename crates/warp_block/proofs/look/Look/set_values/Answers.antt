@@ -1,7 +1,7 @@
 use Rattle.std.proofs.Common.{◌≡◌, ◌+◌, ◌<◌, ◌≤◌, ℕ, true, None, All, List, map, length, refl, ap, sym, ◌∙◌, subst, arith}
 use Rattle.std.proofs.lemmas.List.{length-map}
 use Rattle.warp_block.specs.View.{IsLeast, moment_before}
-use Rattle.warp_block.specs.Inner.StateLists.{now_of}
+use Rattle.warp_block.specs.Shown.States.{now_of}
 use Rattle.warp_block.specs.Inner.Placed.{IsSetAt, IsAmong, IsListed}
 use Rattle.warp_block.specs.Inner.Agenda.{places_at, is_listed}
 use Rattle.warp_block.proofs.Listing.{below_from_has, listed_from}

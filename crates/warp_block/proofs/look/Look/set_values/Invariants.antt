@@ -1,7 +1,8 @@
 use Rattle.std.proofs.Common.{◌≡◌, ◌+◌, ◌-◌, ◌≤◌, map}
 use Rattle.warp_block.specs.Inner.Agenda.{places_at}
 use Rattle.warp_block.specs.View.{moment_before}
-use Rattle.warp_block.specs.Inner.StateLists.{now_of, saved_by, FitTogether}
+use Rattle.warp_block.specs.Shown.States.{now_of, saved_by}
+use Rattle.warp_block.specs.Inner.StateLists.{FitTogether}
 use Rattle.warp_block.specs.Inner.Placed.{IsSetAt, IsListed}
 use Rattle.warp_block.proofs.look.Look.set_values.Given as goal
 

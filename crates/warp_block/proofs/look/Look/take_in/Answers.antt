@@ -1,7 +1,7 @@
 use Rattle.std.proofs.Common.{◌≡◌, ◌==◌, ℕ, [], cond, slice_index_or, ap, sym, ◌∙◌, arith, subst, List}
 use Rattle.std.proofs.lemmas.List.{map-set}
 use Rattle.warp_block.specs.Entries.{Received, IsQueue, entry_in}
-use Rattle.warp_block.specs.Inner.Held.{lists_in, view_of}
+use Rattle.warp_block.specs.Shown.Look.{lists_in, view_of}
 use Rattle.warp_block.proofs.Rows.{in_part, in_queues, queue_row, queue_ordered, queues_kept}
 use Rattle.gate_vcd.proofs.Waving.{on_err}
 use Rattle.warp_block.proofs.Rolling.{keep_lawful, put_is}

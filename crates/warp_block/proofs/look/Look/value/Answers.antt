@@ -5,7 +5,7 @@ use Rattle.gate_values.specs.Changes.{latest, held}
 use Rattle.warp_block.specs.Entries.{Received, IsQueue}
 use Rattle.warp_block.specs.Inner.Entries.{effective_in}
 use Rattle.warp_block.specs.Inner.Logs.{IsLog}
-use Rattle.warp_block.specs.Inner.Held.{view_of}
+use Rattle.warp_block.specs.Shown.Look.{view_of}
 use Rattle.warp_block.proofs.Rows.{in_part, queue_row, log_row, queue_ordered, log_rises, value_own, value_read}
 use Rattle.warp_block.proofs.look.Look.value.Goals as goal
 

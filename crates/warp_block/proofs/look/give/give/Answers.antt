@@ -1,5 +1,5 @@
 use Rattle.std.proofs.Common.{◌<◌, length, sym, ◌∙◌, arith}
-use Rattle.warp_block.specs.Inner.Held.{lists_in}
+use Rattle.warp_block.specs.Shown.Look.{lists_in}
 use Rattle.warp_block.proofs.Rows.{list_at}
 use Rattle.warp_block.proofs.Emitting.{set_other}
 use Rattle.warp_block.proofs.Giving.{given_more}

@@ -3,7 +3,7 @@ use Rattle.std.proofs.lemmas.List.{get_or_default}
 use Rattle.gate_values.specs.declared.logic.Logic.TheVariants.{Zero, X}
 use Rattle.gate_values.specs.Tables.{table_of}
 use Rattle.warp_block.specs.declared.cell.Cell.TheVariants.{Pair}
-use Rattle.warp_block.specs.Inner.HeldPart.{stretch}
+use Rattle.warp_block.specs.Shown.Part.{stretch}
 use Rattle.warp_block.proofs.PartHeld.{fits-at, pair_output, gate_output, flop_output}
 use Rattle.warp_block.proofs.part.Part.output.Goals as goal
 

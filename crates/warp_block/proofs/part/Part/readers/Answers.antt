@@ -2,7 +2,7 @@ use Rattle.std.proofs.Common.{◌≡◌, ◌<◌, ℕ, List, [], ◌∷◌, leng
 use Rattle.std.proofs.lemmas.List.{get_or-map}
 use Rattle.std.proofs.Math.Seq.{drop-nil, take-nil}
 use Rattle.warp_block.specs.declared.cell.Span.{Span}
-use Rattle.warp_block.specs.Inner.HeldPart.{stretch}
+use Rattle.warp_block.specs.Shown.Part.{stretch}
 use Rattle.warp_block.proofs.part.Part.readers.Goals as goal
 
 empty : (xs : List ℕ) → length xs ≡ 0 → xs ≡ []

@@ -1,7 +1,7 @@
 use Rattle.std.proofs.Common.{◌≡◌, ◌+◌, ◌≤◌, length, map, take}
 use Rattle.std.specs.List.{All}
 use Rattle.warp_block.specs.declared.cell.Span.{Span}
-use Rattle.warp_block.specs.Inner.HeldPart.{stretch}
+use Rattle.warp_block.specs.Shown.Part.{stretch}
 use Rattle.warp_block.specs.Inner.Building.{lists_of}
 use Rattle.warp_block.proofs.part.readers.flattened.Given as goal
 

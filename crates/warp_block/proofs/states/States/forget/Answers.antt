@@ -3,8 +3,9 @@ use Rattle.std.proofs.lemmas.List.Elements.{All-drop}
 use Rattle.warp_block.specs.declared.states.Place.{Place}
 use Rattle.std.proofs.lemmas.List.{drop-map, length-drop, get_or-drop}
 use Rattle.std.specs.List.Sorted.{IsNonDecreasingBy}
-use Rattle.warp_block.specs.Inner.States.{state_at, states_at, earlier, AreWithin}
-use Rattle.warp_block.specs.Inner.StateLists.{now_of, IsOld}
+use Rattle.warp_block.specs.Shown.States.{state_at, states_at, now_of}
+use Rattle.warp_block.specs.Inner.States.{earlier, AreWithin}
+use Rattle.warp_block.specs.Inner.StateLists.{IsOld}
 use Rattle.warp_block.proofs.Undoing.{left_from, left_states, left_within, left_rising}
 use Rattle.warp_block.proofs.states.States.forget.Goals as goal
 

@@ -1,4 +1,4 @@
-use Rattle.warp_block.specs.Inner.StateLists.{now_of}
+use Rattle.warp_block.specs.Shown.States.{now_of}
 use Rattle.warp_block.proofs.Undoing.{moved}
 use Rattle.warp_block.proofs.states.States.go_on.Goals as goal
 

@@ -1,7 +1,6 @@
 use Rattle.std.proofs.Common.{◌≤◌, drop, ap, sym, ◌∙◌, subst}
 use Rattle.std.proofs.lemmas.List.{length-map}
-use Rattle.warp_block.specs.Inner.States.{state_at}
-use Rattle.warp_block.specs.Inner.StateLists.{now_of, saved_by}
+use Rattle.warp_block.specs.Shown.States.{state_at, now_of, saved_by}
 use Rattle.warp_block.proofs.Undoing.{state_point, places_rise}
 use Rattle.warp_block.proofs.states.States.keep_from.Goals as goal
 

@@ -1,8 +1,7 @@
 use Rattle.std.proofs.Common.{◌≡◌, ◌≤◌, ◌++◌, ◌+◌, ◌<◌, ◌∷◌, [], List, length, drop, ap, sym, ◌∙◌, subst, arith}
 use Rattle.std.proofs.lemmas.List.{drop-append-le, length-append}
 use Rattle.warp_block.specs.declared.states.Old.{Old}
-use Rattle.warp_block.specs.Inner.States.{back}
-use Rattle.warp_block.specs.Inner.StateLists.{now_of}
+use Rattle.warp_block.specs.Shown.States.{back, now_of}
 use Rattle.warp_block.proofs.Undoing.{back-append, front_of, fewer_olds}
 use Rattle.warp_block.proofs.states.States.put_back_to.Goals as goal
 

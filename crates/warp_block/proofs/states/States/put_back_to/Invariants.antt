@@ -1,6 +1,6 @@
 use Rattle.std.proofs.Common.{◌≡◌, ◌≤◌, length, drop, take, All}
-use Rattle.warp_block.specs.Inner.States.{back}
-use Rattle.warp_block.specs.Inner.StateLists.{now_of, IsOld}
+use Rattle.warp_block.specs.Shown.States.{back, now_of}
+use Rattle.warp_block.specs.Inner.StateLists.{IsOld}
 use Rattle.warp_block.proofs.states.States.put_back_to.Given as goal
 
 abbrev pub invariant-loop-self : goal.invariant-loop-self

@@ -3,8 +3,8 @@ use Rattle.std.proofs.lemmas.List.{length-map, length-take-le, get_or-take}
 use Rattle.std.proofs.lemmas.List.Elements.{All-take}
 use Rattle.warp_block.specs.declared.states.Place.{Place}
 use Rattle.warp_block.specs.View.{Saved}
-use Rattle.warp_block.specs.Inner.States.{back, state_at, states_at}
-use Rattle.warp_block.specs.Inner.StateLists.{now_of, IsOld}
+use Rattle.warp_block.specs.Shown.States.{back, state_at, states_at, now_of}
+use Rattle.warp_block.specs.Inner.StateLists.{IsOld}
 use Rattle.warp_block.specs.Inner.Present.{unsaved, newest_of}
 use Rattle.warp_block.proofs.Newest.{newest_take}
 use Rattle.warp_block.proofs.Undoing.{rolled_back, rolled_now, rolled_within, rolled_rising, state_point, places_rise, first_kept, ends}

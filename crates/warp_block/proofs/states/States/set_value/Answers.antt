@@ -5,8 +5,7 @@ use Rattle.gate_values.specs.declared.logic.Logic.TheVariants.{X}
 use Rattle.warp_block.specs.declared.states.Old.{Old}
 use Rattle.warp_block.specs.declared.states.Old.TheVariants.{Value}
 use Rattle.warp_block.specs.View.{Saved}
-use Rattle.warp_block.specs.Inner.States.{put_back}
-use Rattle.warp_block.specs.Inner.StateLists.{now_of}
+use Rattle.warp_block.specs.Shown.States.{put_back, now_of}
 use Rattle.warp_block.proofs.Undoing.{pushed, undone_value}
 use Rattle.warp_block.proofs.states.States.set_value.Goals as goal
 

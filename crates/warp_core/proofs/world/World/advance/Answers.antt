@@ -1,7 +1,7 @@
 use Rattle.std.proofs.Common.{◌+◌, ◌<◌, List, length, sym, subst, arith}
 use Rattle.warp_block.specs.declared.message.Message.{Message}
 use Rattle.warp_block.specs.View.{View}
-use Rattle.warp_core.specs.Inner.HeldWorld.{scene_of}
+use Rattle.warp_core.specs.Shown.{scene_of}
 use Rattle.warp_core.specs.Inner.Kept.{IsSoonest, IsNextTime}
 use Rattle.warp_core.specs.Matched.{seen_at}
 use Rattle.warp_core.specs.World.{Scene, IsBefore}

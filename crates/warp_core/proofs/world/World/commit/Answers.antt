@@ -1,5 +1,5 @@
 use Rattle.std.proofs.Common.{◌+◌, ◌<◌, refl, sym, subst}
-use Rattle.warp_core.specs.Inner.HeldWorld.{scene_of}
+use Rattle.warp_core.specs.Shown.{scene_of}
 use Rattle.warp_core.specs.Play.{IsCommittedAll}
 use Rattle.warp_core.specs.World.{Scene, IsBefore, IsLeastTime}
 use Rattle.warp_core.proofs.Acted.{scene_with}

@@ -3,7 +3,7 @@ use Rattle.std.specs.List.{All, count_by}
 use Rattle.std.proofs.lemmas.List.{length-take-le}
 use Rattle.warp_block.specs.declared.message.Message.{Message}
 use Rattle.warp_block.specs.View.{View}
-use Rattle.warp_core.specs.Inner.HeldWorld.{scene_of}
+use Rattle.warp_core.specs.Shown.{scene_of}
 use Rattle.warp_core.specs.Inner.Kept.{IsSoonest, IsNextTime}
 use Rattle.warp_core.specs.Play.{IsDelivered}
 use Rattle.warp_core.specs.World.{Scene, IsBefore}

@@ -1,5 +1,5 @@
 use Rattle.std.proofs.Common.{◌+◌, sym, subst}
-use Rattle.warp_core.specs.Inner.HeldWorld.{scene_of}
+use Rattle.warp_core.specs.Shown.{scene_of}
 use Rattle.warp_core.specs.World.{Scene, IsLeastTime}
 use Rattle.warp_core.proofs.Finishing.{gathered_whole}
 use Rattle.warp_core.proofs.world.World.finish.Goals as goal

@@ -1,5 +1,5 @@
 use Rattle.std.proofs.Common.{ℕ, List, subst}
-use Rattle.warp_core.specs.Inner.HeldWorld.{scene_of}
+use Rattle.warp_core.specs.Shown.{scene_of}
 use Rattle.warp_core.specs.Inner.Kept.{IsLeastOf}
 use Rattle.warp_core.specs.World.{Scene, IsLeastTime}
 use Rattle.warp_core.proofs.NextTimes.{least_is}
