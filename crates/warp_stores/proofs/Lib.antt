@@ -1,6 +1,7 @@
 -- Laws of parts of lists (`Parts`), of stops and places between them (`Stops`, `Seeking`), of what stops tell (`Telling`)
 -- and tell more (`Growing`, `Extending`), of a queue's calls (`Queues`), of lists that words lengthen (`Listing`), of words at times
--- (`Times`), of lists made from others one by one (`Mixing`), of queues by delay (`Delaying`), and of tournaments (`Tournaments`).
+-- (`Times`), of lists made from others one by one (`Mixing`), of queues by delay (`Delaying`), of sets of bits (`Having`,
+-- `Marking`), of words in order of places (`Ordering`), and of tournaments (`Tournaments`).
 pub mod Parts
 pub mod Stops
 pub mod Seeking
@@ -12,4 +13,7 @@ pub mod Listing
 pub mod Times
 pub mod Mixing
 pub mod Delaying
+pub mod Having
+pub mod Marking
+pub mod Ordering
 pub mod Tournaments

@@ -2,4 +2,6 @@ pub mod Words
 pub mod StopBits
 pub mod Stops
 pub mod Least
+pub mod Marks
+pub mod Order
 pub mod Lists

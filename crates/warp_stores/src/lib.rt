@@ -2,11 +2,12 @@
 //!
 //! A [`Word`] is a change of a place in four bytes; it has the value before, so that each change is its own undo. A
 //! [`Queue`] has words in the order in which they came, and reads them at a head; [`Steps`] has all that came, and takes
-//! it off step by step. [`Delays`] has a queue for each delay, and what comes true next is at hand. [`Lists`] has for each
-//! place the list of its changes. [`Least`] has the least of some times.
+//! it off step by step. [`Delays`] has a queue for each delay, and what comes true next is at hand. [`Order`] puts the words
+//! of a time into order of their places. [`Lists`] has for each place the list of its changes. [`Least`] has the least of some
+//! times.
 //!
 //! The definitions that contracts cite stand in `specs/`: `Words` for a word, `Dated` for words that came at times and for
-//! what a queue has, `Delays` for what comes true when, `Lists` for lists that words lengthen and shorten, `Least` for the least time.
+//! what a queue has, `Delays` for what comes true when, `Order` for the order of places, `Lists` for lists that words lengthen and shorten, `Least` for the least time.
 #![tactic(auto)]
 
 mod delay_queue;
@@ -14,6 +15,8 @@ mod delays;
 mod laws;
 mod least;
 mod lists;
+mod marks;
+mod order;
 mod place;
 mod queue;
 mod steps;
@@ -24,6 +27,7 @@ pub use delays::Delays;
 pub use laws::{before_and_since, nothing_later, undo_gives_back};
 pub use least::{Least, NEVER};
 pub use lists::Lists;
+pub use order::Order;
 pub use queue::{MOST_DEAD, Queue};
 pub use steps::Steps;
 pub use stop::TIMES;
