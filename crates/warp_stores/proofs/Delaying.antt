@@ -8,7 +8,7 @@ use Rattle.warp_stores.specs.declared.least.TheConstants.{NEVER}
 use Rattle.warp_stores.specs.Words.{Move}
 use Rattle.warp_stores.specs.Dated.{Dated, Line, at, undated, first_time, last_from, last_time, standing, RisesFrom, Rises}
 use Rattle.warp_stores.specs.Least.{least_of}
-use Rattle.warp_stores.specs.Delays.{Delayed, true_before, true_since, queue_at, empty_after, due_of, with_made, due_by, read_by, IsForgotten, AreForgotten}
+use Rattle.warp_stores.specs.Delays.{Delayed, true_before, true_since, queue_at, empty_after, due_of, with_made, due_by, read_by, told_since, IsForgotten, AreForgotten}
 use Rattle.warp_stores.proofs.Telling.{lt_false, le_true}
 use Rattle.warp_stores.proofs.Growing.{last_from-append}
 use Rattle.warp_stores.proofs.Times.{last_from-low}
@@ -213,3 +213,10 @@ pub put_due : (step : ℕ) (words : List Move) (delay : ℕ) (line line' : Line 
 put_due step words delay line line' queue view rises late is some =
     subst (λ (q : Delayed). last_time (standing q.line) ≤ step → is_none (first_time q.line.ahead) ≡ false → due_of (record { delay = delay; line = line' }) ≡ due_of q) view
     (λ late some. rw is (due_same step words (record { delay = delay; line = line }) rises late some)) late some
+
+-- what one more queue tells
+pub tell_more : (step last : ℕ) (queues : List Delayed) (i : ℕ) (queue : Delayed) (told told' : List (Dated Move)) → i < length queues → queue ≡ get_or queues i queue → told ≡ flat_map (told_since step last) (take i queues) → told' ≡ told ++ told_since step last queue → told' ≡ flat_map (told_since step last) (take (i + 1) queues)
+tell_more step last queues i queue told told' l q e new =
+    let one : take (i + 1) queues ≡ take i queues ++ queue ∷ [] = take_more queues i queue l ∙ ap (λ (x : Delayed). take i queues ++ x ∷ []) (sym q) in
+    new ∙ ap (λ (ds : List (Dated Move)). ds ++ told_since step last queue) e
+    ∙ sym (ap (flat_map (told_since step last)) one ∙ flat_map-append (told_since step last) (take i queues) (queue ∷ []) ∙ ap (λ (ds : List (Dated Move)). flat_map (told_since step last) (take i queues) ++ ds) (append-nil (told_since step last queue)))

@@ -31,7 +31,7 @@ more_push time n k m ss ss' h some e =
     }
 
 -- stops of one time tell words of that time
-dated-once : {T : Type 0} (time : ℕ) (ss : List Tally) (ws : List T) → All (λ s. s.time ≡ time) ss → total ss ≡ length ws → dated ss ws ≡ at time ws
+pub dated-once : {T : Type 0} (time : ℕ) (ss : List Tally) (ws : List T) → All (λ s. s.time ≡ time) ss → total ss ≡ length ws → dated ss ws ≡ at time ws
 dated-once time [] ws once h = rw (nil_from_length ws (sym h)) refl
 dated-once {T} time (s ∷ ss) ws once h =
     let P : Tally → Type 0 = λ x. x.time ≡ time in

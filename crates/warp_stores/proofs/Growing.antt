@@ -46,7 +46,7 @@ growth_of fixed time ss ss' f h =
     ]
 
 -- what one stop tells of as many words
-one_stop : {T : Type 0} (time count : ℕ) (ws : List T) → length ws ≡ count → dated (record { time = time; count = count } ∷ []) ws ≡ map (λ w. (time, w)) ws
+pub one_stop : {T : Type 0} (time count : ℕ) (ws : List T) → length ws ≡ count → dated (record { time = time; count = count } ∷ []) ws ≡ map (λ w. (time, w)) ws
 one_stop time count ws h = rw (take_all count ws (omega arith)) (append-nil (map (λ w. (time, w)) ws))
 
 -- the last stop tells the last words

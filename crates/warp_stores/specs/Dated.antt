@@ -1,5 +1,5 @@
 -- Words that came at times.
-use Rattle.std.specs.Prelude.{ℕ, nat_lt, nat_le, Option, Some, None, ◌≤◌, List, [], ◌∷◌, ◌++◌, map}
+use Rattle.std.specs.Prelude.{ℕ, nat_lt, nat_le, Option, Some, None, ◌+◌, ◌≤◌, List, [], ◌∷◌, ◌++◌, map}
 use Rattle.std.specs.List.{filter}
 
 -- a time, and what came at it
@@ -17,6 +17,10 @@ before time words = filter (λ d. nat_lt d.0 time) words
 -- what came at a time or later
 abbrev pub since : {T : Type 0} → ℕ → List (Dated T) → List (Dated T)
 since time words = filter (λ d. nat_le time d.0) words
+
+-- what came, each a delay later, up to a last time
+abbrev pub later : {T : Type 0} → ℕ → ℕ → List (Dated T) → List (Dated T)
+later delay last words = filter (λ d. nat_le d.0 last) (map (λ d. (d.0 + delay, d.1)) words)
 
 -- what came, without the times
 abbrev pub undated : {T : Type 0} → List (Dated T) → List T

@@ -3,7 +3,7 @@ use Rattle.std.specs.Prelude.{◌≡◌, ℕ, suc, ◌+◌, ◌-◌, ◌<◌, �
 use Rattle.std.specs.List.{filter}
 use Rattle.warp_stores.specs.declared.queue.TheConstants.{MOST_DEAD}
 use Rattle.warp_stores.specs.Words.{Move}
-use Rattle.warp_stores.specs.Dated.{Dated, Line, at, before, since, undated, standing}
+use Rattle.warp_stores.specs.Dated.{Dated, Line, at, before, since, later, undated, standing}
 use Rattle.warp_stores.specs.Least.{least_of}
 
 -- a queue of words, at the times of the steps that made them, that come true a delay after
@@ -68,6 +68,10 @@ back_from time queue = record {
 -- the words that a step and later ones made
 abbrev pub made_since : ℕ → Delayed → List Move
 made_since step queue = undated (since step (standing queue.line))
+
+-- the same at the times at which they come true, up to a last time
+abbrev pub told_since : ℕ → ℕ → Delayed → List (Dated Move)
+told_since step last queue = later queue.delay last (since step (standing queue.line))
 
 -- when those were cut off
 abbrev pub cut_since : ℕ → Delayed → Delayed

@@ -1,8 +1,9 @@
 //! A queue of words that come true a delay after the steps that made them.
-ghost use Rattle.std.specs.Prelude.{◌≡◌, ◌≤◌, ◌<◌, ◌∷◌, [], OnOk, OnErr, is_none, false};
+ghost use Rattle.std.specs.Prelude.{◌≡◌, ◌≤◌, ◌<◌, ◌++◌, ◌∷◌, [], OnOk, OnErr, is_none, false};
 ghost use Rattle.warp_stores.specs.Dated.{first_time, last_time, standing};
-ghost use Rattle.warp_stores.specs.Delays.{empty_after, due_of, with_made, due_by, read_by, back_from, made_since, cut_since, IsForgotten};
+ghost use Rattle.warp_stores.specs.Delays.{empty_after, due_of, with_made, due_by, read_by, back_from, made_since, told_since, cut_since, IsForgotten};
 
+use crate::batch::Batch;
 use crate::least::NEVER;
 use crate::queue::Queue;
 use crate::stop::TIMES;
@@ -116,6 +117,21 @@ impl DelayQueue {
         ensures { result.now ≡ made_since step self.now }
     {
         self.words.since(step)
+    }
+
+    /// Puts the words that a step and later ones made into a batch, at the times at which they come true, up to a last time.
+    /// An error is a refused growth; then the batch has no word.
+    pub(crate) fn tell_since(
+        &self,
+        step: u64,
+        last: u64,
+        batch: &mut Batch<Word>,
+    ) -> Result<(), AllocError>
+        requires { last < TIMES }
+        ensures ok { OnOk result (batch.new ≡ batch.old ++ told_since step last self.now) }
+        ensures err { OnErr result (batch.new ≡ []) }
+    {
+        self.words.tell_since(step, self.delay, last, batch)
     }
 
     /// Cuts off the words that a step and later ones made.

@@ -2,8 +2,9 @@
 ghost use Rattle.std.specs.Prelude.{◌≡◌, ◌≤◌, ◌<◌, ◌++◌, ◌∷◌, [], IfOk, OnOk, OnErr, length, map, slice_set};
 ghost use Rattle.std.specs.List.{flat_map};
 ghost use Rattle.warp_stores.specs.Dated.{last_time, standing};
-ghost use Rattle.warp_stores.specs.Delays.{queue_at, empty_after, due_of, least_due, with_made, due_by, read_by, back_from, made_since, cut_since, AreForgotten};
+ghost use Rattle.warp_stores.specs.Delays.{queue_at, empty_after, due_of, least_due, with_made, due_by, read_by, back_from, made_since, told_since, cut_since, AreForgotten};
 
+use crate::batch::Batch;
 use crate::delay_queue::DelayQueue;
 use crate::least::{Least, NEVER};
 use crate::stop::TIMES;
@@ -127,6 +128,25 @@ impl Delays {
         ensures { result.now ≡ made_since step (queue_at self.now queue) }
     {
         self.queues[queue].made_since(step)
+    }
+
+    /// Puts the words that a step and later ones made into a batch, in place of what was there, at the times at which they
+    /// come true, up to a last time. An error is a refused growth; then the batch has no word.
+    pub fn tell_since(
+        &self,
+        step: u64,
+        last: u64,
+        batch: &mut Batch<Word>,
+    ) -> Result<(), AllocError>
+        requires { last < TIMES }
+        ensures ok { OnOk result (batch.new ≡ flat_map (told_since step last) self.now) }
+        ensures err { OnErr result (batch.new ≡ []) }
+    {
+        batch.clear();
+        for queue in &self.queues {
+            queue.tell_since(step, last, batch)?;
+        }
+        Ok(())
     }
 
     /// Cuts off the words that a step and later ones made.

@@ -3,13 +3,14 @@
 //! A [`Word`] is a change of a place in four bytes; it has the value before, so that each change is its own undo. A
 //! [`Queue`] has words in the order in which they came, and reads them at a head; [`Steps`] has all that came, and takes
 //! it off step by step. [`Delays`] has a queue for each delay, and what comes true next is at hand. [`Order`] puts the words
-//! of a time into order of their places. [`Lists`] has for each place the list of its changes. [`Least`] has the least of some
-//! times.
+//! of a time into order of their places. [`Lists`] has for each place the list of its changes, which get the words of a
+//! [`Batch`] at once. [`Least`] has the least of some times.
 //!
 //! The definitions that contracts cite stand in `specs/`: `Words` for a word, `Dated` for words that came at times and for
 //! what a queue has, `Delays` for what comes true when, `Order` for the order of places, `Lists` for lists that words lengthen and shorten, `Least` for the least time.
 #![tactic(auto)]
 
+mod batch;
 mod delay_queue;
 mod delays;
 mod laws;
@@ -23,6 +24,7 @@ mod steps;
 mod stop;
 mod word;
 
+pub use batch::Batch;
 pub use delays::Delays;
 pub use laws::{before_and_since, nothing_later, undo_gives_back};
 pub use least::{Least, NEVER};

@@ -1,9 +1,14 @@
 //! Lists of changes, one for each place.
-ghost use Rattle.std.specs.Prelude.{◌≡◌, ◌≤◌, ◌<◌, ◌∷◌, [], IfOk, IfErr, OnOk, OnErr, length, take, replicate, get_or};
+ghost use Rattle.std.specs.Prelude.{◌≡◌, ◌≤◌, ◌<◌, ◌^◌, ◌∷◌, [], IfOk, IfErr, OnOk, OnErr, length, take, replicate, get_or};
 ghost use Rattle.std.specs.List.{All};
 ghost use Rattle.warp_stores.specs.Lists.{AreLonger, AreShorter};
-ghost use Rattle.warp_stores.specs.Inner.Lists.{lists_of};
+ghost use Rattle.warp_stores.specs.Dated.{at};
+ghost use Rattle.warp_stores.specs.Inner.Lists.{lists_of, ArePut};
+ghost use Rattle.warp_stores.specs.Inner.Stops.{total, dated};
 
+use crate::batch::Batch;
+use crate::place::part;
+use crate::stop::Stop;
 use crate::word::Word;
 use gate_values::Change;
 use std::alloc::{AllocError, Global};
@@ -21,7 +26,9 @@ impl Model for Lists {
 
     ghost Value = { List (List Change) };
 
-    ghost use Rattle.warp_stores.specs.Inner.Lists.{lists_of};
+    ghost use Rattle.warp_stores.specs.Dated.{at};
+    ghost use Rattle.warp_stores.specs.Inner.Lists.{lists_of, ArePut};
+    ghost use Rattle.warp_stores.specs.Inner.Stops.{total, dated};
 
     ghost view = { λ lists. lists_of lists.lists.items };
 }
@@ -47,7 +54,7 @@ impl Lists {
     /// stay.
     pub fn append(&mut self, time: u64, words: &[Word]) -> Result<(), AllocError>
         requires { All (λ word. word.place < length self.old) words.now }
-        ensures ok { OnOk result (AreLonger time words.now self.old self.new) }
+        ensures ok { OnOk result (AreLonger (at time words.now) self.old self.new) }
         ensures err { OnErr result (self.new ≡ self.old) }
     {
         match push_all(&mut self.lists, time, words) {
@@ -57,6 +64,33 @@ impl Lists {
                 Err(AllocError)
             }
         }
+    }
+
+    /// Puts the words of a batch behind the lists of their places, in order. An error is a refused growth; then all lists
+    /// stay.
+    pub fn append_batch(&mut self, batch: &Batch<Word>) -> Result<(), AllocError>
+        requires { All (λ d. d.1.place < length self.old) batch.now }
+        ensures ok { OnOk result (AreLonger batch.now self.old self.new) }
+        ensures err { OnErr result (self.new ≡ self.old) }
+    {
+        match push_batch(
+            &mut self.lists,
+            batch.stops.as_slice(),
+            batch.words.as_slice(),
+        ) {
+            Ok(()) => Ok(()),
+            Err(pushed) => {
+                pop_all(&mut self.lists, &batch.words[..pushed]);
+                Err(AllocError)
+            }
+        }
+    }
+
+    /// Gives the lists away.
+    pub fn into_vec(self) -> Vec<Vec<Change>>
+        ensures { lists_of result.items ≡ self }
+    {
+        self.lists
     }
 
     /// Takes words back: each shortens the list of its place by one.
@@ -82,7 +116,7 @@ fn empty_lists(alloc: Global, count: usize) -> Result<Vec<Vec<Change>>, AllocErr
 /// Puts a word of a time behind the list of its place.
 fn push_one(lists: &mut Vec<Vec<Change>>, time: u64, word: Word) -> Result<(), AllocError>
     requires { word.place < length lists.old.items }
-    ensures ok { OnOk result (AreLonger time (word ∷ []) (lists_of lists.old.items) (lists_of lists.new.items)) }
+    ensures ok { OnOk result (AreLonger ((time, word) ∷ []) (lists_of lists.old.items) (lists_of lists.new.items)) }
     ensures err { OnErr result (lists_of lists.new.items ≡ lists_of lists.old.items) }
 {
     let place = word.place() as usize;
@@ -97,14 +131,35 @@ fn push_one(lists: &mut Vec<Vec<Change>>, time: u64, word: Word) -> Result<(), A
 /// put.
 fn push_all(lists: &mut Vec<Vec<Change>>, time: u64, words: &[Word]) -> Result<(), usize>
     requires { All (λ word. word.place < length lists.old.items) words.now }
-    ensures ok { OnOk result (AreLonger time words.now (lists_of lists.old.items) (lists_of lists.new.items)) }
+    ensures ok { OnOk result (AreLonger (at time words.now) (lists_of lists.old.items) (lists_of lists.new.items)) }
     ensures within { IfErr result (λ pushed. pushed ≤ length words.now) }
-    ensures err { IfErr result (λ pushed. AreLonger time (take pushed words.now) (lists_of lists.old.items) (lists_of lists.new.items)) }
+    ensures err { IfErr result (λ pushed. AreLonger (at time (take pushed words.now)) (lists_of lists.old.items) (lists_of lists.new.items)) }
 {
     for (pushed, word) in words.iter().enumerate() {
         match push_one(lists, time, *word) {
             Ok(()) => {}
             Err(_) => return Err(pushed),
+        }
+    }
+    Ok(())
+}
+
+/// Puts the words of stops behind the lists of their places. An error is a refused growth, and says how many words were
+/// put.
+fn push_batch(lists: &mut Vec<Vec<Change>>, stops: &[Stop], words: &[Word]) -> Result<(), usize>
+    requires whole { total stops.now ≡ length words.now }
+    requires fits { total stops.now < 2 ^ 64 }
+    requires within { All (λ word. word.place < length lists.old.items) words.now }
+    ensures ok { OnOk result (AreLonger (dated stops.now words.now) (lists_of lists.old.items) (lists_of lists.new.items)) }
+    ensures within { IfErr result (λ pushed. pushed ≤ length words.now) }
+    ensures err { IfErr result (λ pushed. ArePut pushed words.now (lists_of lists.old.items) (lists_of lists.new.items)) }
+{
+    let mut pushed = 0;
+    for stop in stops {
+        let end = pushed + stop.count() as usize;
+        match push_all(lists, stop.time(), part(words, pushed, end)) {
+            Ok(()) => pushed = end,
+            Err(more) => return Err(pushed + more),
         }
     }
     Ok(())

@@ -1,8 +1,10 @@
 //! Places between stops.
 ghost use Rattle.std.specs.Prelude.{◌≡◌, ◌<◌, ◌≤◌, ◌+◌, ◌-◌, ◌^◌, ◌++◌, ◌∷◌, [], OnOk, OnErr, length, drop};
 ghost use Rattle.std.specs.List.{between};
-ghost use Rattle.warp_stores.specs.Inner.Stops.{total, Climbs, IsSpan, IsParted, HaveOneMore, HaveMore, end_of};
+ghost use Rattle.warp_stores.specs.Inner.Stops.{total, Climbs, IsSpan, IsParted, HaveOneMore, HaveMore, end_of, told};
+ghost use Rattle.warp_stores.specs.Dated.{at, later};
 
+use crate::batch::Batch;
 use crate::stop::{MOST_COUNTED, Stop, TIMES};
 use std::alloc::AllocError;
 
@@ -164,6 +166,56 @@ where
     words.reserve(more.len())?;
     count_all(stops, time, more.len())?;
     words.extend_from_slice(more)?;
+    Ok(())
+}
+
+/// Puts the words from a place on into a batch, each a delay later, up to a last time. An error is a refused growth; then
+/// the batch has no word.
+pub(crate) fn tell<T>(
+    stops: &[Stop],
+    words: &[T],
+    from: Place,
+    delay: u32,
+    last: u64,
+    batch: &mut Batch<T>,
+) -> Result<(), AllocError>
+where
+    T: Copy,
+    requires whole { total stops.now ≡ length words.now }
+    requires fits { total stops.now < 2 ^ 64 }
+    requires span { IsSpan stops.now from (end_of stops.now words.now) }
+    requires time { last < TIMES }
+    ensures ok { OnOk result (batch.new ≡ batch.old ++ later delay last (told stops.now words.now from (end_of stops.now words.now))) }
+    ensures err { OnErr result (batch.new ≡ []) }
+{
+    let mut place = from;
+    while place.stops < stops.len() {
+        let stop = stops[place.stops];
+        let time = stop.time() + delay as u64;
+        let next = place.behind(stop);
+        tell_stop(part(words, place.words, next.words), time, last, batch)?;
+        place = next;
+    }
+    Ok(())
+}
+
+/// Puts the words of a time into a batch, unless that is later than a last one. An error is a refused growth; then the batch
+/// has no word.
+fn tell_stop<T>(words: &[T], time: u64, last: u64, batch: &mut Batch<T>) -> Result<(), AllocError>
+where
+    T: Copy,
+    requires { last < TIMES }
+    ensures told { OnOk result (time ≤ last → batch.new ≡ batch.old ++ at time words.now) }
+    ensures over { OnOk result (last < time → batch.new ≡ batch.old) }
+    ensures err { OnErr result (batch.new ≡ []) }
+{
+    if time > last {
+        return Ok(());
+    }
+    if batch.append_all(time, words).is_err() {
+        batch.clear();
+        return Err(AllocError);
+    }
     Ok(())
 }
 

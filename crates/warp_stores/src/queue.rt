@@ -1,8 +1,11 @@
 //! Words in the order in which they came, and a head that reads them.
 ghost use Rattle.std.specs.Prelude.{◌≡◌, ◌≤◌, ◌<◌, ◌+◌, ◌++◌, ◌∷◌, [], OnOk, OnErr, IfSome, length, nat_lt};
-ghost use Rattle.warp_stores.specs.Dated.{at, before, since, undated, first_time, last_time, standing, Rises};
+ghost use Rattle.warp_stores.specs.Dated.{at, before, since, undated, first_time, last_time, later, standing, Rises};
 
-use crate::place::{Place, append, append_all, drop_front, end_of, first_since, last_before, part};
+use crate::batch::Batch;
+use crate::place::{
+    Place, append, append_all, drop_front, end_of, first_since, last_before, part, tell,
+};
 use crate::stop::{Stop, TIMES};
 use std::alloc::{AllocError, Global};
 use std::marker::Model;
@@ -136,6 +139,31 @@ impl<T: Copy> Queue<T> {
         let end = end_of(&self.stops, &self.words);
         let from = last_before(self.stops.as_slice(), self.dead, end, time);
         part(self.words.as_slice(), from.words, end.words)
+    }
+
+    /// Puts the words that aren't before a time into a batch, each a delay later, up to a last time. An error is a refused
+    /// growth; then the batch has no word.
+    pub fn tell_since(
+        &self,
+        time: u64,
+        delay: u32,
+        last: u64,
+        batch: &mut Batch<T>,
+    ) -> Result<(), AllocError>
+        requires { last < TIMES }
+        ensures ok { OnOk result (batch.new ≡ batch.old ++ later delay last (since time (standing self.now))) }
+        ensures err { OnErr result (batch.new ≡ []) }
+    {
+        let end = end_of(&self.stops, &self.words);
+        let from = last_before(self.stops.as_slice(), self.dead, end, time);
+        tell(
+            self.stops.as_slice(),
+            self.words.as_slice(),
+            from,
+            delay,
+            last,
+            batch,
+        )
     }
 
     /// Cuts off the words that aren't before a time.

@@ -1,8 +1,17 @@
--- Vectors as lists.
-use Rattle.std.specs.Prelude.{List, map, Vec}
+-- Vectors as lists, and lists on the way.
+use Rattle.std.specs.Prelude.{◌≡◌, ℕ, List, map, take, Vec}
 use Rattle.std.specs.declared.alloc.Global.{Global}
 use Rattle.gate_values.specs.declared.logic.Change.{Change}
+use Rattle.warp_stores.specs.Words.{Move}
+use Rattle.warp_stores.specs.Dated.{Dated, undated}
+use Rattle.warp_stores.specs.Lists.{AreLonger}
 
 -- what these vectors hold
 abbrev pub lists_of : List (Vec Change Global) → List (List Change)
 lists_of vectors = map (λ (v : Vec Change Global). v.items) vectors
+
+-- so many of some words are put, at times
+pub record ArePut (count : ℕ) (words : List Move) (old new : List (List Change)) : Type 0 where
+  pub put : List (Dated Move)
+  pub are : undated put ≡ take count words
+  pub longer : AreLonger put old new
