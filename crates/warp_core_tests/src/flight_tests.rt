@@ -4,6 +4,7 @@ use gate_values::Logic;
 use std::alloc::Global;
 use std::test::Fail;
 use warp_block::{Message, Sign};
+use warp_core::{Event, PlayFault, World};
 
 /// A toggle in two blocks; nets N, Q, CK.
 const TOGGLE: Texts = Texts {
@@ -17,6 +18,13 @@ const REGISTER: Texts = Texts {
     bench: "INPUT(D)\nP = DFF(D)\nQ = DFF(D)\nR = DFF(D)\nY = AND(P, Q, R)\nZ = OR(Q, R)\n",
     settings: "[init]\nP = \"1\"\nQ = \"0\"\nR = \"1\"\n[block]\nP = 1\nQ = 0\nR = 0\nY = 2\nZ = 1\n",
     stimulus: "$var wire 1 d D $end $var wire 1 c CK $end $enddefinitions $end",
+};
+
+/// The toggle with no initial content.
+const UNKNOWN: Texts = Texts {
+    bench: "N = NOT(Q)\nQ = DFF(N)\n",
+    settings: "[block]\nN = 0\nQ = 1\n",
+    stimulus: "$var wire 1 c CK $end $enddefinitions $end #0 0c #3 1c",
 };
 
 fn opening_of(alloc: Global, given: &Given) -> Result<Vec<Message>, Fail> {
@@ -63,6 +71,71 @@ fn initial_contents_are_in_flight_by_block_net_and_reader(rt: HostRuntime) -> Re
                 sign: Sign::Plus,
             };
             assert_eq!(rt; *message, told);
+        }
+    }
+    Ok(())
+}
+
+/// Circuits, and which messages are delivered in a new world of each, one after the other, and why not: one for each
+/// initial content that another block reads, and then none.
+static DELIVERIES: [(Texts, &[(usize, Option<PlayFault>)]); 3] = [
+    (
+        TOGGLE,
+        &[
+            (1, Some(PlayFault::NoSuchMessage)),
+            (0, None),
+            (0, Some(PlayFault::NoSuchMessage)),
+        ],
+    ),
+    (
+        REGISTER,
+        &[
+            (5, Some(PlayFault::NoSuchMessage)),
+            (4, None),
+            (4, Some(PlayFault::NoSuchMessage)),
+            (0, None),
+            (0, None),
+            (0, None),
+            (0, None),
+            (0, Some(PlayFault::NoSuchMessage)),
+        ],
+    ),
+    (UNKNOWN, &[(0, Some(PlayFault::NoSuchMessage))]),
+];
+
+fn delivered(
+    alloc: Global,
+    world: &mut World<'_>,
+    deliveries: &[(usize, Option<PlayFault>)],
+) -> Result<Vec<Option<PlayFault>>, Fail> {
+    let mut faults = Vec::new(alloc);
+    for (message, _) in deliveries {
+        faults.push(world.play(Event::Deliver { message: *message }).err())?;
+    }
+    Ok(faults)
+}
+
+/// What a new world answers to deliveries.
+fn delivered_in(
+    alloc: Global,
+    given: &Given,
+    deliveries: &[(usize, Option<PlayFault>)],
+) -> Result<Vec<Option<PlayFault>>, Fail> {
+    let mut world = given.world(alloc, 10)?;
+    let faults = delivered(alloc, &mut world, deliveries);
+    drop(world);
+    faults
+}
+
+#[test]
+fn initial_contents_are_delivered_and_nothing_else(rt: HostRuntime) -> Result<(), Fail> {
+    for (texts, deliveries) in &DELIVERIES {
+        let given = Given::of(rt.alloc(), *texts)?;
+        let faults = delivered_in(rt.alloc(), &given, *deliveries);
+        drop(given);
+        let faults = faults?;
+        for (fault, (_, want)) in faults.iter().zip(*deliveries) {
+            assert_eq!(rt; *fault, *want);
         }
     }
     Ok(())
