@@ -11,9 +11,10 @@ from dataclasses import dataclass
 import play
 from memory import programs
 
-# So many names are read; with one name nothing can lie elsewhere. The letters of a comment stand in one of these orders.
+# So many names are read; with one name nothing can lie elsewhere. The letters of a comment stand in so many orders: few names
+# may take the same number of steps under several seeds.
 NAMES = 20
-ORDERS = ("abcdefgh", "hfdbgeca", "badcfehg", "hgfedcba", "ghefcdab", "acegbdfh", "ebgdahcf", "fchadgbe")
+ORDERS = tuple("".join(random.Random(seed).sample("abcdefgh", 8)) for seed in range(40))
 
 # So many names have one hash where a map takes the kit's own hasher, whose seed is fixed; reading them takes at most so
 # many times the instructions of reading the same letters in another order.
