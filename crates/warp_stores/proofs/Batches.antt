@@ -7,10 +7,10 @@ use Rattle.std.proofs.lemmas.List.{map-append, append-nil, take_all}
 use Rattle.warp_stores.specs.declared.place.Place.{Place}
 use Rattle.warp_stores.specs.Dated.{Dated, at, later}
 use Rattle.warp_stores.specs.Inner.StopBits.{Tally}
-use Rattle.warp_stores.specs.Inner.Stops.{total, dated, told, IsPlace, IsSpan, HaveMore, end_of}
+use Rattle.warp_stores.specs.Inner.Stops.{total, dated, told, IsSpan, HaveMore, end_of}
 use Rattle.warp_stores.proofs.Parts.{between_cons}
 use Rattle.warp_stores.proofs.Stops.{total-append, IsPlace-more}
-use Rattle.warp_stores.proofs.Telling.{told-append, told-none, dated-append, length-span, le_true, le_false}
+use Rattle.warp_stores.proofs.Telling.{told-append, told-none, dated-append, le_true, le_false}
 use Rattle.warp_stores.proofs.Growing.{one_stop}
 use Rattle.warp_stores.proofs.Extending.{dated-once}
 use Rattle.warp_stores.proofs.Seeking.{words_fit}

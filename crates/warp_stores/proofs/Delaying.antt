@@ -1,18 +1,18 @@
 -- Queues of words that come true after a delay: when they are due, and loops over them.
-use Rattle.std.proofs.Common.{◌≡◌, ℕ, suc, false, true≢false, is_none, ◌+◌, ◌<◌, ◌≤◌, ◌⊎◌, inl, inr, min, Some, None, List, [], ◌∷◌, ◌++◌, length, get_or, set, take, drop, map, replicate, refl, ap, sym, ◌∙◌, subst, arith, append_assoc}
+use Rattle.std.proofs.Common.{◌≡◌, ℕ, suc, false, true≢false, is_none, ◌+◌, ◌<◌, ◌≤◌, min, Some, None, List, [], ◌∷◌, ◌++◌, length, get_or, set, take, drop, map, replicate, refl, ap, sym, ◌∙◌, subst, arith, append_assoc}
 use Rattle.std.specs.List.{flat_map}
 use Rattle.std.proofs.lemmas.Option.{none-some, same_Some}
-use Rattle.std.proofs.lemmas.List.{append-nil, map-append, map-set, length-set, length-map, get_or-map, set-get_or, take_more, take_all, drop_all, same_lists, get_or_default}
+use Rattle.std.proofs.lemmas.List.{append-nil, map-append, map-set, length-set, length-map, get_or-map, set-get_or, take_more, take_all, drop_all, same_lists}
 use Rattle.std.proofs.lemmas.Grind.{flat_map-append}
 use Rattle.warp_stores.specs.declared.least.TheConstants.{NEVER}
 use Rattle.warp_stores.specs.Words.{Move}
 use Rattle.warp_stores.specs.Dated.{Dated, Line, at, undated, first_time, last_from, last_time, standing, RisesFrom, Rises}
 use Rattle.warp_stores.specs.Least.{least_of}
-use Rattle.warp_stores.specs.Delays.{Delayed, true_before, true_since, queue_at, empty_after, due_of, with_made, due_by, read_by, told_since, IsForgotten, AreForgotten}
+use Rattle.warp_stores.specs.Delays.{Delayed, true_before, true_since, queue_at, empty_after, due_of, with_made, due_by, read_by, told_since, IsForgotten}
 use Rattle.warp_stores.proofs.Telling.{lt_false, le_true}
 use Rattle.warp_stores.proofs.Growing.{last_from-append}
 use Rattle.warp_stores.proofs.Times.{last_from-low}
-use Rattle.warp_stores.proofs.Mixing.{mixed, mixed-all, mixed-set, mixed-skip, get_or-mixed, length-mixed, flat_map-skip}
+use Rattle.warp_stores.proofs.Mixing.{mixed, mixed-set, mixed-skip, get_or-mixed, flat_map-skip}
 
 -- when words come true
 abbrev dues : ℕ → List (Dated Move) → List ℕ

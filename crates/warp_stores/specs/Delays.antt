@@ -1,5 +1,5 @@
 -- Queues of words that come true a delay after the steps that made them.
-use Rattle.std.specs.Prelude.{◌≡◌, ℕ, suc, ◌+◌, ◌-◌, ◌<◌, ◌≤◌, nat_lt, nat_le, List, [], ◌++◌, length, get_or, map}
+use Rattle.std.specs.Prelude.{◌≡◌, ℕ, suc, ◌+◌, ◌<◌, ◌≤◌, nat_lt, nat_le, List, [], ◌++◌, length, get_or, map}
 use Rattle.std.specs.List.{filter}
 use Rattle.warp_stores.specs.declared.queue.TheConstants.{MOST_DEAD}
 use Rattle.warp_stores.specs.Words.{Move}

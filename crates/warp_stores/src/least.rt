@@ -1,7 +1,8 @@
 //! The least of some times.
-ghost use Rattle.std.specs.Prelude.{◌≡◌, ◌<◌, ◌≤◌, ◌+◌, ◌*◌, ◌-◌, ◌/◌, ℕ, IfOk, length, drop, slice_index, slice_set, replicate};
+ghost use Rattle.std.specs.Prelude.{◌≡◌, ◌≢◌, ◌<◌, ◌≤◌, ◌+◌, ◌*◌, ◌-◌, ◌/◌, ◌^◌, ℕ, IfOk, length, drop, slice_index, slice_set, replicate};
 ghost use Rattle.warp_stores.specs.Least.{least_of};
-ghost use Rattle.warp_stores.specs.Inner.Least.{IsTournament};
+ghost use Rattle.std.specs.Int.{IsPowerOfTwo};
+ghost use Rattle.warp_stores.specs.Inner.Least.{IsTournament, IsSeat, AreLater, IsHalf};
 
 use std::alloc::{AllocError, Global};
 use std::marker::Model;
@@ -9,26 +10,27 @@ use std::marker::Model;
 /// No time.
 pub const NEVER: u64 = u64::MAX;
 
-/// Some times, each in a place, [`NEVER`] where there is none: a tournament, so that the least is at hand and a time is
-/// set in as many steps as the number of places has bits.
+/// Some times, each in a place, [`NEVER`] where there is none: a tournament, so that the least is at hand, and a time is
+/// set, and the next one that is no later than another is found, in as many steps as the number of places has bits.
 ///
-/// The times are the second half of the nodes. Node `i` of the first half, but for the first, has the lesser of nodes
-/// `2 * i` and `2 * i + 1`.
+/// The times are the second half of the nodes, as far as there are places. Node `i` of the first half, but for the first,
+/// has the lesser of nodes `2 * i` and `2 * i + 1`.
 #[derive(Debug, Drop)]
 pub struct Least {
     nodes: Vec<u64>,
+    count: usize,
 }
 
 impl Model for Least {
-    ghost use Rattle.std.specs.Prelude.{ℕ, List};
+    ghost use Rattle.std.specs.Prelude.{ℕ, List, take};
 
     ghost Value = { List ℕ };
 
-    ghost use Rattle.warp_stores.specs.Inner.Least.{IsTournament, leaves};
+    ghost use Rattle.warp_stores.specs.Inner.Least.{HasPlaces, leaves};
 
-    ghost view = { λ least. leaves least.nodes.items };
+    ghost view = { λ least. take least.count (leaves least.nodes.items) };
 
-    ghost invariant = { λ least. IsTournament least.nodes.items };
+    ghost invariant = { λ least. HasPlaces least.count least.nodes.items };
 }
 
 impl Least {
@@ -36,18 +38,17 @@ impl Least {
     pub fn new(alloc: Global, count: u32) -> Result<Least, AllocError>
         ensures { IfOk result (λ least. least ≡ replicate count NEVER) }
     {
+        let half = (count as usize).next_power_of_two();
         let mut nodes = Vec::new(alloc);
-        nodes.resize(2 * count as usize, NEVER)?;
-        Ok(Least { nodes })
+        nodes.resize(2 * half, NEVER)?;
+        let count = count as usize;
+        Ok(Least { nodes, count })
     }
 
     /// The least time.
     pub fn least(&self) -> u64
         ensures { result ≡ least_of self.now }
     {
-        if self.nodes.len() < 2 {
-            return NEVER;
-        }
         self.nodes[1]
     }
 
@@ -58,13 +59,12 @@ impl Least {
         ensures passed { (k : ℕ) → from ≤ k → k < result → time < slice_index self.now k }
         ensures found { result < length self.now → slice_index self.now result ≤ time }
     {
-        let half = self.nodes.len() / 2;
-        for place in from..half {
-            if self.nodes[half + place] <= time {
-                return place;
-            }
+        if from >= self.count {
+            return self.count;
         }
-        half
+        let half = self.nodes.len() / 2;
+        let leaf = first_from(self.nodes.as_slice(), half + from, time);
+        (leaf - half).min(self.count)
     }
 
     /// Puts a time into a place.
@@ -74,6 +74,103 @@ impl Least {
     {
         let leaf = self.nodes.len() / 2 + place;
         put(self.nodes.as_mut_slice(), leaf, time);
+    }
+}
+
+/// A node, and how many of the second half it stands for, from one of them on.
+#[derive(Clone, Copy, Debug)]
+struct Seat {
+    node: usize,
+    width: usize,
+    leaf: usize,
+}
+
+/// The first node of the second half from one on whose time is no later than a time, or how many nodes there are.
+fn first_from(nodes: &[u64], from: usize, time: u64) -> usize
+    requires tournament { IsTournament nodes.now }
+    requires power { IsPowerOfTwo (length nodes.now / 2) }
+    requires half { length nodes.now / 2 ≤ from }
+    requires within { from < length nodes.now }
+    ensures within { from ≤ result × result ≤ length nodes.now }
+    ensures passed { AreLater time nodes.now from result }
+    ensures found { result < length nodes.now → slice_index nodes.now result ≤ time }
+{
+    let mut seat = Seat {
+        node: from,
+        width: 1,
+        leaf: from,
+    };
+    while nodes[seat.node] > time {
+        if seat.leaf + seat.width == nodes.len() {
+            return nodes.len();
+        }
+        seat = next(nodes, seat);
+    }
+    descend(nodes, seat, time)
+}
+
+/// The seat behind another, the widest of one or two.
+fn next(nodes: &[u64], seat: Seat) -> Seat
+    requires seat { IsSeat nodes.now seat }
+    requires more { seat.leaf + seat.width ≢ length nodes.now }
+    requires fits { length nodes.now < 2 ^ 63 }
+    ensures seat { IsSeat nodes.now result }
+    ensures leaf { result.leaf ≡ seat.leaf + seat.width }
+{
+    let _ = nodes;
+    let node = seat.node + 1;
+    let leaf = seat.leaf + seat.width;
+    if node % 2 == 1 {
+        return Seat {
+            node,
+            width: seat.width,
+            leaf,
+        };
+    }
+    Seat {
+        node: node / 2,
+        width: seat.width * 2,
+        leaf,
+    }
+}
+
+/// The first node of the second half under a seat whose time is no later than a time.
+fn descend(nodes: &[u64], seat: Seat, time: u64) -> usize
+    requires tournament { IsTournament nodes.now }
+    requires seat { IsSeat nodes.now seat }
+    requires found { slice_index nodes.now seat.node ≤ time }
+    ensures within { seat.leaf ≤ result × result < seat.leaf + seat.width }
+    ensures passed { AreLater time nodes.now seat.leaf result }
+    ensures found { slice_index nodes.now result ≤ time }
+{
+    let mut below = seat;
+    while below.width > 1 {
+        below = half_by(nodes, below, time);
+    }
+    below.leaf
+}
+
+/// The half of a seat in which the first time stands that is no later than a time.
+fn half_by(nodes: &[u64], seat: Seat, time: u64) -> Seat
+    requires tournament { IsTournament nodes.now }
+    requires seat { IsSeat nodes.now seat }
+    requires wide { 1 < seat.width }
+    requires found { slice_index nodes.now seat.node ≤ time }
+    ensures { IsHalf time nodes.now seat result }
+{
+    let node = 2 * seat.node;
+    let width = seat.width / 2;
+    if nodes[node] <= time {
+        return Seat {
+            node,
+            width,
+            leaf: seat.leaf,
+        };
+    }
+    Seat {
+        node: node + 1,
+        width,
+        leaf: seat.leaf + width,
     }
 }
 

@@ -7,7 +7,8 @@
 //! [`Batch`] at once. [`Least`] has the least of some times.
 //!
 //! The definitions that contracts cite stand in `specs/`: `Words` for a word, `Dated` for words that came at times and for
-//! what a queue has, `Delays` for what comes true when, `Order` for the order of places, `Lists` for lists that words lengthen and shorten, `Least` for the least time.
+//! what a queue has, `Delays` for what comes true when, `Order` for the order of places, `Lists` for lists that words
+//! lengthen and shorten, `Least` for the least time.
 #![tactic(auto)]
 
 mod batch;

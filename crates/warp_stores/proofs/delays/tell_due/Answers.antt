@@ -1,5 +1,3 @@
-use Rattle.std.proofs.Common.{arith}
-use Rattle.warp_stores.proofs.Mixing.{mixed-all}
 use Rattle.warp_stores.proofs.Delaying.{told_more}
 use Rattle.warp_stores.proofs.delays.tell_due.Goals as goal
 

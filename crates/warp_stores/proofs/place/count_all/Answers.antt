@@ -1,4 +1,4 @@
-use Rattle.std.proofs.Common.{◌≡◌, ◌≤◌, ◌-◌, ◌++◌, ◌∷◌, [], true, not, is_ok, sym, ap, ◌∙◌, subst, arith, List}
+use Rattle.std.proofs.Common.{◌≡◌, ◌-◌, ◌++◌, ◌∷◌, [], true, not, is_ok, sym, ap, ◌∙◌, subst, arith, List}
 use Rattle.warp_stores.specs.Inner.StopBits.{Tally}
 use Rattle.warp_stores.specs.Inner.Stops.{HaveMore}
 use Rattle.warp_stores.proofs.Extending.{more_push}

@@ -1,4 +1,3 @@
-use Rattle.std.proofs.Common.{ap, sym, ◌∙◌}
 use Rattle.warp_stores.proofs.Queues.{on_either, on_ok_both}
 use Rattle.warp_stores.proofs.Batches.{batch_more}
 use Rattle.warp_stores.proofs.batch.Batch.append_all.Goals as goal

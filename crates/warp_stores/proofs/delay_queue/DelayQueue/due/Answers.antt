@@ -1,6 +1,6 @@
 use Rattle.std.proofs.Common.{ap, ◌∙◌, arith}
 use Rattle.warp_stores.specs.Delays.{due_of}
-use Rattle.warp_stores.proofs.Delaying.{due_first, due_none}
+use Rattle.warp_stores.proofs.Delaying.{due_first}
 use Rattle.warp_stores.proofs.delay_queue.DelayQueue.due.Goals as goal
 
 pub returns-in-Some : goal.returns-in-Some

@@ -1,4 +1,3 @@
-use Rattle.std.proofs.Common.{[], ◌∷◌}
 use Rattle.warp_stores.proofs.Queues.{on_ok_both}
 use Rattle.warp_stores.proofs.Delaying.{put_due}
 use Rattle.warp_stores.proofs.delay_queue.DelayQueue.put_all.Goals as goal

@@ -1,5 +1,4 @@
-use Rattle.std.proofs.Common.{◌≡◌, ◌++◌, length, take, drop, arith, map}
-use Rattle.warp_stores.specs.Delays.{due_of}
+use Rattle.std.proofs.Common.{◌≡◌, length, arith}
 use Rattle.warp_stores.proofs.Delaying.{forgotten_due, written}
 use Rattle.warp_stores.proofs.delays.Delays.forget_below.Goals as goal
 
