@@ -1,0 +1,4 @@
+pub mod Steps
+pub mod Moments
+pub mod Stretches
+pub mod Agreeing

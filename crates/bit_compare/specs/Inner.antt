@@ -1,0 +1,4 @@
+pub mod Moments
+pub mod Cursors
+pub mod Steps
+pub mod Until
