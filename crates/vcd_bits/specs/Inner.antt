@@ -1,0 +1,4 @@
+pub mod Paths
+pub mod Held
+pub mod Tables
+pub mod Opened

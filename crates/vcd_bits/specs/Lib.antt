@@ -1,0 +1,4 @@
+pub mod Scopes
+pub mod Names
+pub mod Bits
+pub mod Inner
