@@ -8,26 +8,27 @@ use gate_netlist::{Circuit, Cut};
 use std::alloc::{AllocError, Global};
 use warp_block::Part;
 
-/// How far above the floor blocks go in the first round, and how much newer turns count in a density.
+/// How far above the floor blocks go in the first round.
 const FIRST: u64 = 64;
 
+/// How much newer turns count in a density.
 const NEWER: u64 = 16;
 
 /// A round with less work isn't worth other threads than the caller's.
-const LITTLE: u64 = 1024;
+const LITTLE: u64 = 8192;
 
 /// What a message counts as work: about so many changes stand behind one.
 const BEHIND: u64 = 8;
 
 /// A block that tells another one of nets, and the least delay of these.
 #[derive(Clone, Copy)]
-pub struct Teller {
-    pub block: u32,
-    pub delay: u32,
+pub(crate) struct Teller {
+    pub(crate) block: u32,
+    pub(crate) delay: u32,
 }
 
 /// Who tells the block of a part.
-pub fn tellers_of(
+pub(crate) fn tellers_of(
     alloc: Global,
     circuit: &Circuit,
     cut: &Cut,
@@ -51,7 +52,7 @@ pub fn tellers_of(
     Ok(tellers)
 }
 
-// The block that owns a net, and the net's delay.
+/// The block that owns a net, and the net's delay.
 fn source_of(circuit: &Circuit, cut: &Cut, net: u32) -> Option<(u32, u32)> {
     if net >= circuit.nets() {
         return None;
@@ -61,7 +62,7 @@ fn source_of(circuit: &Circuit, cut: &Cut, net: u32) -> Option<(u32, u32)> {
     Some((block, delay))
 }
 
-// Lowers the delay of a block to one, if that is less.
+/// Lowers the delay of a block to one, if that is less.
 fn lower(delays: &mut [u32], block: u32, delay: u32) {
     if let Some(least) = delays.get_mut(block as usize) {
         if delay < *least {
@@ -70,7 +71,7 @@ fn lower(delays: &mut [u32], block: u32, delay: u32) {
     }
 }
 
-// The delay of a block, if one is known.
+/// The delay of a block, if one is known.
 fn known(delays: &[u32], block: u32) -> Option<u32> {
     match delays.get(block as usize) {
         Some(delay) if *delay < u32::MAX => Some(*delay),
@@ -80,14 +81,14 @@ fn known(delays: &[u32], block: u32) -> Option<u32> {
 
 /// How many event times a block had lately, and in how long.
 #[derive(Clone, Copy)]
-pub struct Density {
+pub(crate) struct Density {
     times: u64,
     span: u64,
 }
 
 impl Density {
     /// One at each time.
-    pub fn full() -> Density {
+    pub(crate) fn full() -> Density {
         Density { times: 1, span: 1 }
     }
 
@@ -98,7 +99,7 @@ impl Density {
 
     /// A window of up to `most` for a turn whose first event time is `start`, if it has one: all of it, or where a time
     /// is given, as many event times as are to be expected before it.
-    pub fn window(self, start: Option<u64>, until: Option<u64>, most: u32) -> u32
+    pub(crate) fn window(self, start: Option<u64>, until: Option<u64>, most: u32) -> u32
         ensures { Fits result most }
     {
         match (start, until) {
@@ -110,7 +111,7 @@ impl Density {
     }
 
     /// The density after a turn that finished some event times as the mark rose by a span: what was before counts half.
-    pub fn after(self, times: u32, span: u64) -> Density {
+    pub(crate) fn after(self, times: u32, span: u64) -> Density {
         Density {
             times: (self.times / 2).saturating_add(u64::from(times) * NEWER),
             span: (self.span / 2).saturating_add(span.saturating_mul(NEWER)),
@@ -118,7 +119,7 @@ impl Density {
     }
 }
 
-// A window for so many event times, if possible.
+/// A window for so many event times, if possible.
 fn fitting(times: u64, most: u32) -> u32
     ensures { Fits result most }
 {
@@ -133,19 +134,20 @@ fn fitting(times: u64, most: u32) -> u32
 
 /// What turns did, beside what they told.
 #[derive(Clone, Copy)]
-pub struct Tally {
+pub(crate) struct Tally {
     /// How many event times were finished.
-    pub finished: u64,
+    pub(crate) finished: u64,
     /// About how many of those that were finished before were taken back, by how densely the turns found them.
-    pub undone: u64,
-    /// How much work it was, and the most that one turn had.
-    pub work: u64,
-    pub most: u64,
+    pub(crate) undone: u64,
+    /// How much work it was.
+    pub(crate) work: u64,
+    /// The most work that one turn had.
+    pub(crate) most: u64,
 }
 
 impl Tally {
     /// What a turn did that sent so many messages.
-    pub fn of(turned: &Turned, sent: usize) -> Tally {
+    pub(crate) fn of(turned: &Turned, sent: usize) -> Tally {
         let finished = u64::from(turned.finished);
         let work = finished.saturating_add((sent as u64).saturating_mul(BEHIND));
         Tally {
@@ -157,7 +159,7 @@ impl Tally {
     }
 
     /// Nothing was done.
-    pub fn none() -> Tally {
+    pub(crate) fn none() -> Tally {
         Tally {
             finished: 0,
             undone: 0,
@@ -167,7 +169,7 @@ impl Tally {
     }
 
     /// Both together.
-    pub fn with(self, other: Tally) -> Tally {
+    pub(crate) fn with(self, other: Tally) -> Tally {
         Tally {
             finished: self.finished.saturating_add(other.finished),
             undone: self.undone.saturating_add(other.undone),
@@ -177,31 +179,31 @@ impl Tally {
     }
 
     /// Whether one worker alone had better do as much again: it is little, or one turn had most of it.
-    pub fn is_for_one(self) -> bool {
+    pub(crate) fn is_for_one(self) -> bool {
         self.work < LITTLE || self.most > self.work / 2
     }
 }
 
 /// How far above a round's floor each block may go, whoever may still take back what it was told.
 #[derive(Clone, Copy)]
-pub struct Lead {
+pub(crate) struct Lead {
     time: u64,
 }
 
 impl Lead {
     /// That of the first round.
-    pub fn first() -> Lead {
+    pub(crate) fn first() -> Lead {
         Lead { time: FIRST }
     }
 
     /// The time up to which blocks may go at a floor.
-    pub fn above(self, floor: u64) -> u64 {
+    pub(crate) fn above(self, floor: u64) -> u64 {
         floor.saturating_add(self.time)
     }
 
     /// That of the next round: half of it, where more than a sixteenth of what was done in this one was undone; else a
     /// quarter more.
-    pub fn after(self, tally: Tally) -> Lead {
+    pub(crate) fn after(self, tally: Tally) -> Lead {
         if tally.undone > tally.finished / 16 {
             return Lead {
                 time: self.time / 2,
