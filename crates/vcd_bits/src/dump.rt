@@ -87,7 +87,9 @@ impl<'a> Dump<'a> {
         takers: &[Option<Source<'a>>],
     ) -> Result<Followed, StimFault>
         requires { AreDeclared (variables_of self.old.variables.items) (sources_by takers.now) }
-        ensures { IsFollowed (variables_of self.old.variables.items) (sources_by takers.now) (items nothing self.old.words) result }
+        ensures table { self.new.table ≡ self.old.table }
+        ensures timescale { self.new.timescale ≡ self.old.timescale }
+        ensures followed { IsFollowed (variables_of self.old.variables.items) (sources_by takers.now) (items nothing self.old.words) result }
     {
         read_sources(
             alloc,
