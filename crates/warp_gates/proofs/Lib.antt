@@ -1,0 +1,11 @@
+-- Laws of values in a byte (`Bits`), of what sets places (`Wirings`), of values shown to who reads them (`Showing`).
+pub mod Bits
+pub mod Wirings
+pub mod Showing
+pub mod Moving
+pub mod Folding
+pub mod Padding
+pub mod Telling
+pub mod Evaluating
+pub mod Loading
+pub mod Steps

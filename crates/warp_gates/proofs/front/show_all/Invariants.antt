@@ -1,0 +1,11 @@
+use Rattle.std.proofs.Common.{◌≡◌, List, take}
+use Rattle.warp_gates.specs.Cells.{Cell, moved}
+use Rattle.warp_gates.specs.Inner.Fronts.{AreReaders, AreFronts, AreTouched}
+use Rattle.warp_gates.proofs.front.show_all.Given as goal
+
+abbrev pub invariant-loop-word : goal.invariant-loop-word
+invariant-loop-word l = record {
+  values : l.values ≡ moved (take l.word-index l.words) l.initial.values;
+  fronts : (cells : List Cell) → AreReaders cells l.readers → AreFronts cells l.initial.values l.initial.fronts → AreFronts cells l.values l.fronts;
+  touched : AreTouched l.readers (take l.word-index l.words) l.initial.fronts l.fronts;
+}
