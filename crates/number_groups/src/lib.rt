@@ -1,4 +1,10 @@
-//! Numbers grouped by keys, in time and memory linear in both ([`Groups`]), and lists of numbers that lie in one ([`Rows`]).
+//! Lists of numbers that lie in one piece of memory each.
+//!
+//! [`Groups`] has for each key the numbers under it, in the order in which they were given: made by counting, in time and
+//! memory linear in keys and numbers. [`Rows`] has lists one behind the other, of which each is read at its place, and
+//! grows by a list at a time.
+//!
+//! The definitions that contracts cite stand in `specs/Groups` and `specs/Rows`. `warp_gates` stands on it.
 #![tactic(auto)]
 
 mod groups;

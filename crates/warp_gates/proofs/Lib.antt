@@ -9,3 +9,7 @@ pub mod Telling
 pub mod Evaluating
 pub mod Loading
 pub mod Steps
+pub mod Undoing
+pub mod Listing
+pub mod Starting
+pub mod Lawful

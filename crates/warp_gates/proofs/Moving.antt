@@ -93,7 +93,7 @@ an_edge : (cells : List Cell) (rows : List (List ℕ)) (place gate k : ℕ) → 
     → has (row_of rows place) (edge_of gate (pin_of (inputs_of (cell_at cells gate)) k)) ≡ true
 an_edge cells rows place gate k readers within at = subst (λ (p : ℕ). has (row_of rows p) (edge_of gate (pin_of (inputs_of (cell_at cells gate)) k)) ≡ true) at (readers.complete gate k within)
 
-pin_of-small : (inputs : List ℕ) (k : ℕ) → k < length inputs → pin_of inputs k < 8
+pub pin_of-small : (inputs : List ℕ) (k : ℕ) → k < length inputs → pin_of inputs k < 8
 pin_of-small inputs k h =
     elim (true_or_not (is_narrow inputs)) [
       | inl so ↦ (let few : length inputs ≤ 4 = leb-true (length inputs) 4 so in rw so (omega arith))
@@ -185,7 +185,7 @@ fronts_more cells rows place v values old new readers within fronts shown =
 reached-append : (rows : List (List ℕ)) (words : List Move) (w : Move) (gate : ℕ) → reached rows (words ++ w ∷ []) gate ≡ (reached rows words gate || has_gate (row_of rows w.place) gate)
 reached-append rows words w gate = list_any-append (λ (x : Move). has_gate (row_of rows x.place) gate) words (w ∷ []) ∙ ap (λ (b : Bool). reached rows words gate || b) (or_false (has_gate (row_of rows w.place) gate))
 
-either : (a b : Bool) → (a || b) ≡ true → (a ≡ true) ⊎ (b ≡ true)
+pub either : (a b : Bool) → (a || b) ≡ true → (a ≡ true) ⊎ (b ≡ true)
 either true b h = inl refl
 either false b h = inr h
 

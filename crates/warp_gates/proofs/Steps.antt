@@ -73,14 +73,14 @@ gate_of_edge cells rows place gate (e ∷ es) readers inside h = elim (true_or_n
 ]
 
 -- what is reached is a gate
-reached_gate : (cells : List Cell) (rows : List (List ℕ)) (words : List Move) (gate : ℕ) → AreReaders cells rows → reached rows words gate ≡ true → is_gate (cell_at cells gate) ≡ true
+pub reached_gate : (cells : List Cell) (rows : List (List ℕ)) (words : List Move) (gate : ℕ) → AreReaders cells rows → reached rows words gate ≡ true → is_gate (cell_at cells gate) ≡ true
 reached_gate cells rows [] gate readers h = cc
 reached_gate cells rows (w ∷ ws) gate readers h = elim (true_or_not (has_gate (row_of rows w.place) gate)) [
   | inl here ↦ gate_of_edge cells rows w.place gate (row_of rows w.place) readers (λ e m. m) here
   | inr there ↦ reached_gate cells rows ws gate readers (sym (ap (λ (b : Bool). b || reached rows ws gate) there) ∙ h)
 ]
 
-reached-edges : (rows : List (List ℕ)) (words : List Move) (gate : ℕ) → has_gate (all_edges rows words) gate ≡ reached rows words gate
+pub reached-edges : (rows : List (List ℕ)) (words : List Move) (gate : ℕ) → has_gate (all_edges rows words) gate ≡ reached rows words gate
 reached-edges rows [] gate = refl
 reached-edges rows (w ∷ ws) gate = list_any-append (λ e. eqb (e / 8) gate) (row_of rows w.place) (all_edges rows ws) ∙ ap (λ (b : Bool). has_gate (row_of rows w.place) gate || b) (reached-edges rows ws gate)
 
@@ -156,18 +156,18 @@ outputs_in_the_end cells rows values now words first second third fourth readers
 
 -- ---- what contracts see of it
 
-nothing : Front
+pub nothing : Front
 nothing = record { queue = 0; pins = record { bits = 0 }; kind = And; output = X; is_stale = false }
 
-output-map : (fronts : List Front) (place : ℕ) → value_at (map (λ (f : Front). f.output) fronts) place ≡ (front_at nothing fronts place).output
+pub output-map : (fronts : List Front) (place : ℕ) → value_at (map (λ (f : Front). f.output) fronts) place ≡ (front_at nothing fronts place).output
 unfolding nothing
 output-map fronts place = get_or-map (λ (f : Front). f.output) fronts place nothing
 
-queue-map : (fronts : List Front) (place : ℕ) → get_or (map (λ (f : Front). f.queue) fronts) place 0 ≡ (front_at nothing fronts place).queue
+pub queue-map : (fronts : List Front) (place : ℕ) → get_or (map (λ (f : Front). f.queue) fronts) place 0 ≡ (front_at nothing fronts place).queue
 unfolding nothing
 queue-map fronts place = get_or-map (λ (f : Front). f.queue) fronts place nothing
 
-output_past : (fronts : List Front) (place : ℕ) → length fronts ≤ place → (front_at nothing fronts place).output ≡ X
+pub output_past : (fronts : List Front) (place : ℕ) → length fronts ≤ place → (front_at nothing fronts place).output ≡ X
 unfolding nothing
 output_past fronts place h = ap (λ (f : Front). f.output) (get_or_past fronts place nothing h)
 

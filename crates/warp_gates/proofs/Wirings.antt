@@ -1,5 +1,5 @@
 -- What sets places, in lists.
-use Rattle.std.proofs.Common.{◌≡◌, ◌∙◌, ℕ, zero, suc, ◌<◌, true, List, [], ◌∷◌, ◌++◌, length, get_or, refl, ap, sym, arith}
+use Rattle.std.proofs.Common.{◌≡◌, ◌∙◌, ℕ, zero, suc, ◌<◌, true, false, List, [], ◌∷◌, ◌++◌, length, get_or, refl, ap, sym, arith}
 use Rattle.warp_gates.specs.declared.wiring.Shape.{Shape}
 use Rattle.warp_gates.specs.declared.wiring.Shape.TheVariants as Shapes
 use Rattle.warp_gates.specs.Cells.{Cell, cell_at}
@@ -47,3 +47,23 @@ pub data_of-cells_of : (shapes : List Shape) (inputs : List (List ℕ)) (place :
 data_of-cells_of shapes inputs place h k flop =
     let at : cell_at (cells_of shapes inputs) place ≡ cell_of (get_or shapes place Shapes.Flop) (get_or inputs place []) = cell_at-cells_of shapes inputs place Shapes.Flop h k in
     sym (ap data_of at ∙ data_of_row (get_or shapes place Shapes.Flop) (get_or inputs place []) (sym (ap is_flop at) ∙ flop))
+
+-- what was read at a place tells what sets it
+pub cell_is : (cells : List Cell) (shapes : List Shape) (inputs : List (List ℕ)) (place : ℕ) (s t : Shape) → cells_of shapes inputs ≡ cells → length inputs ≡ length shapes → place < length cells → s ≡ get_or shapes place s → s ≡ t
+    → cell_at cells place ≡ cell_of t (get_or inputs place [])
+cell_is cells shapes inputs place s t is h k read at =
+    let many : length cells ≡ length shapes = ap (λ (cs : List Cell). length cs) (sym is) ∙ length-cells_of shapes inputs h in
+    ap (λ (cs : List Cell). cell_at cs place) (sym is)
+    ∙ cell_at-cells_of shapes inputs place s h (omega arith)
+    ∙ ap (λ (x : Shape). cell_of x (get_or inputs place [])) (sym read ∙ at)
+
+-- where a place stands in lists
+pub place_in : (cells : List Cell) (shapes : List Shape) (inputs : List (List ℕ)) (place : ℕ) → cells_of shapes inputs ≡ cells → length inputs ≡ length shapes → place < length cells → place < length shapes
+place_in cells shapes inputs place is h k =
+    let many : length cells ≡ length shapes = ap (λ (cs : List Cell). length cs) (sym is) ∙ length-cells_of shapes inputs h in
+    omega arith
+
+pub not_flop : (s : Shape) (row : List ℕ) → (s ≡ Shapes.Flop → ⊥) → is_flop (cell_of s row) ≡ false
+not_flop Shapes.Outside row h = refl
+not_flop (Shapes.Gate kind) row h = refl
+not_flop Shapes.Flop row h = absurd (h refl)

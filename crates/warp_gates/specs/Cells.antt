@@ -40,6 +40,24 @@ next_output before now Outside last = last
 next_output before now (Gate kind inputs) last = gate_output now kind inputs
 next_output before now (Flop data_place clock) last = flip_of last (value_at before clock) (value_at now clock) (value_at before data_place)
 
+-- what a place puts out of values as they stand: a gate by its inputs, another what it put out last
+abbrev pub settled_output : List Logic → Cell → Logic → Logic
+settled_output values Outside last = last
+settled_output values (Gate kind inputs) last = gate_output values kind inputs
+settled_output values (Flop data_place clock) last = last
+
+-- what a place puts out once words that were put are taken back: a flip-flop what it put out before them, as they tell
+abbrev pub restored_output : Cell → Logic → Logic → Logic
+restored_output Outside told last = last
+restored_output (Gate kind inputs) told last = last
+restored_output (Flop data_place clock) told last = told
+
+-- what a place puts out at first, where all values are unknown: a gate that, another its content
+abbrev pub first_output : Cell → Logic → Logic
+first_output Outside content = content
+first_output (Gate kind inputs) content = X
+first_output (Flop data_place clock) content = content
+
 -- no two words are of one place
 pub record AreApart (words : List Move) : Type 0 where
   pub apart : (i j : ℕ) (d : Move) → i < j → j < length words → (get_or words i d).place ≢ (get_or words j d).place
@@ -92,3 +110,12 @@ pub record ArePut (old new : Gates) (before out : List Put) : Type 0 where
 -- what places put out once the values have become others
 abbrev pub HaveNext : Gates → Gates → Type 0
 HaveNext old new = (place : ℕ) → value_at new.outputs place ≡ next_output old.values new.values (cell_at old.cells place) (value_at old.outputs place)
+
+-- what places put out once values were put back
+abbrev pub HaveSettled : Gates → Gates → Type 0
+HaveSettled old new = (place : ℕ) → value_at new.outputs place ≡ settled_output new.values (cell_at old.cells place) (value_at old.outputs place)
+
+-- what places put out once words that were put are taken back
+abbrev pub HaveRestored : List Move → Gates → Gates → Type 0
+HaveRestored words old new =
+    (place : ℕ) → value_at new.outputs place ≡ restored_output (cell_at old.cells place) (value_at (unmoved words old.outputs) place) (value_at old.outputs place)

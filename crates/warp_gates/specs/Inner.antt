@@ -6,3 +6,5 @@ pub mod Wide
 pub mod Told
 pub mod Loading
 pub mod Held
+pub mod Undoing
+pub mod First

@@ -39,7 +39,13 @@ pub(crate) fn put_out(front: &mut Front, place: u32, value: Logic, puts: &mut Ve
 
 /// What the gate of an edge makes of the values.
 #[inline]
-fn output_of(front: Front, edge: u32, values: &[Logic], outputs: &Outputs, wiring: &Wiring) -> Logic
+pub(crate) fn output_of(
+    front: Front,
+    edge: u32,
+    values: &[Logic],
+    outputs: &Outputs,
+    wiring: &Wiring,
+) -> Logic
     requires edge { IsEdge wiring.now edge }
     requires within { edge / EDGES < length wiring.now }
     requires cell { IsCell (length values.now) (cell_at wiring.now (edge / EDGES)) }

@@ -1,7 +1,7 @@
 //! What is kept of each place at hand, and how a value is shown to those who read it.
 ghost use Rattle.std.specs.Prelude.{◌≡◌, ◌<◌, ◌/◌, List, length};
 ghost use Rattle.std.specs.List.{All};
-ghost use Rattle.warp_gates.specs.Cells.{Cell, moved};
+ghost use Rattle.warp_gates.specs.Cells.{Cell, moved, unmoved};
 ghost use Rattle.warp_gates.specs.Inner.Fronts.{AreShown, IsShownAt, AreReaders, AreFronts, AreTouched, AreEdges};
 
 use crate::pins::{PINS, Pins};
@@ -47,6 +47,31 @@ pub(crate) fn show_all(fronts: &mut [Front], values: &mut [Logic], readers: &Gro
         let place = word.place();
         values[place as usize] = word.after();
         show(fronts, readers.get(place), word.after());
+    }
+}
+
+/// Words are taken back from the values of their places, the last of them first, and what is put back is shown to who
+/// reads these.
+pub(crate) fn unshow_all(
+    fronts: &mut [Front],
+    values: &mut [Logic],
+    readers: &Groups,
+    words: &[Word],
+)
+    requires edges { AreEdges (length fronts.old) readers.now }
+    requires rows { length readers.now ≡ length values.old }
+    requires words { All (λ word. word.place < length values.old) words.now }
+    ensures values { values.new ≡ unmoved words.now values.old }
+    ensures fronts { (cells : List Cell) → AreReaders cells readers.now → AreFronts cells values.old fronts.old → AreFronts cells values.new fronts.new }
+    ensures touched { AreTouched readers.now words.now fronts.old fronts.new }
+{
+    let mut left = words.len();
+    while left > 0 {
+        left -= 1;
+        let word = words[left];
+        let place = word.place();
+        values[place as usize] = word.before();
+        show(fronts, readers.get(place), word.before());
     }
 }
 

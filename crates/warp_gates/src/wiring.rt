@@ -3,7 +3,8 @@ ghost use Rattle.std.specs.Prelude.{◌≡◌, ◌<◌, ◌++◌, ◌∷◌, [],
 ghost use Rattle.std.specs.List.{All};
 ghost use Rattle.warp_gates.specs.Cells.{Outside, Gate, Flop, cell_at};
 ghost use Rattle.warp_gates.specs.Inner.Fronts.{inputs_of};
-ghost use Rattle.warp_gates.specs.Inner.Told.{is_gate, is_flop, data_of};
+ghost use Rattle.warp_gates.specs.Inner.Told.{is_flop, data_of};
+ghost use Rattle.warp_gates.specs.Inner.First.{kind_of, clock_of};
 ghost use Rattle.warp_gates.specs.Inner.Wiring.{cell_of};
 
 use gate_values::Kind;
@@ -56,14 +57,38 @@ impl Wiring {
         self.shapes.len()
     }
 
-    /// The places that a gate reads.
+    /// The places that a gate reads; none of a place that no gate sets.
     #[inline]
     pub(crate) fn inputs(&self, place: usize) -> &[u32]
-        requires place { place < length self.now }
-        requires gate { is_gate (cell_at self.now place) ≡ true }
+        requires { place < length self.now }
         ensures { result.now ≡ inputs_of (cell_at self.now place) }
     {
-        self.inputs.get(place)
+        match self.shapes[place] {
+            Shape::Gate(_) => self.inputs.get(place),
+            Shape::Outside | Shape::Flop => &[],
+        }
+    }
+
+    /// The kind of the gate that sets a place, if one does.
+    pub(crate) fn kind(&self, place: usize) -> Option<Kind>
+        requires { place < length self.now }
+        ensures { result ≡ kind_of (cell_at self.now place) }
+    {
+        match self.shapes[place] {
+            Shape::Gate(kind) => Some(kind),
+            Shape::Outside | Shape::Flop => None,
+        }
+    }
+
+    /// The clock of the flip-flop that sets a place, if one does.
+    pub(crate) fn clock(&self, place: usize) -> Option<u32>
+        requires { place < length self.now }
+        ensures { result ≡ clock_of (cell_at self.now place) }
+    {
+        match self.shapes[place] {
+            Shape::Flop => Some(second(self.inputs.get(place))),
+            Shape::Outside | Shape::Gate(_) => None,
+        }
     }
 
     /// The place of a flip-flop's data.
@@ -74,6 +99,15 @@ impl Wiring {
         ensures { result ≡ data_of (cell_at self.now place) }
     {
         self.inputs.get(place).first().copied().unwrap_or(0)
+    }
+
+    /// Whether a flip-flop sets a place.
+    #[inline]
+    pub(crate) fn is_flop(&self, place: usize) -> bool
+        requires { place < length self.now }
+        ensures { result ≡ is_flop (cell_at self.now place) }
+    {
+        matches!(self.shapes[place], Shape::Flop)
     }
 
     /// A place more, which something outside sets. An error is a refused growth; then all stays.
@@ -110,4 +144,14 @@ impl Wiring {
         self.shapes.push_reserved(shape);
         Ok(())
     }
+}
+
+/// The second number of a list; 0 where there is none.
+fn second(row: &[u32]) -> u32
+    ensures { result ≡ get_or row.now 1 0 }
+{
+    if row.len() < 2 {
+        return 0;
+    }
+    row[1]
 }

@@ -1,20 +1,23 @@
-use Rattle.std.proofs.Common.{◌≡◌, ◌∙◌, true, List, length, ap, sym, subst, arith}
-use Rattle.warp_gates.specs.Cells.{Cell, cell_at}
+use Rattle.std.proofs.Common.{◌∙◌, ◌<◌, length, inl, inr, sym, ap, arith}
 use Rattle.warp_gates.specs.Inner.Fronts.{inputs_of}
-use Rattle.warp_gates.specs.Inner.Told.{is_gate}
-use Rattle.warp_gates.specs.Inner.Wiring.{cells_of}
-use Rattle.warp_gates.proofs.Wirings.{length-cells_of, inputs_of-cells_of}
+use Rattle.warp_gates.proofs.Wirings.{cell_is, place_in}
 use Rattle.warp_gates.proofs.wiring.Wiring.inputs.Goals as goal
+
+pub index-requires : goal.index-requires
+index-requires c =
+    let within : c.args.place < length c.self.inside.shapes.items = place_in c.args.self.now c.self.inside.shapes.items c.self.inside.inputs c.args.place c.self.view_is c.self.invariant c.requires in
+    omega (arith, within)
 
 pub get-requires : goal.get-requires
 get-requires c =
-    let many : length c.args.self.now ≡ length c.self.inside.shapes.items = ap (λ (cells : List Cell). length cells) (sym c.self.view_is) ∙ length-cells_of c.self.inside.shapes.items c.self.inside.inputs c.self.invariant in
-    omega (arith, c.self.invariant, c.requires.place)
+    let within : c.args.place < length c.self.inside.shapes.items = place_in c.args.self.now c.self.inside.shapes.items c.self.inside.inputs c.args.place c.self.view_is c.self.invariant c.requires in
+    omega (arith, within, c.self.invariant)
 
-pub returns : goal.returns
-returns c =
-    let many : length c.args.self.now ≡ length c.self.inside.shapes.items = ap (λ (cells : List Cell). length cells) (sym c.self.view_is) ∙ length-cells_of c.self.inside.shapes.items c.self.inside.inputs c.self.invariant in
-    let gate : is_gate (cell_at (cells_of c.self.inside.shapes.items c.self.inside.inputs) c.args.place) ≡ true = subst (λ (cells : List Cell). is_gate (cell_at cells c.args.place) ≡ true) (sym c.self.view_is) c.requires.gate in
-    c.get.ensures
-    ∙ inputs_of-cells_of c.self.inside.shapes.items c.self.inside.inputs c.args.place c.self.invariant (omega (arith, c.requires.place)) gate
-    ∙ ap (λ (cells : List Cell). inputs_of (cell_at cells c.args.place)) c.self.view_is
+pub returns-in-Gate : goal.returns-in-Gate
+returns-in-Gate c = c.get.ensures ∙ sym (ap inputs_of (cell_is c.args.self.now c.self.inside.shapes.items c.self.inside.inputs c.args.place _ _ c.self.view_is c.self.invariant c.requires c.index.ensures c.in-Gate.is))
+
+pub returns-in-Outside : goal.returns-in-Outside
+returns-in-Outside c = elim c.in-Outside.is [
+  | inl outside ↦ sym (ap inputs_of (cell_is c.args.self.now c.self.inside.shapes.items c.self.inside.inputs c.args.place _ _ c.self.view_is c.self.invariant c.requires c.index.ensures outside))
+  | inr flop ↦ sym (ap inputs_of (cell_is c.args.self.now c.self.inside.shapes.items c.self.inside.inputs c.args.place _ _ c.self.view_is c.self.invariant c.requires c.index.ensures flop))
+]
