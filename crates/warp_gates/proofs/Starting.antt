@@ -1,5 +1,5 @@
 -- What is kept of each place at first.
-use Rattle.std.proofs.Common.{◌≡◌, ◌∙◌, inl, inr, ℕ, zero, suc, ◌+◌, ◌-◌, ◌<◌, ◌≤◌, Bool, true, false, cond, List, [], ◌∷◌, ◌++◌, length, map, get_or, set, replicate, Option, Some, None, refl, ap, sym, subst, arith}
+use Rattle.std.proofs.Common.{◌≡◌, ◌∙◌, inl, inr, ℕ, zero, suc, ◌+◌, ◌-◌, ◌<◌, ◌≤◌, Bool, false, cond, List, [], ◌∷◌, ◌++◌, length, map, get_or, set, replicate, Some, refl, ap, sym, subst, arith}
 use Rattle.std.specs.List.{All}
 use Rattle.std.proofs.lemmas.Bool.{cases_lt, lt-ltb, le-ltb}
 use Rattle.std.proofs.lemmas.List.{length-map, length-replicate, get_or-replicate, ext_get_or, get_or_past, length-append}
@@ -15,8 +15,8 @@ use Rattle.warp_gates.specs.declared.front.Front.{Front}
 use Rattle.warp_gates.specs.Cells.{Cell, Outside, Gate, Flop, IsCell, value_at, cell_at, gate_output, first_output}
 use Rattle.warp_gates.specs.declared.pins.Pins.{Pins}
 use Rattle.warp_gates.specs.Inner.Pins.{pins_of, pins_in}
-use Rattle.warp_gates.specs.Inner.Fronts.{front_at, neutral, padded, inputs_of, IsShowing, IsFresh, AreFronts, AreSettled, AreReaders, AreClocked}
-use Rattle.warp_gates.specs.Inner.Held.{gates_of, AreHeld}
+use Rattle.warp_gates.specs.Inner.Fronts.{front_at, neutral, padded, inputs_of, IsShowing, IsFresh, AreReaders, AreClocked}
+use Rattle.warp_gates.specs.Inner.Held.{AreHeld}
 use Rattle.warp_gates.specs.Inner.First.{unknown, first_pin, kind_of, IsFirst, AreFirst}
 use Rattle.warp_gates.proofs.Moving.{padded_at, map_same}
 use Rattle.warp_gates.proofs.Steps.{nothing, output-map, output_past, queue-map}

@@ -1,11 +1,11 @@
 -- Values are put back and gates follow them; flip-flops get their contents back.
-use Rattle.std.proofs.Common.{◌≡◌, ◌≢◌, ◌∙◌, inl, inr, ℕ, ◌/◌, ◌+◌, ◌-◌, ◌<◌, ◌≤◌, Bool, true, false, ◌&&◌, ◌||◌, not, cond, List, [], ◌∷◌, length, map, drop, get_or, set, refl, ap, sym, subst, arith}
+use Rattle.std.proofs.Common.{◌≡◌, ◌≢◌, ◌∙◌, inl, inr, ℕ, ◌+◌, ◌-◌, ◌<◌, ◌≤◌, Bool, true, false, ◌&&◌, ◌||◌, not, cond, List, [], ◌∷◌, length, map, drop, get_or, set, refl, ap, sym, subst, arith}
 use Rattle.std.proofs.lemmas.Bool.{cases_lt}
 use Rattle.std.proofs.lemmas.List.{length-set, length-map, get_or-set_same, get_or-set_other, get_or_default, get_or_past, ext_get_or, drop_more}
 use Rattle.gate_values.specs.declared.logic.Logic.{Logic}
 use Rattle.warp_stores.specs.Words.{Move}
 use Rattle.warp_gates.specs.declared.front.Front.{Front}
-use Rattle.warp_gates.specs.Cells.{Cell, Outside, Gate, Flop, value_at, cell_at, gate_output, unmoved, settled_output, restored_output, HaveSettled, HaveRestored}
+use Rattle.warp_gates.specs.Cells.{Cell, Outside, Gate, Flop, value_at, cell_at, unmoved, settled_output, restored_output, HaveSettled, HaveRestored}
 use Rattle.warp_gates.specs.Inner.Fronts.{front_at, row_of, has_gate, reached, AreReaders, AreFronts, AreSettled, AreTouched, AreShown, IsShown, IsKept, IsFresh}
 use Rattle.warp_gates.specs.Inner.Told.{AreRefreshed, all_edges, is_gate, is_flop}
 use Rattle.warp_gates.specs.Inner.Held.{gates_of}

@@ -6,12 +6,12 @@ ghost use Rattle.warp_gates.specs.Inner.Pins.{pins_of, pins_in};
 use gate_values::Logic;
 
 /// How many inputs fit.
-pub const PINS: u8 = 4;
+pub(crate) const PINS: u8 = 4;
 
 /// The values at up to [`PINS`] inputs of a gate, the first in the lowest two bits.
 #[derive(Clone, Copy, Debug)]
-pub struct Pins {
-    pub bits: u8,
+pub(crate) struct Pins {
+    pub(crate) bits: u8,
 }
 
 impl Pins {
@@ -25,7 +25,7 @@ impl Pins {
 
     /// The same with another value at an input.
     #[inline]
-    pub fn with(self, pin: u8, value: Logic) -> Pins
+    pub(crate) fn with(self, pin: u8, value: Logic) -> Pins
         requires { pin < PINS }
         ensures { pins_of result ≡ slice_set (pins_of self) pin value }
     {
@@ -35,7 +35,7 @@ impl Pins {
     }
 
     /// The four values.
-    pub fn values(self) -> [Logic; 4]
+    pub(crate) fn values(self) -> [Logic; 4]
         ensures { result ≡ pins_of self }
     {
         [

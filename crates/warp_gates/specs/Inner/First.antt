@@ -1,5 +1,5 @@
 -- What is kept of each place at first, and how who reads it is found.
-use Rattle.std.specs.Prelude.{◌≡◌, ℕ, ◌<◌, ◌%◌, ◌/◌, ◌⊎◌, Bool, true, false, ◌&&◌, nat_lt, if◌then◌else◌, Option, Some, None, List, length, get_or, replicate}
+use Rattle.std.specs.Prelude.{◌≡◌, ℕ, ◌<◌, ◌%◌, ◌/◌, ◌⊎◌, true, false, ◌&&◌, nat_lt, if◌then◌else◌, Option, Some, None, List, length, get_or, replicate}
 use Rattle.std.specs.List.{All}
 use Rattle.gate_values.specs.declared.logic.Logic.{Logic}
 use Rattle.gate_values.specs.declared.logic.Logic.TheVariants.{X}

@@ -1,4 +1,4 @@
-use Rattle.warp_gates.proofs.Listing.{listed_call, listed_next}
+use Rattle.warp_gates.proofs.Listing.{listed_call}
 use Rattle.warp_gates.proofs.readers.push_edges.Goals as goal
 
 pub loop-k-preserved : goal.loop-k-preserved

@@ -1,4 +1,4 @@
-use Rattle.std.proofs.Common.{◌-◌, ◌<◌, ◌≤◌, List, drop, sym, subst, arith}
+use Rattle.std.proofs.Common.{List, drop, sym, subst, arith}
 use Rattle.warp_stores.specs.Words.{Move}
 use Rattle.warp_gates.specs.Inner.Undoing.{AreRestored}
 use Rattle.warp_gates.proofs.Undoing.{drop_back}

@@ -1,4 +1,4 @@
-use Rattle.std.proofs.Common.{◌∙◌, ◌<◌, sym, arith}
+use Rattle.std.proofs.Common.{◌∙◌, sym, arith}
 use Rattle.warp_gates.proofs.Undoing.{restored_call}
 use Rattle.warp_gates.proofs.restore.restore_one.Goals as goal
 

@@ -1,8 +1,8 @@
 use Rattle.std.proofs.Common.{ℕ, List, take, subst, sym}
 use Rattle.std.proofs.lemmas.List.{take_more}
 use Rattle.warp_gates.specs.Inner.Told.{AreRefreshed}
-use Rattle.warp_gates.proofs.Evaluating.{refreshed_then, refreshed_none}
-use Rattle.warp_gates.proofs.Undoing.{queues_then, queues_same}
+use Rattle.warp_gates.proofs.Evaluating.{refreshed_then}
+use Rattle.warp_gates.proofs.Undoing.{queues_then}
 use Rattle.warp_gates.proofs.settle.settle.Goals as goal
 
 pub loop-edge-preserved : goal.loop-edge-preserved

@@ -1,4 +1,4 @@
-use Rattle.std.proofs.Common.{◌/◌, ◌<◌, refl, arith}
+use Rattle.std.proofs.Common.{◌/◌, refl, arith}
 use Rattle.warp_gates.proofs.Evaluating.{fronts_settled, refreshed_one}
 use Rattle.warp_gates.proofs.Undoing.{queues_set}
 use Rattle.warp_gates.proofs.settle.settle_edge.Goals as goal
