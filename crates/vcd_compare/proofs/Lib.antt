@@ -1,0 +1,6 @@
+pub mod SightLaws
+pub mod PairLaws
+pub mod FoundLaws
+pub mod CountLaws
+pub mod AloneLaws
+pub mod Answering

@@ -1,0 +1,81 @@
+use Rattle.std.proofs.lemmas.Result.{err_from_is_err_and}
+use Rattle.vcd_bits.specs.Inner.Tables.{bits_in}
+use Rattle.vcd_bits.proofs.CodeLaws.{declared-coded, declared-source}
+use Rattle.vcd_compare.specs.Times.{asked_in}
+use Rattle.vcd_compare.proofs.Answering.{answers-actual, answers-behind, answers-expected, answers-report, changes-fail, dump-read, dump_by, open-fails, opened-counts}
+use Rattle.vcd_compare.proofs.PairLaws.{used-actual, used-expected}
+use Rattle.vcd_compare.proofs.compare.compare_texts.Goals as goal
+
+pub returns-in-Err : goal.returns-in-Err
+returns-in-Err c = rw c.expected_fault.ensures (answers-expected c.args.options.now c.args.expected.now c.args.actual.now c.in-Err.fault (open-fails (asked_in c.args.options.now.expected_scope) c.args.expected.now c.in-Err.fault c.in-Err.ensures))
+
+pub returns-in-Err-open : goal.returns-in-Err-open
+returns-in-Err-open c =
+    let (s, read, is) = c.in-Ok.ensures in
+    answers-behind c.args.options.now c.args.expected.now c.args.actual.now s c.in-Ok.dump c.in-Err-open.fault c.fault_behind.result read is.variables c.in-Err-open.ensures c.fault_behind.ensures
+
+pub returns-in_err-pairs : goal.returns-in_err-pairs
+returns-in_err-pairs c =
+    let p = err_from_is_err_and c.from_residual.result c.from_residual.ensures.1 in
+    rw (p.1, p.2, c.in_err-pairs.ensures.err) tt
+
+pub follow-requires : goal.follow-requires
+follow-requires c code u =
+    let (s, read, is) = c.in-Ok.ensures in
+    let used = rw c.in_ok-pairs.ensures.ok.expected at (rw c.as_slice.ensures.value at u) in
+    rw is.variables (used-expected s.header.variables (bits_in c.in-Ok.dump.table) (bits_in c.in-Ok-open.dump.table) code (rw is.bits (declared-coded (asked_in c.args.options.now.expected_scope) s)) used)
+
+pub returns-in-Err-follow : goal.returns-in-Err-follow
+returns-in-Err-follow c =
+    let (s, read, is) = c.in-Ok.ensures in
+    rw c.expected_fault-in-Err-follow.ensures (answers-expected c.args.options.now c.args.expected.now c.args.actual.now c.in-Err-follow.fault (changes-fail (asked_in c.args.options.now.expected_scope) c.args.expected.now c.in-Err-follow.fault s c.in-Ok.dump.words read (rw is.variables at c.in-Err-follow.ensures.followed)))
+
+pub follow-requires-2 : goal.follow-requires-2
+follow-requires-2 c code u =
+    let (s, read, is) = c.in-Ok-open.ensures in
+    let used = rw c.in_ok-pairs.ensures.ok.actual at (rw c.as_slice-2.ensures.value at u) in
+    rw is.variables (used-actual s.header.variables (bits_in c.in-Ok.dump.table) (bits_in c.in-Ok-open.dump.table) code (λ name x e. declared-source (asked_in c.args.options.now.actual_scope) s name x (rw is.bits at e)) used)
+
+pub returns-in-Err-follow-2 : goal.returns-in-Err-follow-2
+returns-in-Err-follow-2 c =
+    let (s, read, is) = c.in-Ok.ensures in
+    let (s2, read2, is2) = c.in-Ok-open.ensures in
+    let (es, events, follows) = c.in-Ok-follow.ensures.followed in
+    rw c.actual_fault.ensures (answers-actual c.args.options.now c.args.expected.now c.args.actual.now c.in-Err-follow-2.fault (dump_by (asked_in c.args.options.now.expected_scope) s c.in-Ok.dump.words es)
+    (dump-read (asked_in c.args.options.now.expected_scope) c.args.expected.now s c.in-Ok.dump.words es read (rw is.variables at events))
+    (changes-fail (asked_in c.args.options.now.actual_scope) c.args.actual.now c.in-Err-follow-2.fault s2 c.in-Ok-open.dump.words read2 (rw is2.variables at c.in-Err-follow-2.ensures.followed)))
+
+pub sight_of-sight-requires-clause-moves : goal.sight_of-sight-requires-clause-moves
+sight_of-sight-requires-clause-moves c = c.requires
+
+pub sight_of-sight-requires-clause-expected : goal.sight_of-sight-requires-clause-expected
+sight_of-sight-requires-clause-expected c = let (s, read, is) = c.in-Ok.ensures in rw (c.in-Ok-follow.ensures.timescale, is.timescale) (opened-counts c.args.expected.now s _ read)
+
+pub sight_of-sight-requires-clause-actual : goal.sight_of-sight-requires-clause-actual
+sight_of-sight-requires-clause-actual c = let (s, read, is) = c.in-Ok-open.ensures in rw (c.in-Ok-follow-2.ensures.timescale, is.timescale) (opened-counts c.args.actual.now s _ read)
+
+pub finer-unit-requires-clause-a : goal.finer-unit-requires-clause-a
+finer-unit-requires-clause-a c = let (s, read, is) = c.in-Ok.ensures in rw (c.in-Ok-follow.ensures.timescale, is.timescale) (opened-counts c.args.expected.now s _ read)
+
+pub finer-unit-requires-clause-b : goal.finer-unit-requires-clause-b
+finer-unit-requires-clause-b c = let (s, read, is) = c.in-Ok-open.ensures in rw (c.in-Ok-follow-2.ensures.timescale, is.timescale) (opened-counts c.args.actual.now s _ read)
+
+pub report-requires-clause-sight : goal.report-requires-clause-sight
+report-requires-clause-sight c = c.sight_of-sight.ensures.small
+
+pub report-requires-clause-few : goal.report-requires-clause-few
+report-requires-clause-few c = c.in_ok-pairs.ensures.ok.few
+
+pub returns : goal.returns
+returns c =
+    let (s, read, is) = c.in-Ok.ensures in
+    let (s2, read2, is2) = c.in-Ok-open.ensures in
+    let (es, events, follows) = c.in-Ok-follow.ensures.followed in
+    let (es2, events2, follows2) = c.in-Ok-follow-2.ensures.followed in
+    let told = rw (c.in-Ok-follow.ensures.table, c.in-Ok-follow-2.ensures.table, is.bits, is2.bits, c.finer-unit.ensures.value, c.in-Ok-follow.ensures.timescale, c.in-Ok-follow-2.ensures.timescale, is.timescale, is2.timescale) at c.report.ensures in
+    let sight = rw (c.in-Ok-follow.ensures.timescale, c.in-Ok-follow-2.ensures.timescale, is.timescale, is2.timescale, follows.last) at c.sight_of-sight.ensures.value in
+    let are = rw (is.bits, is2.bits) at c.in_ok-pairs.ensures.ok in
+    answers-report c.args.options.now c.args.expected.now c.args.actual.now (dump_by (asked_in c.args.options.now.expected_scope) s c.in-Ok.dump.words es) (dump_by (asked_in c.args.options.now.actual_scope) s2 c.in-Ok-open.dump.words es2) c.in_ok-pairs.pairs c.in-Ok-follow.followed.given c.in-Ok-follow-2.followed.given c.sight_of-sight.result c.report.result
+    (dump-read (asked_in c.args.options.now.expected_scope) c.args.expected.now s c.in-Ok.dump.words es read (rw is.variables at events))
+    (dump-read (asked_in c.args.options.now.actual_scope) c.args.actual.now s2 c.in-Ok-open.dump.words es2 read2 (rw is2.variables at events2))
+    are (rw c.as_slice.ensures.value at follows.values) (rw c.as_slice-2.ensures.value at follows2.values) sight told

@@ -1,0 +1,4 @@
+pub mod Held
+pub mod Sights
+pub mod Found
+pub mod Reported

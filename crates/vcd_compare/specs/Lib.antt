@@ -1,0 +1,6 @@
+pub mod Times
+pub mod Pairs
+pub mod Dumps
+pub mod Comparison
+pub mod Answer
+pub mod Inner
