@@ -40,7 +40,8 @@ pub struct Stream<W: Write> {
 impl<W: Write> Stream<W> {
     /// A channel to this writer, which has not failed.
     pub fn new(writer: W) -> Stream<W>
-        ensures { result.failed ≡ false }
+        ensures writer { result.writer ≡ writer }
+        ensures failed { result.failed ≡ false }
     {
         Stream {
             writer,
@@ -49,7 +50,9 @@ impl<W: Write> Stream<W> {
     }
 
     /// The writer.
-    pub fn into_writer(self) -> W {
+    pub fn into_writer(self) -> W
+        ensures { result ≡ self.writer }
+    {
         self.writer
     }
 
