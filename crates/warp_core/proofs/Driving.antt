@@ -1,11 +1,10 @@
 -- What is left for a block is later than a time: what events make of that.
-use Rattle.std.proofs.Common.{◌≡◌, ◌≢◌, ◌==◌, ◌||◌, Bool, true, false, cond, [], ◌∷◌, ℕ, ◌+◌, ◌-◌, ◌<◌, ◌≤◌, ◌⊎◌, ◌++◌, Result, Ok, Err, OnOk, IfErr, List, length, get_or, inl, inr, refl, ap, sym, ◌∙◌, subst, arith}
+use Rattle.std.proofs.Common.{◌≡◌, ◌==◌, ◌||◌, Bool, true, false, cond, [], ◌∷◌, ℕ, ◌+◌, ◌<◌, ◌≤◌, ◌⊎◌, ◌++◌, Result, Ok, Err, OnOk, IfErr, List, length, get_or, inl, inr, refl, ap, sym, ◌∙◌, subst, arith}
 use Rattle.std.specs.List.{All, remove, count_by, list_any}
 use Rattle.std.proofs.lemmas.Bool.{cases_eq, cases_lt, eqb-true}
 use Rattle.std.proofs.lemmas.List.Folds.{Any-from_list_any}
 use Rattle.std.proofs.lemmas.List.Sums.{sum_by-cons}
-use Rattle.std.proofs.lemmas.List.{length-append, get_or_append_left, get_or-append_right, get_or_default}
-use Rattle.std.proofs.lemmas.List.Edits.{length-remove, get_or-remove_above}
+use Rattle.std.proofs.lemmas.List.{get_or_default}
 use Rattle.std.proofs.lemmas.List.Elements.{All-append, All-weaker, All-same, All-get_or}
 use Rattle.warp_block.specs.declared.message.Message.{Message}
 use Rattle.warp_block.specs.Advance.{IsAfterEvent}
@@ -89,38 +88,6 @@ module _ (old new : Scene) (law : IsLawfulWorld old) (law' : IsLawfulWorld new) 
     flight = run_flight a all;
   }
 
--- what is in flight from a place on, after the message there has left
-pub received_step : (old new : Scene) (place t b : ℕ) (done : IsDelivered old new place) → IsBefore old t →
-    ((i : ℕ) (d : Message) → place + 1 ≤ i → i < length old.flight → (get_or old.flight i d).block ≡ b → t < (get_or old.flight i d).time) →
-    (i : ℕ) (d : Message) → place ≤ i → i < length new.flight → (get_or new.flight i d).block ≡ b → t < (get_or new.flight i d).time
-received_step old new place t b done before received i d from within is = elim (cases_lt i (length (remove old.flight place))) [
-  | inl left ↦
-      (let size = length-remove old.flight place done.within in
-      let at : get_or new.flight i d ≡ get_or old.flight (i + 1) d = ap (λ (ms : List Message). get_or ms i d) done.sends.sends.appended
-      ∙ (get_or_append_left (remove old.flight place) done.sends.sends.sent d i left ∙ get_or-remove_above old.flight place d i from done.within) in
-      let later = received (i + 1) d (omega (arith, from)) (omega (arith, size, left)) (sym (ap (λ (m : Message). m.block) at) ∙ is) in
-      let same = ap (λ (m : Message). m.time) at in
-      omega (arith, later, same))
-  | inr sent ↦
-      (let e = ap length done.sends.sends.appended in
-      let size = length-append (remove old.flight place) done.sends.sends.sent in
-      let at : get_or new.flight i d ≡ get_or done.sends.sends.sent (i - length (remove old.flight place)) d = ap (λ (ms : List Message). get_or ms i d) done.sends.sends.appended
-      ∙ get_or-append_right (remove old.flight place) done.sends.sends.sent (length (remove old.flight place)) i d refl sent in
-      let named = All-get_or (IsSendOf (seen_at old.blocks done.message.block) (λ u. done.message.time < u)) done.sends.sends.sent (i - length (remove old.flight place)) d (omega (arith, e, size, within, sent)) done.sends.sends.named in
-      let later = named.later in
-      let first : t ≤ done.message.time = subst (λ (k : Message). t ≤ k.time) (sym done.at) (All-get_or (λ (k : Message). t ≤ k.time) old.flight place done.message done.within before.flight) in
-      let same = ap (λ (m : Message). m.time) at in
-      omega (arith, later, first, same))
-]
-
-pub delivered_size : (old new : Scene) (place : ℕ) → IsDelivered old new place → place ≤ length new.flight
-delivered_size old new place done =
-    let e = ap length done.sends.sends.appended in
-    let size = length-append (remove old.flight place) done.sends.sends.sent in
-    let left = length-remove old.flight place done.within in
-    let within = done.within in
-    omega (arith, e, size, left, within)
-
 pub course_then : (a b c : Scene) → IsSameCourse a b → IsSameCourse b c → IsSameCourse a c
 course_then a b c first second = record {
   circuit = second.circuit ∙ first.circuit;
@@ -128,11 +95,6 @@ course_then a b c first second = record {
   stimulus = second.stimulus ∙ first.stimulus;
   horizon = second.horizon ∙ first.horizon;
 }
-
--- a message for another block isn't one for this
-pub other_block : (flight seen : List Message) (place i number : ℕ) (d e : Message) → seen ≡ flight → i ≡ place → i < length flight → (get_or seen place e).block ≢ number → (get_or flight i d).block ≡ number → ⊥
-other_block flight seen place i number d e same here within other is =
-    other (ap (λ (ms : List Message). (get_or ms place e).block) same ∙ (ap (λ (k : ℕ). (get_or flight k e).block) (sym here) ∙ (ap (λ (m : Message). m.block) (get_or_default flight i e d within) ∙ is)))
 
 -- A block was asked for one event time: whatever is answered, what was past a time is.
 pub turn_keeps : (old new : Scene) → IsLawfulWorld old → IsLawfulWorld new → (a t b : ℕ) → IsBefore old t → (r : Result (Unit {0}) PlayFault) → OnOk r (IsPlayed old new (Advance a 1)) → IfErr r (IsAfterRefusal old new (Advance a 1)) →
@@ -148,7 +110,7 @@ turn_passes old new law law' a P known (Ok u) played = λ t p. (let k = known t 
 turn_passes old new law law' a P known (Err e) played = tt
 
 -- where each number stands once, each is found
-order_has : (order : List ℕ) (count b : ℕ) → IsOrder count order → b < count → (k : ℕ) × (k < length order) × (get_or order k 0 ≡ b)
+pub order_has : (order : List ℕ) (count b : ℕ) → IsOrder count order → b < count → (k : ℕ) × (k < length order) × (get_or order k 0 ≡ b)
 order_has order count b is within =
     let one = is.once b within in
     let (k, x, l, at, e) = Any-from_list_any (λ y. y == b) order (found (λ y. y == b) order (omega (arith, one))) in

@@ -24,3 +24,8 @@ pub mod ScheduleRefusals
 pub mod Driving
 pub mod Turning
 pub mod Ordering
+pub mod Leaving
+pub mod Keeping
+pub mod Listing
+pub mod TurnSteps
+pub mod TurnsTaken

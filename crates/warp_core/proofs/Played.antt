@@ -41,7 +41,7 @@ module _ (w : Scene) (law : IsLawfulWorld w) (place : ℕ) (m : Message) (within
   pub delivered_before : (s : ℕ) → IsBefore w s → IsBefore (scene_with w new out) s
   delivered_before = act_before w law m.block (delivered_flies w law place m within at).block new (remove w.flight place) out (λ t. m.time < t) delivered_one
 
-  pub delivered_is : IsDelivered w (scene_with w new out) place
+  unfoldable pub delivered_is : IsDelivered w (scene_with w new out) place
   delivered_is = record { course = same_course w new out; within = within; message = m; at = at; others = others; taken = taken; sends = once }
 
 module _ (w : Scene) (law : IsLawfulWorld w) (b count : ℕ) (within : b < w.cut.blocks) (new : List Process) (out : List Message) (others : IsOtherwiseSame w.blocks new b)

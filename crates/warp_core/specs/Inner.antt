@@ -5,4 +5,6 @@ pub mod HeldWorld
 pub mod Kept
 pub mod Opened
 pub mod Order
+pub mod Turns
+pub mod Waiting
 pub mod Walk

@@ -1,14 +1,11 @@
-ghost use Rattle.std.specs.Prelude.{◌≡◌, Some, ◌≤◌, ◌<◌, ◌+◌, ◌==◌, ◌↔◌, ℕ, IsTrue, IfOk, IfErr, OnOk, OnErr, length, get_or, take, unwrap_or};
-ghost use Rattle.std.specs.List.{All, count_by};
+ghost use Rattle.std.specs.Prelude.{◌≡◌, Some, ◌≤◌, ◌+◌, ℕ, IfOk, IfErr, OnOk, OnErr};
 ghost use Rattle.gate_netlist.specs.Circuit.{CutFits};
 ghost use Rattle.gate_vcd.specs.Given.{Fits};
 ghost use Rattle.warp_block.specs.Limits.{most_horizon};
 ghost use Rattle.warp_core.specs.Values.{AreCircuitWaves};
-ghost use Rattle.warp_core.specs.World.{IsBefore, IsLeastTime};
+ghost use Rattle.warp_core.specs.World.{IsLeastTime};
 ghost use Rattle.warp_core.specs.Play.{IsSameCourse};
-ghost use Rattle.warp_core.specs.Drive.{IsOrder, IsRaised, IsRound, IsRoundBegun, IsAfterRound, IsTurn, IsTurnBegun, AreReached, flying_to, IsDriven, IsDriveRefusal, drive_fault_number, drive_fault_name};
-ghost use Rattle.warp_core.specs.Inner.Drive.{IsPast};
-ghost use Rattle.warp_core.specs.declared.event.PlayFault.TheVariants as play;
+ghost use Rattle.warp_core.specs.Drive.{IsOrder, IsRaised, IsRound, IsRoundBegun, IsAfterRound, IsDriven, IsDriveRefusal, drive_fault_number, drive_fault_name};
 ghost use Rattle.warp_core.specs.declared.driver.DriveFault.TheVariants as fault;
 
 use crate::event::PlayFault;
@@ -91,7 +88,6 @@ impl<'a> World<'a> {
     }
 
     /// A round, in an order that is a permutation of the blocks. The one error is want of memory.
-    #[tactic(auto, using(crate::proofs::Turning::round_started, crate::proofs::Turning::round_begun, crate::proofs::Played::never_falls))]
     fn play_round(&mut self, order: &[u32]) -> Result<(), PlayFault>
         requires { IsOrder self.old.cut.blocks order.now }
         ensures course { IsSameCourse self.old self.new }
@@ -102,52 +98,9 @@ impl<'a> World<'a> {
     {
         self.commit();
         self.law();
-        for number in order {
-            match self.turn_for(*number) {
-                Ok(()) => {}
-                Err(cause) => return Err(cause),
-            }
-        }
-        self.law();
-        Ok(())
-    }
-
-    /// Each message in flight for a block reaches it, and it finishes an event time.
-    fn turn_for(&mut self, number: u32) -> Result<(), PlayFault>
-        requires { number < self.old.cut.blocks }
-        ensures course { IsSameCourse self.old self.new }
-        ensures played { OnOk result (IsTurn number self.old self.new) }
-        ensures begun { OnErr result (IsTurnBegun number self.old self.new) }
-        ensures never_earlier { (s : ℕ) → IsBefore self.old s → IsBefore self.new s }
-        ensures past { OnOk result ((t : ℕ) → IsBefore self.old t → IsPast self.new number t) }
-        ensures kept { (t b : ℕ) → b < self.old.cut.blocks → IsBefore self.old t → IsPast self.old b t → IsPast self.new b t }
-    {
-        self.deliver_all(number)?;
-        self.law();
-        let answer = self.advance(number, 1);
+        let answer = self.take_turns(order);
         self.law();
         answer
-    }
-
-    /// Each message in flight for a block reaches it.
-    fn deliver_all(&mut self, number: u32) -> Result<(), PlayFault>
-        ensures course { IsSameCourse self.old self.new }
-        ensures reached { OnOk result (AreReached number (flying_to number self.old.flight) self.old self.new) }
-        ensures begun { OnErr result ((count : ℕ) × (count < flying_to number self.old.flight) × AreReached number count self.old self.new) }
-        ensures never_earlier { (s : ℕ) → IsBefore self.old s → IsBefore self.new s }
-        ensures received { OnOk result ((t : ℕ) → IsBefore self.old t → All (λ m. m.block ≡ number → t < m.time) self.new.flight) }
-        ensures kept { (t b : ℕ) → b < self.old.cut.blocks → IsBefore self.old t → IsPast self.old b t → IsPast self.new b t }
-    {
-        let mut place = self.flight().len();
-        while place > 0 {
-            place -= 1;
-            if self.flight()[place].block == number {
-                self.law();
-                self.deliver(place)?;
-                self.law();
-            }
-        }
-        Ok(())
     }
 }
 

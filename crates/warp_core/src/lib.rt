@@ -23,6 +23,7 @@ mod flight;
 mod gathering;
 mod order;
 mod schedule;
+mod turns;
 mod world;
 
 pub use driver::{DriveFault, drive};

@@ -5,18 +5,21 @@ ghost use Rattle.warp_block.specs.Limits.{most_horizon};
 ghost use Rattle.warp_core.specs.Matched.{no_process, EachBlock};
 ghost use Rattle.warp_core.specs.Gather.{IsGathered};
 ghost use Rattle.warp_core.specs.World.{Scene, IsBefore, IsLeastTime, IsLawfulWorld, IsNewWorld};
-ghost use Rattle.warp_core.specs.Play.{IsPlayed, IsRefused, IsAfterRefusal};
+ghost use Rattle.warp_core.specs.Play.{IsSameCourse, IsPlayed, IsRefused, IsAfterRefusal};
+ghost use Rattle.warp_core.specs.Drive.{IsOrder};
+ghost use Rattle.warp_core.specs.Inner.Turns.{AreTurned, AreTurnsBegun};
 ghost use Rattle.warp_core.specs.declared.event.Event.TheVariants as event;
 ghost use Rattle.warp_core.specs.declared.event.PlayFault.TheVariants as play;
 ghost use Rattle.warp_core.specs.declared.fault.GatherFault.TheVariants as fault;
 
-mod acts;
+pub(crate) mod acts;
 mod opening;
 
 use crate::event::{Event, PlayFault};
 use crate::fault::GatherFault;
 use crate::flight::{Soonest, least_of, soonest_from, soonest_of, soonest_without};
 use crate::gathering::gather;
+use crate::turns::{Course, play_turns};
 use gate_netlist::{Circuit, Cut};
 use gate_vcd::{Stimulus, Waves};
 use std::alloc::{AllocError, Global};
@@ -231,5 +234,27 @@ impl<'a> World<'a> {
         let least = self.least();
         self.cut.law();
         acts::commit_all(&mut self.blocks, least);
+    }
+
+    /// All blocks have their turns, in an order that is a permutation of them. The one error is want of memory.
+    pub(crate) fn take_turns(&mut self, order: &[u32]) -> Result<(), PlayFault>
+        requires { IsOrder self.old.cut.blocks order.now }
+        ensures course { IsSameCourse self.old self.new }
+        ensures turned { OnOk result (AreTurned order.now (length order.now) self.old self.new) }
+        ensures begun { OnErr result (AreTurnsBegun order.now self.old self.new) }
+        ensures never_earlier { (s : ℕ) → IsBefore self.old s → IsBefore self.new s }
+    {
+        let course = Course {
+            circuit: self.circuit,
+            cut: self.cut,
+            stimulus: self.stimulus,
+            horizon: self.horizon,
+        };
+        let end = self.horizon + 1;
+        let alloc = *self.flight.allocator();
+        let answer = play_turns(alloc, &course, &mut self.blocks, &mut self.flight, order);
+        self.soonest = soonest_of(self.flight.as_slice(), end);
+        acts::note_next_times(&mut self.next, self.blocks.as_slice(), end);
+        answer
     }
 }

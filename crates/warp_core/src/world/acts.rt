@@ -12,9 +12,36 @@ ghost use Rattle.warp_block.specs.Sends.{SendsOnce};
 ghost use Rattle.warp_block.specs.View.{IsDone};
 ghost use Rattle.warp_core.specs.Matched.{no_process, seen_at};
 ghost use Rattle.warp_core.specs.Play.{IsOtherwiseSame};
-ghost use Rattle.warp_core.specs.Inner.Kept.{IsNextTime};
+ghost use Rattle.warp_core.specs.Inner.Kept.{IsNextTime, AreNextTimes};
 
 use warp_block::{Block, BlockFault, Message};
+
+/// A message, which its block takes, reaches it. The one error is want of memory.
+pub(crate) fn receive_one(
+    blocks: &mut Vec<Block>,
+    flight: &mut Vec<Message>,
+    message: Message,
+) -> Result<(), BlockFault>
+    requires block { message.block < length blocks.old.items }
+    requires taken { refusal_of (seen_at blocks.old.items message.block) message ≡ None }
+    ensures others { OnOk result (IsOtherwiseSame blocks.old.items blocks.new.items message.block) }
+    ensures taken { OnOk result (IsTaken (seen_at blocks.old.items message.block) (seen_at blocks.new.items message.block) message) }
+    ensures sends { OnOk result (SendsOnce (seen_at blocks.old.items message.block) (seen_at blocks.new.items message.block) Minus (λ t. message.time < t)
+        flight.old.items flight.new.items) }
+    ensures lawful { OnOk result (IsLawful (seen_at blocks.new.items message.block)) }
+    ensures memory { IfErr result (λ cause. cause ≡ fault.Memory) }
+    ensures err { OnErr result (blocks.new.items ≡ blocks.old.items) }
+    ensures untold { OnErr result (flight.new.items ≡ flight.old.items) }
+{
+    let block = &mut blocks[message.block as usize];
+    match block.receive(message, flight) {
+        Ok(()) => {
+            block.law();
+            Ok(())
+        }
+        Err(cause) => Err(cause),
+    }
+}
 
 /// The message at a place, which its block takes, reaches it and leaves the list. The one error is want of memory.
 pub(super) fn hand_over(
@@ -36,19 +63,13 @@ pub(super) fn hand_over(
     ensures err { OnErr result (blocks.new.items ≡ blocks.old.items) }
     ensures untold { OnErr result (flight.new.items ≡ flight.old.items) }
 {
-    let block = &mut blocks[message.block as usize];
-    match block.receive(message, flight) {
-        Ok(()) => {
-            block.law();
-            flight.remove(place);
-            Ok(())
-        }
-        Err(cause) => Err(cause),
-    }
+    receive_one(blocks, flight, message)?;
+    flight.remove(place);
+    Ok(())
 }
 
 /// A block finishes up to so many event times.
-pub(super) fn run(
+pub(crate) fn run(
     blocks: &mut Vec<Block>,
     flight: &mut Vec<Message>,
     number: u32,
@@ -97,4 +118,14 @@ pub(super) fn next_of(block: &Block, end: u64) -> u64
     ensures { IsNextTime block.now.seen end result }
 {
     block.next_time().unwrap_or(end)
+}
+
+/// Notes the least event time of each block, or an end where there is none, in place of those that are noted.
+pub(super) fn note_next_times(next: &mut Vec<u64>, blocks: &[Block], end: u64)
+    requires { length next.old.items ≡ length blocks.now }
+    ensures { AreNextTimes blocks.now end next.new.items }
+{
+    for number in 0..blocks.len() {
+        next[number] = next_of(&blocks[number], end);
+    }
 }

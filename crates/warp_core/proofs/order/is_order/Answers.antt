@@ -1,4 +1,3 @@
-use Rattle.std.proofs.Common.{◌≡◌, ℕ, ◌<◌, ◌≤◌, IsTrue, false, get_or, length, refl}
 use Rattle.warp_core.proofs.Ordering.{order_from, order_met, none_set}
 use Rattle.warp_core.proofs.order.is_order.Goals as goal
 

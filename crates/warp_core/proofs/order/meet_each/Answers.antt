@@ -1,7 +1,6 @@
-use Rattle.std.proofs.Common.{◌≡◌, ◌<◌, ◌≤◌, ℕ, ◌+◌, get_or, length, take, refl, sym, ◌∙◌, subst, arith}
-use Rattle.std.proofs.lemmas.List.{take_all, length-set}
+use Rattle.std.proofs.Common.{◌<◌, get_or, ◌∙◌, arith}
+use Rattle.std.proofs.lemmas.List.{length-set}
 use Rattle.std.proofs.lemmas.List.Elements.{All-get_or}
-use Rattle.warp_core.specs.Inner.Order.{IsMet}
 use Rattle.warp_core.proofs.Ordering.{met_more, twice}
 use Rattle.warp_core.proofs.order.meet_each.Goals as goal
 use Rattle.warp_core.proofs.order.meet_each.Goals.{then-number-count-via-then-number-count, then-number-count-via-else-number-count+then-met-place}
