@@ -24,10 +24,21 @@ def kit():
     return folder if folder.is_dir() else None
 
 
+def crates():
+    """The repository's crates, lowest first, each with those that it is said to stand on."""
+    lines = (CRATES.parent / "crates.txt").read_text().splitlines()
+    parts = [line.partition(":") for line in lines if line.strip() and line[0] != "#"]
+    return {head.split()[0]: below.split() for head, _, below in parts}
+
+
 def listed():
     """The repository's crates, lowest first."""
-    lines = (CRATES.parent / "crates.txt").read_text().splitlines()
-    return [line.split(":")[0].split()[0] for line in lines if line.strip() and line[0] != "#"]
+    return list(crates())
+
+
+def stands_on(crate):
+    """The crates that a crate stands on, itself among them."""
+    return {crate, *crates().get(crate, [])}
 
 
 def folder_of(crate):

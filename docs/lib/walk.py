@@ -2,7 +2,7 @@
 
 import re
 
-from definitions import CRATES, file_of, home_of, meant_by, origin, spoken_in
+from definitions import CRATES, file_of, home_of, meant_by, origin, spoken_in, stands_on
 from sources import models, parts_of, said_of, types
 
 
@@ -89,6 +89,8 @@ class Walk:
         known = file_of(crate, file).imports | {name: (here, name) for name in file_of(crate, file).blocks}
         said = {home_of(*found) for found in meant_by(head.replace(" : ", " "), known)} - {None}
         for owner, name, value, spoken in models():
+            if owner not in stands_on(crate) and crate not in stands_on(owner):
+                continue
             values = {home_of(*found) for found in meant_by(value, spoken)}
             is_declared = any("declared" in path for path, _ in meant_by(value, spoken))
             if said & values or is_declared and value.strip(" {}") in kinds_in(head):

@@ -23,3 +23,4 @@ pub mod Words
 pub mod Readers
 pub mod Owning
 pub mod Refusals
+pub mod Saying

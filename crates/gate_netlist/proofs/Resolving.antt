@@ -90,7 +90,7 @@ stated-ok : (r : Option BenchCause) (s t : Statement) → unless r s ≡ Ok t �
 stated-ok None s t e = (refl, same s t e)
 stated-ok (Some c) s t e = absurd cc
 
-bind_ok : {A B E : Type 0} (r : Result A E) (f : A → Result B E) (y : B) → (r >>= f) ≡ Ok y → (x : A) × (r ≡ Ok x) × (f x ≡ Ok y)
+pub bind_ok : {A B E : Type 0} (r : Result A E) (f : A → Result B E) (y : B) → (r >>= f) ≡ Ok y → (x : A) × (r ≡ Ok x) × (f x ≡ Ok y)
 bind_ok (Ok x) f y e = (x, refl, e)
 bind_ok (Err d) f y e = absurd cc
 
@@ -98,7 +98,7 @@ abbrev value_or : {X E : Type 0} → X → Result X E → X
 value_or d (Ok x) = x
 value_or d (Err e) = d
 
-at_line-ok : {X : Type 0} (line : ℕ) (r : Result X BenchCause) (x : X) → at_line line r ≡ Ok x → r ≡ Ok x
+pub at_line-ok : {X : Type 0} (line : ℕ) (r : Result X BenchCause) (x : X) → at_line line r ≡ Ok x → r ≡ Ok x
 at_line-ok line (Ok y) x e = ap Ok (ap (value_or y) e)
 at_line-ok line (Err c) x e = absurd cc
 
@@ -131,10 +131,10 @@ pub record AreAccepted (earlier : List Name) (ss : List Statement) : Type 0 wher
   pub named : NamesDiffer (earlier ++ nets_defined ss)
   pub enough : AllByRecursion HasEnough ss
 
-abbrev listed : List Statement → Result (List Statement) BenchFault
+abbrev pub listed : List Statement → Result (List Statement) BenchFault
 listed ss = Ok ss
 
-same_list : (ss ts : List Statement) → listed ss ≡ Ok ts → ss ≡ ts
+pub same_list : (ss ts : List Statement) → listed ss ≡ Ok ts → ss ≡ ts
 same_list ss ts e = cc
 
 pub are_accepted : (earlier : List Name) (line : ℕ) (ls : List (List ℕ)) (ss : List Statement) → length earlier ≤ 999999 → NamesDiffer earlier → accepted earlier line ls ≡ Ok ss → AreAccepted earlier ss

@@ -7,6 +7,7 @@ pub mod Even
 pub mod Faults
 pub mod Meaning
 pub mod Gives
+pub mod Accepted
 pub mod Bench
 pub mod Netlist
 pub mod Statements

@@ -1,5 +1,6 @@
-ghost use Rattle.std.specs.Prelude.{◌≡◌, ◌<◌, ℕ, List, Some, IfErr, IfSome};
+ghost use Rattle.std.specs.Prelude.{◌≡◌, ◌<◌, ℕ, List, Ok, Some, IfErr, IfSome};
 ghost use Rattle.toml.specs.Data.{Members};
+ghost use Rattle.gate_netlist.specs.Accepted.{Means};
 ghost use Rattle.gate_netlist.specs.Bench.{bench_of};
 ghost use Rattle.gate_netlist.specs.Causes.{cause_of};
 ghost use Rattle.gate_netlist.specs.Circuit.{Design, IsCircuit, nets_of, name_of, net_of, source_of};
@@ -19,4 +20,11 @@ pub fn refusal_laws()
 pub fn circuit_laws()
     ensures found { (d : Design) (n : ℕ) → IsCircuit d → n < nets_of d → net_of d (name_of d n) ≡ Some n }
     ensures sources { (d : Design) (n : ℕ) → IsCircuit d → IsWellFormed (source_of d n) }
+{}
+
+/// What an accepted bench text means, apart from why another is refused: each of its lines says a statement, and the nets
+/// are those of the statements. So whoever reads what a text means need not read why texts are refused.
+pub fn accepted_laws()
+    ensures means { (text : List ℕ) (netlist : Netlist) → bench_of text ≡ Ok netlist → Means text netlist }
+    ensures once { (text : List ℕ) (m n : Netlist) → Means text m → Means text n → m ≡ n }
 {}

@@ -6,7 +6,8 @@
 //! give none. Each answer is the one that the definitions in `specs/` give: `Lines`, `Symbols`, `Statements` and
 //! `Bench` for the bench text; `Settings`, `Causes` and `Meaning` for the settings; `Circuit` and `Cut` for what
 //! is true of every circuit and every cut. The one other answer is want of memory, where a growth was refused, which
-//! is never the fault of a text ([`refusal_laws`]).
+//! is never the fault of a text ([`refusal_laws`]), and what an accepted bench text means is told apart from refusals
+//! ([`accepted_laws`]).
 #![tactic(auto)]
 
 mod bench;
@@ -31,7 +32,7 @@ pub use counts::Counts;
 pub use cut::Cut;
 pub use driver::Driver;
 pub use fault::{BenchCause, BenchFault, SettingsFault};
-pub use laws::{circuit_laws, refusal_laws};
+pub use laws::{accepted_laws, circuit_laws, refusal_laws};
 pub use lines::next_line;
 pub use nets::Nets;
 pub use reading::read_bench;
