@@ -26,6 +26,14 @@ pub fn chain(alloc: Global, size: u32) -> Result<Circuit> {
     Ok(Circuit::of(alloc, bench, b"")?)
 }
 
+/// So many flip-flops that begin with 1, and a gate behind each.
+pub fn registers(alloc: Global, count: u32) -> Result<Circuit> {
+    let text = texts::registers(alloc, count)?;
+    let bench = read_bench(alloc, text.as_bytes())?;
+    let settings = texts::registers_settings(alloc, count)?;
+    Ok(Circuit::of(alloc, bench, settings.as_bytes())?)
+}
+
 /// So many inputs.
 pub fn inputs(alloc: Global, count: u32) -> Result<Circuit> {
     let text = texts::inputs(alloc, count)?;
@@ -56,7 +64,19 @@ impl Given {
     ) -> Result<Given>
         ensures { IfOk result (λ given. Fits given.stimulus given.circuit) }
     {
-        let text = texts::stimulus(alloc, inputs, changes, is_shared)?;
+        match texts::stimulus(alloc, inputs, changes, is_shared) {
+            Ok(text) => Given::under(alloc, circuit, text.as_str()),
+            Err(fault) => {
+                drop(circuit);
+                Err(fault.into())
+            }
+        }
+    }
+
+    /// The stimulus of a text.
+    pub fn under(alloc: Global, circuit: Circuit, text: &str) -> Result<Given>
+        ensures { IfOk result (λ given. Fits given.stimulus given.circuit) }
+    {
         match read_stimulus(alloc, text.as_bytes(), &circuit) {
             Ok(stimulus) => Ok(Given { circuit, stimulus }),
             Err(fault) => {

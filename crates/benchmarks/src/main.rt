@@ -11,6 +11,7 @@ mod circuits;
 mod looking;
 mod playing;
 mod reading;
+mod rounds;
 mod texts;
 mod timer;
 mod waves;
@@ -38,9 +39,11 @@ enum Benchmark {
     WavesOf,
     Write,
     Play,
+    Round,
+    RoundBlocks,
 }
 
-const BENCHMARKS: [(&str, Benchmark); 17] = [
+const BENCHMARKS: [(&str, Benchmark); 19] = [
     ("bench", Benchmark::Bench),
     ("bench-refused", Benchmark::BenchRefused),
     ("circuit", Benchmark::Circuit),
@@ -58,6 +61,8 @@ const BENCHMARKS: [(&str, Benchmark); 17] = [
     ("waves-of", Benchmark::WavesOf),
     ("write", Benchmark::Write),
     ("play", Benchmark::Play),
+    ("round", Benchmark::Round),
+    ("round-blocks", Benchmark::RoundBlocks),
 ];
 
 fn checksum<R: Eprint + Clock + AllocGlobal>(rt: &R, benchmark: Benchmark, size: u32) -> Result<u64>
@@ -81,6 +86,8 @@ fn checksum<R: Eprint + Clock + AllocGlobal>(rt: &R, benchmark: Benchmark, size:
         Benchmark::WavesOf => waves::waves_of(rt, size),
         Benchmark::Write => writing::write(rt, size),
         Benchmark::Play => playing::play(rt, size),
+        Benchmark::Round => rounds::round(rt, size),
+        Benchmark::RoundBlocks => rounds::round_blocks(rt, size),
     }
 }
 

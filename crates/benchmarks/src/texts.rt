@@ -47,6 +47,32 @@ pub fn chain_settings(alloc: Global, size: u32) -> Result<String, AllocError> {
     Ok(text)
 }
 
+/// So many flip-flops, and then a gate behind each.
+pub fn registers(alloc: Global, count: u32) -> Result<String, AllocError> {
+    let mut text = String::new(alloc);
+    writeln!(text, "INPUT(n0)")?;
+    for flop in 0..count {
+        writeln!(text, "q{flop} = DFF(n0)")?;
+    }
+    for flop in 0..count {
+        writeln!(text, "a{flop} = BUFF(q{flop})")?;
+    }
+    Ok(text)
+}
+
+/// Each of the flip-flops begins with 1.
+pub fn registers_settings(alloc: Global, count: u32) -> Result<String, AllocError> {
+    let mut text = String::new(alloc);
+    writeln!(text, "[init]")?;
+    for flop in 0..count {
+        writeln!(text, "q{flop} = \"1\"")?;
+    }
+    Ok(text)
+}
+
+/// A stimulus of the flip-flops in which nothing changes.
+pub const STILL: &str = "$var wire 1 d n0 $end $var wire 1 c CK $end $enddefinitions $end";
+
 /// So many inputs.
 pub fn inputs(alloc: Global, count: u32) -> Result<String, AllocError> {
     let mut text = String::new(alloc);
