@@ -215,8 +215,11 @@ put_due step words delay line line' queue view rises late is some =
     (λ late some. rw is (due_same step words (record { delay = delay; line = line }) rises late some)) late some
 
 -- what one more queue tells
-pub tell_more : (step last : ℕ) (queues : List Delayed) (i : ℕ) (queue : Delayed) (told told' : List (Dated Move)) → i < length queues → queue ≡ get_or queues i queue → told ≡ flat_map (told_since step last) (take i queues) → told' ≡ told ++ told_since step last queue → told' ≡ flat_map (told_since step last) (take (i + 1) queues)
-tell_more step last queues i queue told told' l q e new =
+pub tell_more : (step last : ℕ) (queues : List Delayed) (i : ℕ) (queue : Delayed) (first told told' : List (Dated Move)) → i < length queues → queue ≡ get_or queues i queue → told ≡ first ++ flat_map (told_since step last) (take i queues)
+    → told' ≡ told ++ told_since step last queue → told' ≡ first ++ flat_map (told_since step last) (take (i + 1) queues)
+tell_more step last queues i queue first told told' l q e new =
     let one : take (i + 1) queues ≡ take i queues ++ queue ∷ [] = take_more queues i queue l ∙ ap (λ (x : Delayed). take i queues ++ x ∷ []) (sym q) in
+    let all : flat_map (told_since step last) (take (i + 1) queues) ≡ flat_map (told_since step last) (take i queues) ++ told_since step last queue =
+    ap (flat_map (told_since step last)) one ∙ flat_map-append (told_since step last) (take i queues) (queue ∷ []) ∙ ap (λ (ds : List (Dated Move)). flat_map (told_since step last) (take i queues) ++ ds) (append-nil (told_since step last queue)) in
     new ∙ ap (λ (ds : List (Dated Move)). ds ++ told_since step last queue) e
-    ∙ sym (ap (flat_map (told_since step last)) one ∙ flat_map-append (told_since step last) (take i queues) (queue ∷ []) ∙ ap (λ (ds : List (Dated Move)). flat_map (told_since step last) (take i queues) ++ ds) (append-nil (told_since step last queue)))
+    ∙ append_assoc first (flat_map (told_since step last) (take i queues)) (told_since step last queue) ∙ ap (λ (ds : List (Dated Move)). first ++ ds) (sym all)

@@ -98,18 +98,22 @@ impl Delays {
         Ok(())
     }
 
-    /// Reads the words ahead that come true by a time, and puts them behind a list, in order of queues. An error is a
-    /// refused growth; then all stays.
-    pub fn take_due(&mut self, time: u64, out: &mut Vec<Word>) -> Result<(), AllocError>
+    /// Puts the words ahead that come true by a time behind a list, in order of queues. An error is a refused growth; then
+    /// the list stays.
+    pub fn list_due(&self, time: u64, out: &mut Vec<Word>) -> Result<(), AllocError>
         requires { time < NEVER }
-        ensures ok { OnOk result (self.new ≡ map (read_by time) self.old) }
-        ensures taken { OnOk result (out.new.items ≡ out.old.items ++ flat_map (due_by time) self.old) }
-        ensures err { OnErr result (self.new ≡ self.old) }
-        ensures nothing { OnErr result (out.new.items ≡ out.old.items) }
+        ensures ok { OnOk result (out.new.items ≡ out.old.items ++ flat_map (due_by time) self.now) }
+        ensures err { OnErr result (out.new.items ≡ out.old.items) }
     {
-        list_due(self.queues.as_slice(), &self.due, time, out)?;
+        list_due(self.queues.as_slice(), &self.due, time, out)
+    }
+
+    /// Reads the words ahead that come true by a time.
+    pub fn read_due(&mut self, time: u64)
+        requires { time < NEVER }
+        ensures { self.new ≡ map (read_by time) self.old }
+    {
         read_due(&mut self.queues, &mut self.due, time);
-        Ok(())
     }
 
     /// Puts back the words that were read and come true at a time or later.
@@ -130,8 +134,8 @@ impl Delays {
         self.queues[queue].made_since(step)
     }
 
-    /// Puts the words that a step and later ones made into a batch, in place of what was there, at the times at which they
-    /// come true, up to a last time. An error is a refused growth; then the batch has no word.
+    /// Puts the words that a step and later ones made behind a batch, at the times at which they come true, up to a last
+    /// time. An error is a refused growth; then the batch has no word.
     pub fn tell_since(
         &self,
         step: u64,
@@ -139,10 +143,9 @@ impl Delays {
         batch: &mut Batch<Word>,
     ) -> Result<(), AllocError>
         requires { last < TIMES }
-        ensures ok { OnOk result (batch.new ≡ flat_map (told_since step last) self.now) }
+        ensures ok { OnOk result (batch.new ≡ batch.old ++ flat_map (told_since step last) self.now) }
         ensures err { OnErr result (batch.new ≡ []) }
     {
-        batch.clear();
         for queue in &self.queues {
             queue.tell_since(step, last, batch)?;
         }
