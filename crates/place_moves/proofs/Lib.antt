@@ -18,8 +18,8 @@ pub mod Putting
 pub mod Asking
 pub mod Filtering
 pub mod Moving
-mod Ordering
-mod Queueing
-mod Coming
-mod Sourcing
+pub mod Ordering
+pub mod Queueing
+pub mod Coming
+pub mod Sourcing
 mod Rows

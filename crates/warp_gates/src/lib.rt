@@ -8,8 +8,7 @@
 //! they put out before words that were put; both take no memory. At every moment gates put out what they make of the
 //! values ([`Gates::law`]).
 //!
-//! The definitions that contracts cite stand in `specs/Cells`, how gates lie in memory in `specs/Inner`. A block is to
-//! stand on this crate; nothing does yet.
+//! The definitions that contracts cite stand in `specs/Cells`, how gates lie in memory in `specs/Inner`.
 #![tactic(auto)]
 
 mod evaluate;

@@ -22,7 +22,7 @@ least_of-most : (ts : List ℕ) → least_of ts ≤ NEVER
 least_of-most [] = omega arith
 least_of-most (t ∷ ts) = omega (arith, least_of-most ts)
 
-least_of-append : (a b : List ℕ) → least_of (a ++ b) ≡ min (least_of a) (least_of b)
+pub least_of-append : (a b : List ℕ) → least_of (a ++ b) ≡ min (least_of a) (least_of b)
 least_of-append [] b = omega (arith, least_of-most b)
 least_of-append (t ∷ a) b = omega (arith, least_of-append a b)
 
