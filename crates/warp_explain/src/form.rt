@@ -1,0 +1,137 @@
+//! The words and marks of a bench line, and where its form breaks.
+use crate::words::{Line, Word, is_space};
+use std::alloc::{AllocError, Global};
+
+/// The words and marks of a line, up to its comment.
+pub(crate) fn pieces<'a>(alloc: Global, line: &Line<'a>) -> Result<Vec<Word<'a>>, AllocError> {
+    let mut pieces = Vec::new(alloc);
+    let mut start = 0usize;
+    for (place, byte) in line.text.iter().enumerate() {
+        if is_mark(*byte) || is_space(*byte) || *byte == b'#' {
+            add(line, start, place, &mut pieces)?;
+            start = place.saturating_add(1);
+        }
+        if is_mark(*byte) {
+            add(line, place, start, &mut pieces)?;
+        }
+        if *byte == b'#' {
+            return Ok(pieces);
+        }
+    }
+    add(line, start, line.text.len(), &mut pieces)?;
+    Ok(pieces)
+}
+
+fn is_mark(byte: u8) -> bool {
+    matches!(byte, b'(' | b')' | b',' | b'=')
+}
+
+/// Adds what stands from one place of a line to another, if anything does.
+fn add<'a>(
+    line: &Line<'a>,
+    start: usize,
+    end: usize,
+    pieces: &mut Vec<Word<'a>>,
+) -> Result<(), AllocError> {
+    match line.text.get(start..end) {
+        Some(text) if !text.is_empty() => {
+            pieces.push(Word {
+                at: line.at.saturating_add(start),
+                text,
+            })?;
+            Ok(())
+        }
+        _ => Ok(()),
+    }
+}
+
+/// What stands before a piece of a line.
+#[derive(Clone, Copy, PartialEq, Eq)]
+pub(crate) enum State {
+    Nothing,
+    Port,
+    PortOpen,
+    PortName,
+    Net,
+    Equals,
+    Gate,
+    GateOpen,
+    Comma,
+    Input,
+    End,
+}
+
+impl State {
+    /// What stands before the next piece; none where this one may not stand there.
+    fn after(self, piece: &[u8]) -> Option<State> {
+        match (self, piece) {
+            (State::Port, b"(") => Some(State::PortOpen),
+            (State::PortName, b")") => Some(State::End),
+            (State::Net, b"=") | (State::Port, b"=") => Some(State::Equals),
+            (State::Gate, b"(") => Some(State::GateOpen),
+            (State::GateOpen, b")") | (State::Input, b")") => Some(State::End),
+            (State::Input, b",") => Some(State::Comma),
+            (_, b"(") | (_, b")") | (_, b",") | (_, b"=") => None,
+            (State::Nothing, word) if is_port(word) => Some(State::Port),
+            (State::Nothing, _) => Some(State::Net),
+            (State::PortOpen, _) => Some(State::PortName),
+            (State::Equals, _) => Some(State::Gate),
+            (State::GateOpen, _) | (State::Comma, _) => Some(State::Input),
+            _ => None,
+        }
+    }
+
+    /// What is expected there.
+    pub(crate) fn expects(self) -> &'static str {
+        match self {
+            State::Nothing => "a name, INPUT or OUTPUT",
+            State::Port | State::Gate => "`(`",
+            State::PortOpen | State::Comma => "a name",
+            State::PortName => "`)`",
+            State::Net => "`=`",
+            State::Equals => "a gate",
+            State::GateOpen => "a name or `)`",
+            State::Input => "`,` or `)`",
+            State::End => "the line's end",
+        }
+    }
+}
+
+fn is_port(word: &[u8]) -> bool {
+    word.eq_ignore_ascii_case(b"INPUT") || word.eq_ignore_ascii_case(b"OUTPUT")
+}
+
+/// The first piece that may not stand where it does, none where the line ends too early, and what stands before.
+pub(crate) fn break_of<'a>(pieces: &[Word<'a>]) -> (Option<Word<'a>>, State) {
+    let mut state = State::Nothing;
+    for piece in pieces {
+        match state.after(piece.text) {
+            Some(next) => state = next,
+            None => return (Some(*piece), state),
+        }
+    }
+    (None, state)
+}
+
+/// The net that a line defines.
+pub(crate) fn defined<'a>(pieces: &[Word<'a>]) -> Option<Word<'a>> {
+    match pieces {
+        [net, equals, ..] if equals.is("=") => Some(*net),
+        [port, _, net, ..] if port.is_like("INPUT") => Some(*net),
+        _ => None,
+    }
+}
+
+/// The nets that a line uses.
+pub(crate) fn used<'t, 'a>(pieces: &'t [Word<'a>]) -> &'t [Word<'a>] {
+    match pieces {
+        [_, equals, _, _, names @ ..] if equals.is("=") => names,
+        [port, _, names @ ..] if port.is_like("OUTPUT") => names,
+        _ => &[],
+    }
+}
+
+/// Whether a piece is a name and no mark.
+pub(crate) fn is_name(piece: &Word<'_>) -> bool {
+    !matches!(piece.text, b"(" | b")" | b"," | b"=")
+}

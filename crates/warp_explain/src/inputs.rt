@@ -1,0 +1,179 @@
+//! What is wrong with a stimulus that doesn't give an input.
+use crate::causes::mistaken;
+use crate::finding::Finding;
+use crate::form::{defined, pieces};
+use crate::look::Look;
+use crate::quoted::quoted;
+use crate::variables::{Variable, Wanted, find_variable};
+use crate::words::Word;
+use gate_netlist::{Circuit, read_bench};
+use gate_vcd::StimCause;
+use std::alloc::{AllocError, Global};
+use text_places::Source;
+
+/// A finding, in the text to which it belongs.
+#[derive(Drop)]
+pub(crate) enum Found {
+    InStimulus(Finding),
+    InBench(Finding),
+}
+
+/// What a fault of a stimulus is about that doesn't give the input of this number.
+pub(crate) fn of_input(
+    alloc: Global,
+    bench: Source<'_>,
+    settings: &[u8],
+    stimulus: Source<'_>,
+    cause: StimCause,
+    net: u64,
+) -> Result<Found, AllocError> {
+    let look = Look::of(stimulus.text);
+    if !matches!(look, Look::Dump | Look::Other) {
+        let said = mistaken(alloc, look, "stimulus")?;
+        return Ok(Found::InStimulus(Finding::at_front(said)));
+    }
+    let name = name_of(alloc, bench.text, settings, net)?;
+    let name = name.as_str();
+    match cause {
+        StimCause::NotScalar => {
+            let finding = not_scalar(alloc, stimulus.text, name)?;
+            Ok(Found::InStimulus(finding))
+        }
+        _ => missing(alloc, bench, stimulus, name),
+    }
+}
+
+/// The name of a net; empty where the circuit can't be had.
+fn name_of(alloc: Global, bench: &[u8], settings: &[u8], net: u64) -> Result<String, AllocError> {
+    match circuit_of(alloc, bench, settings) {
+        Some(circuit) if net < u64::from(circuit.nets()) => String::from_str(
+            alloc,
+            circuit.name(net as u32),
+        ),
+        _ => Ok(String::new(alloc)),
+    }
+}
+
+/// The circuit of a bench and settings; none where a text is refused or memory runs out.
+pub(crate) fn circuit_of(alloc: Global, bench: &[u8], settings: &[u8]) -> Option<Circuit> {
+    let Ok(bench) = read_bench(alloc, bench) else {
+        return None;
+    };
+    match Circuit::of(alloc, bench, settings) {
+        Ok(circuit) => Some(circuit),
+        Err(_) => None,
+    }
+}
+
+/// A vector that is declared in place of a scalar.
+fn not_scalar(alloc: Global, text: &[u8], name: &str) -> Result<Finding, AllocError> {
+    let shown = quoted(alloc, name.as_bytes())?;
+    let found = find_variable(text, Wanted::Named(name));
+    let Some(Variable { size, name: word }) = found else {
+        let cause = format!(in alloc; "no variable of one bit gives the input {shown}")?;
+        return Ok(Finding::at(&front(text), cause, String::new(alloc)));
+    };
+    let size = quoted(alloc, size.text)?;
+    let cause = format!(in alloc;
+        "the input {shown} is one bit, which this variable of size {size} doesn't give"
+    )?;
+    let help = format!(in alloc;
+        "call the bits `{name}[0]`, `{name}[1]` and so on in the bench, or declare a variable of one bit"
+    )?;
+    Ok(Finding::at(&word, cause, help))
+}
+
+/// No word, at a text's beginning.
+fn front(text: &[u8]) -> Word<'_> {
+    Word::of(text, 0, 0)
+}
+
+/// An input for which no variable is named.
+fn missing(
+    alloc: Global,
+    bench: Source<'_>,
+    stimulus: Source<'_>,
+    name: &str,
+) -> Result<Found, AllocError> {
+    if let Some(variable) = find_variable(stimulus.text, Wanted::Named(name)) {
+        let finding = in_another_scope(alloc, &variable, name)?;
+        return Ok(Found::InStimulus(finding));
+    }
+    if let Some(variable) = find_variable(stimulus.text, Wanted::InAnyCase(name)) {
+        let finding = in_another_case(alloc, &variable, name)?;
+        return Ok(Found::InStimulus(finding));
+    }
+    undeclared(alloc, bench, stimulus, name)
+}
+
+fn in_another_scope(
+    alloc: Global,
+    variable: &Variable<'_>,
+    name: &str,
+) -> Result<Finding, AllocError> {
+    let shown = quoted(alloc, name.as_bytes())?;
+    let cause = format!(in alloc;
+        "this variable of the input {shown} stands in another scope than the settings ask for"
+    )?;
+    let help = String::from_str(
+        alloc,
+        "scope = \"..\" in the settings names the scope, its levels joined by dots; without it any scope will do",
+    )?;
+    Ok(Finding::at(&variable.name, cause, help))
+}
+
+fn in_another_case(
+    alloc: Global,
+    variable: &Variable<'_>,
+    name: &str,
+) -> Result<Finding, AllocError> {
+    let shown = quoted(alloc, name.as_bytes())?;
+    let near = quoted(alloc, variable.name.text)?;
+    let cause = format!(in alloc; "no variable is named {shown}, and this one is {near}")?;
+    let help = String::from_str(
+        alloc,
+        "names keep their letters' case: rename one of the two",
+    )?;
+    Ok(Finding::at(&variable.name, cause, help))
+}
+
+/// An input of which a stimulus says nothing: told at its line, or at the stimulus where it is an added clock.
+fn undeclared(
+    alloc: Global,
+    bench: Source<'_>,
+    stimulus: Source<'_>,
+    name: &str,
+) -> Result<Found, AllocError> {
+    let shown = quoted(alloc, name.as_bytes())?;
+    let file = stimulus.name;
+    match defining(alloc, bench.text, name)? {
+        Some(word) => {
+            let cause = format!(in alloc; "{file} has no variable for the input {shown}")?;
+            let help = format!(in alloc; "declare it there, as $var wire 1 ! {name} $end")?;
+            Ok(Found::InBench(Finding::at(&word, cause, help)))
+        }
+        None => {
+            let cause = format!(in alloc; "no variable is named {shown}, the clock of flip-flops")?;
+            let help = String::from_str(
+                alloc,
+                "declare it, or let the settings name the clock: clock = \"..\"",
+            )?;
+            Ok(Found::InStimulus(Finding::at(&front(stimulus.text), cause, help)))
+        }
+    }
+}
+
+/// Where a bench defines a net.
+fn defining<'a>(alloc: Global, text: &'a [u8], name: &str) -> Result<Option<Word<'a>>, AllocError> {
+    let mut at = 0usize;
+    for line in text.split_inclusive(|byte| *byte == b'\n') {
+        let pieces = pieces(alloc, &Word { at, text: line })?;
+        if let Some(net) = defined(pieces.as_slice()) {
+            if net.is(name) {
+                return Ok(Some(net));
+            }
+        }
+        at = at.saturating_add(line.len());
+    }
+    Ok(None)
+}

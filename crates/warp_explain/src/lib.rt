@@ -1,0 +1,27 @@
+//! Why a text is refused, told for people.
+//!
+//! For each fault a function answers what stands behind the fault's own line: the place as file, line and column, the text
+//! of that line with marks below what is meant, the cause in a sentence with the names concerned, and what to do about it
+//! where that is known. Proved is the place and the line that is shown (`specs/Explained`, and `specs/Told` of
+//! `text_places`); nothing is promised of the sentences, of which `examples/faults/explained` has each.
+#![tactic(auto)]
+
+mod bench;
+mod causes;
+mod explain;
+mod finding;
+mod form;
+mod inputs;
+mod keys;
+mod look;
+mod quoted;
+mod schedule;
+mod settings;
+mod stimulus;
+mod variables;
+mod words;
+
+pub use explain::{
+    explain_bench, explain_event, explain_schedule, explain_settings, explain_stimulus,
+    explain_unfinished,
+};

@@ -1,0 +1,128 @@
+//! What a text looks like that stands where another is expected.
+use crate::words::{Word, is_space, line_around, word_from};
+
+/// What a text looks like.
+#[derive(Clone, Copy, PartialEq, Eq)]
+pub(crate) enum Look {
+    ByteOrderMark,
+    Utf16,
+    Gzip,
+    Fst,
+    Verilog,
+    Vhdl,
+    Dump,
+    PortDump,
+    Bench,
+    Settings,
+    Other,
+}
+
+/// The first bytes of an FST, whose head is 329 bytes long.
+const FST: [u8; 9] = [0, 0, 0, 0, 0, 0, 0, 1, 73];
+
+impl Look {
+    pub(crate) fn of(text: &[u8]) -> Look {
+        Look::of_bytes(text).unwrap_or(Look::of_words(text))
+    }
+
+    /// By bytes that no text begins with.
+    fn of_bytes(text: &[u8]) -> Option<Look> {
+        if text.starts_with(&[0xEF, 0xBB, 0xBF]) {
+            return Some(Look::ByteOrderMark);
+        }
+        if text.starts_with(&[0xFF, 0xFE]) || text.starts_with(&[0xFE, 0xFF]) {
+            return Some(Look::Utf16);
+        }
+        if text.starts_with(&[0x1F, 0x8B]) {
+            return Some(Look::Gzip);
+        }
+        if text.starts_with(&FST) {
+            return Some(Look::Fst);
+        }
+        match text {
+            [0, other, ..] | [other, 0, ..] if *other != 0 => Some(Look::Utf16),
+            _ => None,
+        }
+    }
+
+    /// By the first line that says something.
+    fn of_words(text: &[u8]) -> Look {
+        let line = first_line(text);
+        let first = word_from(line.text, 0);
+        match first.text {
+            [b'$', ..] if has_ports(text) => Look::PortDump,
+            [b'$', ..] => Look::Dump,
+            [b'`', ..] | [b'/', b'/', ..] | [b'/', b'*', ..] | [b'(', b'*', ..] => Look::Verilog,
+            [b'-', b'-', ..] => Look::Vhdl,
+            [b'[', ..] => Look::Settings,
+            _ if first.is("module") => Look::Verilog,
+            _ if first.is_like("library") || first.is_like("entity") => Look::Vhdl,
+            _ if line.text.contains(&b'(') => Look::Bench,
+            _ if line.text.contains(&b'=') => Look::Settings,
+            _ => Look::Other,
+        }
+    }
+
+    /// What it is called, with its article.
+    pub(crate) fn name(self) -> &'static str {
+        match self {
+            Look::ByteOrderMark => "a text with a byte order mark",
+            Look::Utf16 => "a text in UTF-16",
+            Look::Gzip => "compressed by gzip",
+            Look::Fst => "a dump in the format FST",
+            Look::Verilog => "Verilog",
+            Look::Vhdl => "VHDL",
+            Look::Dump => "a value change dump",
+            Look::PortDump => "an extended value change dump, of ports",
+            Look::Bench => "a bench",
+            Look::Settings => "a settings text",
+            Look::Other => "something else",
+        }
+    }
+
+    /// What to do with such a text.
+    pub(crate) fn advice(self) -> &'static str {
+        match self {
+            Look::ByteOrderMark =>
+                "save it as UTF-8 without the mark, or drop its first three bytes: tail -c +4 FILE",
+            Look::Utf16 => "turn it into UTF-8: iconv -f UTF-16 -t UTF-8 FILE",
+            Look::Gzip => "unpack it first: gunzip -c FILE",
+            Look::Fst => "turn it into a value change dump first: fst2vcd FILE",
+            Look::Verilog => "make a bench of it first: examples/verilog_to_bench needs yosys",
+            Look::Vhdl =>
+                "make a bench of it first: GHDL and yosys make Verilog of it, and examples/verilog_to_bench a bench of that",
+            Look::Dump => "a dump is the STIMULUS, which stands behind the BENCH",
+            Look::PortDump =>
+                "let the simulator write a dump of four values, by $dumpvars in place of $dumpports",
+            Look::Bench => "a bench is the BENCH, which stands before the STIMULUS",
+            Look::Settings => "settings are given as --settings FILE",
+            Look::Other => "",
+        }
+    }
+}
+
+/// The first line that is neither blank nor a comment of a bench or of settings.
+fn first_line(text: &[u8]) -> Word<'_> {
+    let mut at = 0usize;
+    for line in text.split_inclusive(|byte| *byte == b'\n') {
+        match word_from(line, 0).text.first() {
+            None | Some(b'#') => at = at.saturating_add(line.len()),
+            Some(_) => break,
+        }
+    }
+    line_around(text, at)
+}
+
+/// Whether a dump declares a variable of the type `port`.
+fn has_ports(text: &[u8]) -> bool {
+    let mut is_behind_var = false;
+    for word in text.split(|byte| is_space(*byte)) {
+        if is_behind_var && word == b"port".as_slice() {
+            return true;
+        }
+        if !word.is_empty() {
+            is_behind_var = word == b"$var".as_slice();
+        }
+    }
+    false
+}
