@@ -1,4 +1,7 @@
-"""Texts that are cut off, and texts with one byte changed: the program's answer against the judge's (judge.py)."""
+"""Texts that are cut off, and texts with one byte changed: the program's answer against the judge's (judge.py).
+
+The program is asked to explain what it refuses. What follows its line has to have its form, and is then left out.
+"""
 import os
 import re
 from collections import Counter
@@ -22,6 +25,7 @@ LINE = re.compile(
     rf"(bench line \d+: ({BENCH_CAUSES})|settings: ({SETTINGS_CAUSES})|stimulus at \d+: ({TOKEN_CAUSES})"
     rf"|stimulus net \d+: (MissingInput|NotScalar)|schedule line \d+: (BadLine|NumberTooLarge)"
     rf"|event \d+: (NoSuchBlock|NoSuchMessage)|unfinished at \d+)\n")
+EXPLAINED = re.compile(rb"([^\n]+\n)[^\n]+:[0-9]+:[0-9]+: [^\n]+\n  [0-9]+ \| [^\n]*\n +\| *\^+\n(  help: [^\n]+\n)?")
 THROUGH_REPLAY = re.compile(r"(event|unfinished) ")
 
 
@@ -60,7 +64,7 @@ def cases(has_schedule):
 
 def answer_of(program, texts, until):
     """What the program answers; the texts lie in files of this process."""
-    words, names = [program, "replay" if "schedule" in texts else "run", "--until", str(until)], []
+    words, names = [program, "replay" if "schedule" in texts else "run", "--explain", "--until", str(until)], []
     for name, text in texts.items():
         path = os.path.join(play._room, f"{name}.{os.getpid()}")
         with open(path, "wb") as file:
@@ -89,6 +93,11 @@ def tried(task):
     """How a text was answered, whether the judge knew it, and what is wrong."""
     program, name, texts, until = task
     answer, wanted = answer_of(program, texts, until), None
+    explained = EXPLAINED.fullmatch(answer.err)
+    if explained:
+        answer.err = explained[1]
+    elif answer.err:
+        return answer.status, False, f"{name} {texts[name][-60:]!r}: not explained: {answer.short()}"
     if "schedule" not in texts:
         wanted = judged(texts["bench"], texts["settings"], texts["stimulus"], until)
     fault = fault_of(answer, wanted, "schedule" in texts)

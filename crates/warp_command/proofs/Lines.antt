@@ -1,5 +1,5 @@
 -- From what `clap` answers to what the words of a line ask for.
-use Rattle.std.proofs.Common.{◌≡◌, ◌⊎◌, ◌∙◌, ap, sym, subst, inl, inr, refl, ℕ, List, [], true, Option, None, Some, Result, Ok, Err, option_map, codes}
+use Rattle.std.proofs.Common.{◌≡◌, ◌⊎◌, ◌∙◌, ap, sym, subst, inl, inr, refl, ℕ, List, [], Bool, false, true, Option, None, Some, Result, Ok, Err, option_map, codes}
 use Rattle.std.proofs.lemmas.Slice.Eq.{bytes_eq-Decides}
 use Rattle.std.specs.Borrow.{Bor}
 use Rattle.std.specs.Result.{result_unwrap_or}
@@ -11,7 +11,7 @@ use Rattle.clap.specs.declared.error.kind.ErrorKind.{ErrorKind}
 use Rattle.clap.specs.declared.error.kind.ErrorKind.TheVariants as kind
 use Rattle.clap.specs.declared.parser.matches.ArgMatches.{ArgMatches}
 use Rattle.warp_command.specs.App.{program_app}
-use Rattle.warp_command.specs.Lines.{Asks, Rows, IsRead, IsRequest, number_in, text_in, text_behind}
+use Rattle.warp_command.specs.Lines.{Asks, Rows, IsFlag, IsRead, IsRequest, number_in, text_in, text_behind}
 use Rattle.warp_command.specs.Outside.{is_input}
 use Rattle.warp_command.specs.Inner.Line.{IsToldAs, rows_in}
 use Rattle.warp_command.specs.declared.failure.Failure.{Failure}
@@ -23,6 +23,16 @@ use Rattle.warp_command.specs.declared.request.Request.TheVariants as requests
 -- the text that `clap` reads of a name stands in the rows
 pub text_read : (m : ArgMatches) (name : Text) (text : Option (Bor Text)) → text_behind text ≡ first_value (found_of m) name → text_in (rows_in m) name ≡ text_behind text
 text_read m name text is = sym (first_value-rows (found_of m) name) ∙ sym is
+
+-- the flag that `clap` reads of a name is that of the rows
+pub flag_read : (m : ArgMatches) (name : Text) (flag : Bool) → (one_text (found_of m) name ≡ None → flag ≡ false)
+    → (one_text (found_of m) name ≡ Some (codes "true") → flag ≡ true) → (one_text (found_of m) name ≡ Some (codes "false") → flag ≡ false)
+    → IsFlag (rows_in m) name flag
+flag_read m name flag none set unset = record {
+  set = λ is. set (one_text-rows (found_of m) name ∙ is);
+  unset = λ is. unset (one_text-rows (found_of m) name ∙ is);
+  absent = λ is. none (one_text-rows (found_of m) name ∙ is);
+}
 
 -- the name of standard input
 pub input_named : (text : Option Text) (name : Text) → text ≡ Some name → is_input name ≡ true → text ≡ Some (codes "-")

@@ -2,7 +2,7 @@
 use Rattle.std.specs.Prelude.{List, [], ◌∷◌, Some, true, false, pos, codes}
 use Rattle.clap.specs.Words.{App, Rule, Shape, Text, new_rule}
 use Rattle.clap.specs.Simple.{new_shape}
-use Rattle.clap.specs.declared.builder.action.ArgAction.TheVariants.{Set}
+use Rattle.clap.specs.declared.builder.action.ArgAction.TheVariants.{Set, SetTrue}
 use Rattle.clap.specs.declared.builder.value_parser.ValueParser.{ValueParser}
 use Rattle.clap.specs.declared.builder.value_parser.ValueParser.TheVariants.{Signed, Unsigned}
 use Rattle.warp_block.specs.Limits.{most_horizon}
@@ -38,6 +38,10 @@ window_rule = with_default (number_option (codes "window") (Signed (pos 1) (pos 
 abbrev pub settings_rule : Rule
 settings_rule = option (codes "settings")
 
+-- a flag, which is set or not
+abbrev pub explain_rule : Rule
+explain_rule = record (new_rule (codes "explain")) { long = Some (codes "explain"); action = Some SetTrue }
+
 -- the arguments without a name, in their order
 abbrev pub bench_rule : Rule
 bench_rule = required (new_rule (codes "BENCH"))
@@ -54,17 +58,17 @@ shape name rules = record (new_shape name) { rules = rules }
 
 abbrev pub run_shape : Shape
 run_shape = shape (codes "run")
-    (until_rule ∷ blocks_rule ∷ workers_rule ∷ window_rule ∷ settings_rule ∷ bench_rule ∷ stimulus_rule ∷ [])
+    (until_rule ∷ blocks_rule ∷ workers_rule ∷ window_rule ∷ settings_rule ∷ explain_rule ∷ bench_rule ∷ stimulus_rule ∷ [])
 
 abbrev pub replay_shape : Shape
 replay_shape = shape (codes "replay")
-    (until_rule ∷ blocks_rule ∷ settings_rule ∷ bench_rule ∷ required stimulus_rule ∷ schedule_rule ∷ [])
+    (until_rule ∷ blocks_rule ∷ settings_rule ∷ explain_rule ∷ bench_rule ∷ required stimulus_rule ∷ schedule_rule ∷ [])
 
 abbrev pub check_shape : Shape
-check_shape = shape (codes "check") (settings_rule ∷ bench_rule ∷ [])
+check_shape = shape (codes "check") (settings_rule ∷ explain_rule ∷ bench_rule ∷ [])
 
 abbrev pub nets_shape : Shape
-nets_shape = shape (codes "nets") (settings_rule ∷ bench_rule ∷ [])
+nets_shape = shape (codes "nets") (settings_rule ∷ explain_rule ∷ bench_rule ∷ [])
 
 -- the program, which does nothing without a command
 unfoldable pub program_app : App

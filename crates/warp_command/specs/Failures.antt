@@ -13,6 +13,7 @@ failure_text failures.StimulusExpected = codes "stimulus expected" ++ 10 ∷ []
 failure_text failures.StimulusNotExpected = codes "stimulus not expected" ++ 10 ∷ []
 failure_text (failures.Unreadable name) = codes "cannot read " ++ name.now ++ 10 ∷ []
 failure_text (failures.Fault fault) = fault_line fault ++ 10 ∷ []
+failure_text (failures.Explained fault text) = fault_line fault ++ 10 ∷ string_bytes text
 failure_text failures.Unwritten = codes "cannot write" ++ 10 ∷ []
 
 -- 2 for a refused line, 4 for a file or a write, else the fault's
@@ -24,4 +25,5 @@ failure_status failures.StimulusExpected = 2
 failure_status failures.StimulusNotExpected = 2
 failure_status (failures.Unreadable name) = 4
 failure_status (failures.Fault fault) = status_of fault
+failure_status (failures.Explained fault text) = status_of fault
 failure_status failures.Unwritten = 4

@@ -36,6 +36,12 @@ text_in rows name = first_of name rows
 abbrev pub text_behind : Option (Bor Text) → Option Text
 text_behind = option_map (λ text. text.now)
 
+-- what is read of a flag, which `clap` gives as a text
+pub record IsFlag (rows : Rows) (name : Text) (flag : Bool) : Type 0 where
+  pub set : one_of name rows ≡ Some (codes "true") → flag ≡ true
+  pub unset : one_of name rows ≡ Some (codes "false") → flag ≡ false
+  pub absent : one_of name rows ≡ None → flag ≡ false
+
 pub record AreOptions (rows : Rows) (options : Options) : Type 0 where
   pub until : number_in rows (codes "until") ≡ Some options.until
   pub blocks : number_in rows (codes "blocks") ≡ options.blocks
@@ -50,22 +56,26 @@ AreSources rows (sources.Apart bench stimulus) =
 
 pub record IsRun (rows : Rows) (run : Run) : Type 0 where
   pub options : AreOptions rows run.options
+  pub explains : IsFlag rows (codes "explain") run.explains
   pub settings : text_in rows (codes "settings") ≡ text_behind run.settings
   pub sources : AreSources rows run.sources
 
 pub record IsReplay (rows : Rows) (replay : Replay) : Type 0 where
   pub until : number_in rows (codes "until") ≡ Some replay.options.until
   pub blocks : number_in rows (codes "blocks") ≡ replay.options.blocks
+  pub explains : IsFlag rows (codes "explain") replay.explains
   pub settings : text_in rows (codes "settings") ≡ text_behind replay.settings
   pub bench : text_in rows (codes "BENCH") ≡ Some replay.bench.now
   pub stimulus : text_in rows (codes "STIMULUS") ≡ Some replay.stimulus.now
   pub schedule : text_in rows (codes "SCHEDULE") ≡ Some replay.schedule.now
 
 pub record IsCheck (rows : Rows) (check : Check) : Type 0 where
+  pub explains : IsFlag rows (codes "explain") check.explains
   pub settings : text_in rows (codes "settings") ≡ text_behind check.settings
   pub bench : text_in rows (codes "BENCH") ≡ Some check.bench.now
 
 pub record IsListing (rows : Rows) (listing : Listing) : Type 0 where
+  pub explains : IsFlag rows (codes "explain") listing.explains
   pub settings : text_in rows (codes "settings") ≡ text_behind listing.settings
   pub bench : text_in rows (codes "BENCH") ≡ Some listing.bench.now
 

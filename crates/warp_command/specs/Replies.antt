@@ -1,5 +1,5 @@
 -- What a request is answered, over the texts in the order in which they are fetched.
-use Rattle.std.specs.Prelude.{◌≡◌, ℕ, List, [], Option, None, Some, Result, Ok, Err, Vec, codes, string_bytes, IsOkAnd}
+use Rattle.std.specs.Prelude.{◌≡◌, ℕ, List, [], Bool, true, Option, None, Some, Result, Ok, Err, Vec, codes, string_bytes, IsOkAnd}
 use Rattle.std.specs.Borrow.{Bor}
 use Rattle.std.specs.declared.alloc.Global.{Global}
 use Rattle.warp_text.specs.Answer.{IsAnswer, IsCounted, IsListed}
@@ -9,6 +9,7 @@ use Rattle.warp_command.specs.Joined.{lines, before_parting, after_parting}
 use Rattle.gate_netlist.specs.declared.counts.Counts.{Counts}
 use Rattle.warp_command.specs.declared.failure.Failure.{Failure}
 use Rattle.warp_command.specs.declared.failure.Failure.TheVariants as failures
+use Rattle.warp_text.specs.declared.fault.Fault.{Fault}
 use Rattle.warp_text.specs.declared.fault.Fault.TheVariants as faults
 use Rattle.warp_command.specs.declared.request.Request.{Request}
 use Rattle.warp_command.specs.declared.request.Request.TheVariants as requests
@@ -60,35 +61,41 @@ abbrev pub FetchesSettings : {T : Type 0} → Fetching T → Option (Bor (List �
 FetchesSettings gives None = Ends (λ result. IsOkAnd result (λ text. text.items ≡ []))
 FetchesSettings gives (Some name) = Fetches gives name.now
 
-abbrev pub IsSimulated : (bench settings stimulus : List ℕ) (until : ℕ) → Reply → Type 0
-IsSimulated bench settings stimulus until (Ok dump) = IsAnswer bench settings stimulus until (Ok dump)
-IsSimulated bench settings stimulus until (Err (failures.Fault fault)) = IsAnswer bench settings stimulus until (Err fault)
-IsSimulated bench settings stimulus until (Err _) = ⊥
+-- such a fault is told, and explained only where that is asked for
+abbrev pub IsRefusal : (explains : Bool) → (Fault → Type 0) → Failure → Type 0
+IsRefusal explains Is (failures.Fault fault) = Is fault
+IsRefusal explains Is (failures.Explained fault text) = (explains ≡ true) × Is fault
+IsRefusal explains Is _ = ⊥
+
+abbrev pub IsSimulated : (explains : Bool) → (bench settings stimulus : List ℕ) (until : ℕ) → Reply → Type 0
+IsSimulated explains bench settings stimulus until (Ok dump) = IsAnswer bench settings stimulus until (Ok dump)
+IsSimulated explains bench settings stimulus until (Err failure) =
+    IsRefusal explains (λ fault. IsAnswer bench settings stimulus until (Err fault)) failure
 
 -- standard input holds both texts
-abbrev pub RunsJoined : {T : Type 0} → Fetching T → List ℕ → ℕ → Step T
-RunsJoined gives settings until =
+abbrev pub RunsJoined : {T : Type 0} → Fetching T → (explains : Bool) → List ℕ → ℕ → Step T
+RunsJoined gives explains settings until =
     Then (Fetches gives (codes "-")) (λ joined.
-    Ends (IsSimulated (before_parting (lines joined.items)) settings (after_parting (lines joined.items)) until))
+    Ends (IsSimulated explains (before_parting (lines joined.items)) settings (after_parting (lines joined.items)) until))
 
 -- each text has its name
-abbrev pub RunsApart : {T : Type 0} → Fetching T → (bench_name stimulus_name : List ℕ) → List ℕ → ℕ → Step T
-RunsApart gives bench_name stimulus_name settings until =
+abbrev pub RunsApart : {T : Type 0} → Fetching T → (explains : Bool) → (bench_name stimulus_name : List ℕ) → List ℕ → ℕ → Step T
+RunsApart gives explains bench_name stimulus_name settings until =
     Then (Fetches gives bench_name) (λ bench.
     Then (Fetches gives stimulus_name) (λ stimulus.
-    Ends (IsSimulated bench.items settings stimulus.items until)))
+    Ends (IsSimulated explains bench.items settings stimulus.items until)))
 
-abbrev pub RunsSources : {T : Type 0} → Fetching T → Sources → List ℕ → ℕ → Step T
-RunsSources gives sources.Joined = RunsJoined gives
-RunsSources gives (sources.Apart bench stimulus) = RunsApart gives bench.now stimulus.now
+abbrev pub RunsSources : {T : Type 0} → Fetching T → (explains : Bool) → Sources → List ℕ → ℕ → Step T
+RunsSources gives explains sources.Joined = RunsJoined gives explains
+RunsSources gives explains (sources.Apart bench stimulus) = RunsApart gives explains bench.now stimulus.now
 
 abbrev pub Runs : {T : Type 0} → Fetching T → Run → Step T
-Runs gives run = Then (FetchesSettings gives run.settings) (λ settings. RunsSources gives run.sources settings.items run.options.until)
+Runs gives run = Then (FetchesSettings gives run.settings) (λ settings. RunsSources gives run.explains run.sources settings.items run.options.until)
 
-abbrev pub IsReplayed : (bench settings stimulus schedule : List ℕ) → Option ℕ → ℕ → Reply → Type 0
-IsReplayed bench settings stimulus schedule blocks until (Ok dump) = IsReplay bench settings stimulus schedule blocks until (Ok dump)
-IsReplayed bench settings stimulus schedule blocks until (Err (failures.Fault fault)) = IsReplay bench settings stimulus schedule blocks until (Err fault)
-IsReplayed bench settings stimulus schedule blocks until (Err _) = ⊥
+abbrev pub IsReplayed : (explains : Bool) → (bench settings stimulus schedule : List ℕ) → Option ℕ → ℕ → Reply → Type 0
+IsReplayed explains bench settings stimulus schedule blocks until (Ok dump) = IsReplay bench settings stimulus schedule blocks until (Ok dump)
+IsReplayed explains bench settings stimulus schedule blocks until (Err failure) =
+    IsRefusal explains (λ fault. IsReplay bench settings stimulus schedule blocks until (Err fault)) failure
 
 -- a schedule is played
 abbrev pub Replays : {T : Type 0} → Fetching T → Replay → Step T
@@ -97,32 +104,33 @@ Replays gives replay =
     Then (Fetches gives replay.bench.now) (λ bench.
     Then (Fetches gives replay.stimulus.now) (λ stimulus.
     Then (Fetches gives replay.schedule.now) (λ schedule.
-    Ends (IsReplayed bench.items settings.items stimulus.items schedule.items replay.options.blocks replay.options.until)))))
+    Ends (IsReplayed replay.explains bench.items settings.items stimulus.items schedule.items replay.options.blocks replay.options.until)))))
 
 -- the counts are printed; want of memory may keep them from it
-abbrev pub IsCountReply : (bench settings : List ℕ) → Reply → Type 0
-IsCountReply bench settings (Ok text) = (counts : Counts) × (IsCounted bench settings (Ok counts) × (text.items ≡ count_lines counts))
-IsCountReply bench settings (Err (failures.Fault faults.Memory)) = Unit {0}
-IsCountReply bench settings (Err (failures.Fault fault)) = IsCounted bench settings (Err fault)
-IsCountReply bench settings (Err _) = ⊥
+abbrev pub IsUncounted : (bench settings : List ℕ) → Fault → Type 0
+IsUncounted bench settings faults.Memory = Unit {0}
+IsUncounted bench settings fault = IsCounted bench settings (Err fault)
+
+abbrev pub IsCountReply : (explains : Bool) → (bench settings : List ℕ) → Reply → Type 0
+IsCountReply explains bench settings (Ok text) = (counts : Counts) × (IsCounted bench settings (Ok counts) × (text.items ≡ count_lines counts))
+IsCountReply explains bench settings (Err failure) = IsRefusal explains (IsUncounted bench settings) failure
 
 abbrev pub Checks : {T : Type 0} → Fetching T → Check → Step T
 Checks gives check =
     Then (FetchesSettings gives check.settings) (λ settings.
     Then (Fetches gives check.bench.now) (λ bench.
-    Ends (IsCountReply bench.items settings.items)))
+    Ends (IsCountReply check.explains bench.items settings.items)))
 
 -- the nets are listed
-abbrev pub IsNetsReply : (bench settings : List ℕ) → Reply → Type 0
-IsNetsReply bench settings (Ok text) = IsListed bench settings (Ok text)
-IsNetsReply bench settings (Err (failures.Fault fault)) = IsListed bench settings (Err fault)
-IsNetsReply bench settings (Err _) = ⊥
+abbrev pub IsNetsReply : (explains : Bool) → (bench settings : List ℕ) → Reply → Type 0
+IsNetsReply explains bench settings (Ok text) = IsListed bench settings (Ok text)
+IsNetsReply explains bench settings (Err failure) = IsRefusal explains (λ fault. IsListed bench settings (Err fault)) failure
 
 abbrev pub Lists : {T : Type 0} → Fetching T → Listing → Step T
 Lists gives listing =
     Then (FetchesSettings gives listing.settings) (λ settings.
     Then (Fetches gives listing.bench.now) (λ bench.
-    Ends (IsNetsReply bench.items settings.items)))
+    Ends (IsNetsReply listing.explains bench.items settings.items)))
 
 -- what a request is answered
 abbrev pub Replies : {T : Type 0} → Fetching T → Request → Step T

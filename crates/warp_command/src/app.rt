@@ -8,7 +8,9 @@ ghost use Rattle.warp_command.specs.App.{
   workers_rule,
   window_rule,
   settings_rule,
+  explain_rule,
   bench_rule,
+  stimulus_rule,
   run_shape,
   replay_shape,
   check_shape,
@@ -35,6 +37,15 @@ fn settings_option<'a>(alloc: Global) -> Arg<'a>
         .help("Delays, clock, scope and cut, as TOML")
 }
 
+fn explain_flag<'a>(alloc: Global) -> Arg<'a>
+    ensures { HasRule explain_rule result }
+{
+    Arg::new(alloc, "explain")
+        .long("explain")
+        .action(ArgAction::SetTrue)
+        .help("Tells behind the line of a refused text where it stands, why, and what to do")
+}
+
 fn required_argument<'a>(alloc: Global, name: &'a str, help: &'a str) -> Arg<'a>
     ensures { HasRule (required (new_rule name.entry.now)) result }
 {
@@ -45,6 +56,12 @@ fn bench_argument<'a>(alloc: Global, help: &'a str) -> Arg<'a>
     ensures { HasRule bench_rule result }
 {
     required_argument(alloc, "BENCH", help)
+}
+
+fn stimulus_argument<'a>(alloc: Global) -> Arg<'a>
+    ensures { HasRule stimulus_rule result }
+{
+    Arg::new(alloc, "STIMULUS").help("The inputs' changes, as VCD")
 }
 
 fn until_option<'a>(alloc: Global) -> Arg<'a>
@@ -98,7 +115,6 @@ fn run_command<'a>(alloc: Global) -> Result<Command<'a>, AllocError>
     ensures { IfOk result (HasShape run_shape) }
 {
     let bench = "The circuit; - for standard input, with the stimulus after a line %%";
-    let stimulus = Arg::new(alloc, "STIMULUS").help("The inputs' changes, as VCD");
     Command::new(alloc, "run")
         .about("Simulates a circuit and writes its value change dump")
         .arg(until_option(alloc))?
@@ -106,8 +122,9 @@ fn run_command<'a>(alloc: Global) -> Result<Command<'a>, AllocError>
         .arg(workers_option(alloc))?
         .arg(window_option(alloc))?
         .arg(settings_option(alloc))?
+        .arg(explain_flag(alloc))?
         .arg(bench_argument(alloc, bench))?
-        .arg(stimulus)
+        .arg(stimulus_argument(alloc))
 }
 
 fn replay_command<'a>(alloc: Global) -> Result<Command<'a>, AllocError>
@@ -120,6 +137,7 @@ fn replay_command<'a>(alloc: Global) -> Result<Command<'a>, AllocError>
         .arg(until_option(alloc))?
         .arg(blocks_option(alloc))?
         .arg(settings_option(alloc))?
+        .arg(explain_flag(alloc))?
         .arg(bench_argument(alloc, "The circuit; - for standard input"))?
         .arg(stimulus)?
         .arg(schedule)
@@ -131,6 +149,7 @@ fn check_command<'a>(alloc: Global) -> Result<Command<'a>, AllocError>
     Command::new(alloc, "check")
         .about("Counts the parts of a circuit")
         .arg(settings_option(alloc))?
+        .arg(explain_flag(alloc))?
         .arg(bench_argument(alloc, "The circuit; - for standard input"))
 }
 
@@ -140,6 +159,7 @@ fn nets_command<'a>(alloc: Global) -> Result<Command<'a>, AllocError>
     Command::new(alloc, "nets")
         .about("Says of each net its number, code and name, what sets it, its delay and its block")
         .arg(settings_option(alloc))?
+        .arg(explain_flag(alloc))?
         .arg(bench_argument(alloc, "The circuit; - for standard input"))
 }
 

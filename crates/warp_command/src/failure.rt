@@ -25,6 +25,8 @@ pub enum Failure<'a> {
     Unreadable(&'a str),
     /// A text is refused, or memory ran out.
     Fault(Fault),
+    /// A text is refused, or a schedule, and this is told behind the fault's line.
+    Explained { fault: Fault, text: String },
     /// Standard output doesn't take what is written.
     Unwritten,
 }
@@ -38,7 +40,7 @@ impl Failure<'_> {
             Failure::Line(_) | Failure::NotText | Failure::Incomplete => 2,
             Failure::StimulusExpected | Failure::StimulusNotExpected => 2,
             Failure::Unreadable(_) | Failure::Unwritten => 4,
-            Failure::Fault(fault) => fault.status(),
+            Failure::Fault(fault) | Failure::Explained { fault, .. } => fault.status(),
         }
     }
 }
@@ -56,6 +58,7 @@ impl fmt::Display for Failure<'_> {
             Failure::StimulusNotExpected => f.write_str("stimulus not expected\n"),
             Failure::Unreadable(name) => write!(f, "cannot read {name}\n"),
             Failure::Fault(fault) => write!(f, "{fault}\n"),
+            Failure::Explained { fault, text } => write!(f, "{fault}\n{text}"),
             Failure::Unwritten => f.write_str("cannot write\n"),
         }
     }

@@ -9,6 +9,7 @@
 mod app;
 mod channel;
 mod ending;
+mod explained;
 mod failure;
 mod joined;
 mod line;

@@ -9,6 +9,7 @@ ghost use Rattle.warp_command.specs.Lines.{
   Asks,
   AreOptions,
   AreSources,
+  IsFlag,
   IsRun,
   IsReplay,
   IsCheck,
@@ -74,6 +75,14 @@ fn given_text_of<'a>(found: &ArgMatches<'a>, name: &str) -> Result<&'a str, Fail
     }
 }
 
+/// Whether a refused text is to be explained.
+#[tactic(auto, using(crate::proofs::Lines::flag_read))]
+fn explains_of(found: &ArgMatches<'_>) -> bool
+    ensures { IsFlag (rows_in found.now) (codes "explain") result }
+{
+    found.get_flag("explain")
+}
+
 /// The name of the settings' text, where the line gives one.
 fn settings_of<'a>(found: &ArgMatches<'a>) -> Option<&'a str>
     ensures { text_in (rows_in found.now) (codes "settings") ≡ text_behind result }
@@ -119,10 +128,12 @@ fn run_of<'a>(found: &ArgMatches<'a>) -> Result<Run<'a>, Failure<'a>>
     ensures { IsRead (IsRun (rows_in found.now)) result }
 {
     let options = options_of(found)?;
+    let explains = explains_of(found);
     let settings = settings_of(found);
     let sources = sources_of(found)?;
     Ok(Run {
         options,
+        explains,
         settings,
         sources,
     })
@@ -144,12 +155,14 @@ fn replay_of<'a>(found: &ArgMatches<'a>) -> Result<Replay<'a>, Failure<'a>>
     ensures { IsRead (IsReplay (rows_in found.now)) result }
 {
     let options = replay_options_of(found)?;
+    let explains = explains_of(found);
     let settings = settings_of(found);
     let bench = given_text_of(found, "BENCH")?;
     let stimulus = given_text_of(found, "STIMULUS")?;
     let schedule = given_text_of(found, "SCHEDULE")?;
     Ok(Replay {
         options,
+        explains,
         settings,
         bench,
         stimulus,
@@ -160,17 +173,27 @@ fn replay_of<'a>(found: &ArgMatches<'a>) -> Result<Replay<'a>, Failure<'a>>
 fn check_of<'a>(found: &ArgMatches<'a>) -> Result<Check<'a>, Failure<'a>>
     ensures { IsRead (IsCheck (rows_in found.now)) result }
 {
+    let explains = explains_of(found);
     let settings = settings_of(found);
     let bench = given_text_of(found, "BENCH")?;
-    Ok(Check { settings, bench })
+    Ok(Check {
+        explains,
+        settings,
+        bench,
+    })
 }
 
 fn listing_of<'a>(found: &ArgMatches<'a>) -> Result<Listing<'a>, Failure<'a>>
     ensures { IsRead (IsListing (rows_in found.now)) result }
 {
+    let explains = explains_of(found);
     let settings = settings_of(found);
     let bench = given_text_of(found, "BENCH")?;
-    Ok(Listing { settings, bench })
+    Ok(Listing {
+        explains,
+        settings,
+        bench,
+    })
 }
 
 /// What the command of a line and what stands behind it ask for.

@@ -17,6 +17,7 @@ ghost use Rattle.warp_command.specs.Replies.{
   Replies,
 };
 
+use crate::explained::{Given, at_end, nothing, refused, whole};
 use crate::failure::Failure;
 use crate::joined::split_joined;
 use crate::request::{Check, Listing, Replay, Request, Run, Sources};
@@ -24,6 +25,7 @@ use crate::texts::{FetchFault, Texts};
 use std::alloc::Global;
 use std::sync::Wait;
 use std::thread::Threads;
+use text_places::Source;
 use warp_rounds::NoGate;
 use warp_text::{
     Fault, Options, count_text, counts_of_texts, nets_of_texts, replay_text, simulate_text,
@@ -52,31 +54,44 @@ fn fetch_settings<'a, T: Texts>(
     }
 }
 
+#[tactic(auto, using(crate::proofs::Refused::refusal_of))]
 fn simulated<'a, R: Threads + Wait + Sync>(
     rt: &R,
     alloc: Global,
-    bench: &[u8],
-    settings: &[u8],
-    stimulus: &[u8],
+    given: &Given<'_>,
     options: &Options,
+    explains: bool,
 ) -> Result<Vec<u8>, Failure<'a>>
-    ensures { IsSimulated bench.now settings.now stimulus.now options.now.until result }
+    ensures { IsSimulated explains given.now.bench.text.now given.now.settings.text.now given.now.stimulus.text.now
+        options.now.until result }
 {
-    Ok(simulate_text(rt, alloc, bench, settings, stimulus, options, &NoGate)?)
+    let bench = given.bench.text;
+    let settings = given.settings.text;
+    let stimulus = given.stimulus.text;
+    match simulate_text(rt, alloc, bench, settings, stimulus, options, &NoGate) {
+        Ok(dump) => Ok(dump),
+        Err(fault) => Err(refused(alloc, explains, given, fault)),
+    }
 }
 
 fn run_joined<'a, R: Threads + Wait + Sync, T: Texts>(
     rt: &R,
     alloc: Global,
-    settings: &[u8],
-    options: &Options,
+    settings: &Source<'_>,
+    run: &Run<'_>,
     texts: &mut T,
 ) -> Result<Vec<u8>, Failure<'a>>
-    ensures { RunsJoined T.gives settings.now options.now.until texts.old result texts.new }
+    ensures { RunsJoined T.gives run.now.explains settings.now.text.now run.now.options.until texts.old result texts.new }
 {
     let joined = fetch(alloc, "-", texts)?;
     let (bench, stimulus) = split_joined(joined.as_slice());
-    simulated(rt, alloc, bench, settings, stimulus, options)
+    let given = Given {
+        bench: whole("-", bench),
+        settings: *settings,
+        stimulus: at_end("-", stimulus, joined.as_slice()),
+        schedule: nothing(),
+    };
+    simulated(rt, alloc, &given, &run.options, run.explains)
 }
 
 fn run_apart<'a, R: Threads + Wait + Sync, T: Texts>(
@@ -84,40 +99,44 @@ fn run_apart<'a, R: Threads + Wait + Sync, T: Texts>(
     alloc: Global,
     bench: &'a str,
     stimulus: &'a str,
-    settings: &[u8],
-    options: &Options,
+    settings: &Source<'_>,
+    run: &Run<'_>,
     texts: &mut T,
 ) -> Result<Vec<u8>, Failure<'a>>
-    ensures { RunsApart T.gives bench.entry.now stimulus.entry.now settings.now options.now.until texts.old result texts.new }
+    ensures { RunsApart T.gives run.now.explains bench.entry.now stimulus.entry.now settings.now.text.now run.now.options.until
+        texts.old result texts.new }
 {
-    let bench = fetch(alloc, bench, texts)?;
-    let stimulus = fetch(alloc, stimulus, texts)?;
-    simulated(
-        rt,
-        alloc,
-        bench.as_slice(),
-        settings,
-        stimulus.as_slice(),
-        options,
-    )
+    let bench_text = fetch(alloc, bench, texts)?;
+    let stimulus_text = fetch(alloc, stimulus, texts)?;
+    let given = Given {
+        bench: whole(bench, bench_text.as_slice()),
+        settings: *settings,
+        stimulus: whole(stimulus, stimulus_text.as_slice()),
+        schedule: nothing(),
+    };
+    simulated(rt, alloc, &given, &run.options, run.explains)
 }
 
 fn run_sources<'a, R: Threads + Wait + Sync, T: Texts>(
     rt: &R,
     alloc: Global,
-    sources: Sources<'a>,
-    settings: &[u8],
-    options: &Options,
+    settings: &Source<'_>,
+    run: &Run<'a>,
     texts: &mut T,
 ) -> Result<Vec<u8>, Failure<'a>>
-    ensures { RunsSources T.gives sources.entry settings.now options.now.until texts.old result texts.new }
+    ensures { RunsSources T.gives run.now.explains run.now.sources settings.now.text.now run.now.options.until texts.old result texts.new }
 {
-    match sources {
-        Sources::Joined => run_joined(rt, alloc, settings, options, texts),
+    match run.sources {
+        Sources::Joined => run_joined(rt, alloc, settings, run, texts),
         Sources::Apart { bench, stimulus } => {
-            run_apart(rt, alloc, bench, stimulus, settings, options, texts)
+            run_apart(rt, alloc, bench, stimulus, settings, run, texts)
         }
     }
+}
+
+/// The name of the settings' text, where the line gives one.
+fn shown_name<'a>(name: Option<&'a str>) -> &'a str {
+    name.unwrap_or("")
 }
 
 fn reply_to_run<'a, R: Threads + Wait + Sync, T: Texts>(
@@ -129,27 +148,34 @@ fn reply_to_run<'a, R: Threads + Wait + Sync, T: Texts>(
     ensures { Runs T.gives run.entry texts.old result texts.new }
 {
     let settings = fetch_settings(alloc, run.settings, texts)?;
-    run_sources(
-        rt,
-        alloc,
-        run.sources,
-        settings.as_slice(),
-        &run.options,
-        texts,
-    )
+    let settings = whole(shown_name(run.settings), settings.as_slice());
+    run_sources(rt, alloc, &settings, &run, texts)
 }
 
+#[tactic(auto, using(crate::proofs::Refused::refusal_of))]
 fn replayed<'a>(
     alloc: Global,
-    bench: &[u8],
-    settings: &[u8],
-    stimulus: &[u8],
-    schedule: &[u8],
+    given: &Given<'_>,
     options: &Options,
+    explains: bool,
 ) -> Result<Vec<u8>, Failure<'a>>
-    ensures { IsReplayed bench.now settings.now stimulus.now schedule.now options.now.blocks options.now.until result }
+    ensures { IsReplayed explains given.now.bench.text.now given.now.settings.text.now given.now.stimulus.text.now
+        given.now.schedule.text.now options.now.blocks options.now.until result }
 {
-    Ok(replay_text(alloc, bench, settings, stimulus, schedule, options)?)
+    let bench = given.bench.text;
+    let settings = given.settings.text;
+    let stimulus = given.stimulus.text;
+    match replay_text(
+        alloc,
+        bench,
+        settings,
+        stimulus,
+        given.schedule.text,
+        options,
+    ) {
+        Ok(dump) => Ok(dump),
+        Err(fault) => Err(refused(alloc, explains, given, fault)),
+    }
 }
 
 fn reply_to_replay<'a, T: Texts>(
@@ -163,22 +189,44 @@ fn reply_to_replay<'a, T: Texts>(
     let bench = fetch(alloc, replay.bench, texts)?;
     let stimulus = fetch(alloc, replay.stimulus, texts)?;
     let schedule = fetch(alloc, replay.schedule, texts)?;
-    replayed(
-        alloc,
-        bench.as_slice(),
-        settings.as_slice(),
-        stimulus.as_slice(),
-        schedule.as_slice(),
-        &replay.options,
-    )
+    let given = Given {
+        bench: whole(replay.bench, bench.as_slice()),
+        settings: whole(shown_name(replay.settings), settings.as_slice()),
+        stimulus: whole(replay.stimulus, stimulus.as_slice()),
+        schedule: whole(replay.schedule, schedule.as_slice()),
+    };
+    replayed(alloc, &given, &replay.options, replay.explains)
 }
 
-fn counted<'a>(alloc: Global, bench: &[u8], settings: &[u8]) -> Result<Vec<u8>, Failure<'a>>
-    ensures { IsCountReply bench.now settings.now result }
+/// A bench and its settings, which a command reads alone.
+fn circuit_texts<'a>(
+    bench_name: &'a str,
+    bench: &'a [u8],
+    settings_name: Option<&'a str>,
+    settings: &'a [u8],
+) -> Given<'a>
+    ensures bench { result.bench.text.now ≡ bench.entry.now }
+    ensures settings { result.settings.text.now ≡ settings.entry.now }
 {
-    let counts = counts_of_texts(alloc, bench, settings)?;
-    let text = count_text(alloc, counts)?;
-    Ok(text.into_bytes())
+    Given {
+        bench: whole(bench_name, bench),
+        settings: whole(shown_name(settings_name), settings),
+        stimulus: nothing(),
+        schedule: nothing(),
+    }
+}
+
+#[tactic(auto, using(crate::proofs::Refused::refusal_of, crate::proofs::Refused::uncounted_of))]
+fn counted<'a>(alloc: Global, given: &Given<'_>, explains: bool) -> Result<Vec<u8>, Failure<'a>>
+    ensures { IsCountReply explains given.now.bench.text.now given.now.settings.text.now result }
+{
+    match counts_of_texts(alloc, given.bench.text, given.settings.text) {
+        Ok(counts) => {
+            let text = count_text(alloc, counts)?;
+            Ok(text.into_bytes())
+        }
+        Err(fault) => Err(refused(alloc, explains, given, fault)),
+    }
 }
 
 fn reply_to_check<'a, T: Texts>(
@@ -190,13 +238,23 @@ fn reply_to_check<'a, T: Texts>(
 {
     let settings = fetch_settings(alloc, check.settings, texts)?;
     let bench = fetch(alloc, check.bench, texts)?;
-    counted(alloc, bench.as_slice(), settings.as_slice())
+    let given = circuit_texts(
+        check.bench,
+        bench.as_slice(),
+        check.settings,
+        settings.as_slice(),
+    );
+    counted(alloc, &given, check.explains)
 }
 
-fn listed<'a>(alloc: Global, bench: &[u8], settings: &[u8]) -> Result<Vec<u8>, Failure<'a>>
-    ensures { IsNetsReply bench.now settings.now result }
+#[tactic(auto, using(crate::proofs::Refused::refusal_of))]
+fn listed<'a>(alloc: Global, given: &Given<'_>, explains: bool) -> Result<Vec<u8>, Failure<'a>>
+    ensures { IsNetsReply explains given.now.bench.text.now given.now.settings.text.now result }
 {
-    Ok(nets_of_texts(alloc, bench, settings)?)
+    match nets_of_texts(alloc, given.bench.text, given.settings.text) {
+        Ok(text) => Ok(text),
+        Err(fault) => Err(refused(alloc, explains, given, fault)),
+    }
 }
 
 fn reply_to_nets<'a, T: Texts>(
@@ -208,7 +266,13 @@ fn reply_to_nets<'a, T: Texts>(
 {
     let settings = fetch_settings(alloc, listing.settings, texts)?;
     let bench = fetch(alloc, listing.bench, texts)?;
-    listed(alloc, bench.as_slice(), settings.as_slice())
+    let given = circuit_texts(
+        listing.bench,
+        bench.as_slice(),
+        listing.settings,
+        settings.as_slice(),
+    );
+    listed(alloc, &given, listing.explains)
 }
 
 /// What a request is answered: the text to show, or why there is none. The texts that it names

@@ -1,4 +1,4 @@
-//! What a command line asks for.
+//! What a command line asks for. Each command may ask for an explanation behind the line of a refused text.
 use warp_text::Options;
 
 /// What the words of a command line ask for.
@@ -16,6 +16,7 @@ pub enum Request<'a> {
 #[derive(Clone, Copy, Debug)]
 pub struct Run<'a> {
     pub options: Options,
+    pub explains: bool,
     pub settings: Option<&'a str>,
     pub sources: Sources<'a>,
 }
@@ -32,6 +33,7 @@ pub enum Sources<'a> {
 #[derive(Clone, Copy, Debug)]
 pub struct Replay<'a> {
     pub options: Options,
+    pub explains: bool,
     pub settings: Option<&'a str>,
     pub bench: &'a str,
     pub stimulus: &'a str,
@@ -41,6 +43,7 @@ pub struct Replay<'a> {
 /// To be shown how many parts a circuit has.
 #[derive(Clone, Copy, Debug)]
 pub struct Check<'a> {
+    pub explains: bool,
     pub settings: Option<&'a str>,
     pub bench: &'a str,
 }
@@ -48,6 +51,7 @@ pub struct Check<'a> {
 /// To be shown what each net of a circuit is.
 #[derive(Clone, Copy, Debug)]
 pub struct Listing<'a> {
+    pub explains: bool,
     pub settings: Option<&'a str>,
     pub bench: &'a str,
 }

@@ -1,0 +1,30 @@
+-- What holds of a fault holds of what is told of it.
+use Rattle.std.proofs.Common.{◌≡◌, sym, subst, ℕ, List, Bool, Err}
+use Rattle.warp_text.specs.Answer.{IsCounted}
+use Rattle.warp_text.specs.declared.fault.Fault.{Fault}
+use Rattle.warp_text.specs.declared.fault.Fault.TheVariants as faults
+use Rattle.warp_command.specs.Replies.{IsRefusal, IsUncounted}
+use Rattle.warp_command.specs.declared.failure.Failure.{Failure}
+use Rattle.warp_command.specs.declared.failure.Failure.TheVariants as failures
+
+pub refusal_of : (explains : Bool) (Is : Fault → Type 0) (fault : Fault) (failure : Failure) → IsRefusal explains (λ told. told ≡ fault) failure → Is fault
+    → IsRefusal explains Is failure
+refusal_of explains Is fault (failures.Line text) told is = absurd told
+refusal_of explains Is fault failures.NotText told is = absurd told
+refusal_of explains Is fault failures.Incomplete told is = absurd told
+refusal_of explains Is fault failures.StimulusExpected told is = absurd told
+refusal_of explains Is fault failures.StimulusNotExpected told is = absurd told
+refusal_of explains Is fault (failures.Unreadable name) told is = absurd told
+refusal_of explains Is fault (failures.Fault same) told is = subst Is (sym told) is
+refusal_of explains Is fault (failures.Explained same text) told is = (told.0, subst Is (sym told.1) is)
+refusal_of explains Is fault failures.Unwritten told is = absurd told
+
+pub uncounted_of : (bench settings : List ℕ) (fault : Fault) → IsCounted bench settings (Err fault) → IsUncounted bench settings fault
+uncounted_of bench settings (faults.Bench fault) is = is
+uncounted_of bench settings (faults.Settings fault) is = is
+uncounted_of bench settings (faults.Stimulus fault) is = is
+uncounted_of bench settings (faults.Schedule fault) is = is
+uncounted_of bench settings (faults.Run fault) is = is
+uncounted_of bench settings (faults.Event number cause) is = is
+uncounted_of bench settings (faults.Unfinished time) is = is
+uncounted_of bench settings faults.Memory is = tt
