@@ -3,13 +3,13 @@ use Rattle.std.proofs.Common.{◌≡◌, ℕ, ◌+◌, ◌<◌, ◌≤◌, ◌�
 use Rattle.std.specs.List.{between, filter}
 use Rattle.std.proofs.lemmas.List.Elements.{filter-append}
 use Rattle.std.proofs.lemmas.List.Edits.{length-between, between_none}
-use Rattle.std.proofs.lemmas.List.{map-append, append-nil, take_all}
+use Rattle.std.proofs.lemmas.List.{map-append, append-nil, take_all, take_more, length-take-le}
 use Rattle.warp_stores.specs.declared.place.Place.{Place}
 use Rattle.warp_stores.specs.Dated.{Dated, at, later}
 use Rattle.warp_stores.specs.Inner.StopBits.{Tally}
 use Rattle.warp_stores.specs.Inner.Stops.{total, dated, told, IsSpan, HaveMore, end_of}
-use Rattle.warp_stores.proofs.Parts.{between_cons}
-use Rattle.warp_stores.proofs.Stops.{total-append, IsPlace-more}
+use Rattle.warp_stores.proofs.Parts.{between_cons, take_between}
+use Rattle.warp_stores.proofs.Stops.{total-append, total-take, IsPlace-more}
 use Rattle.warp_stores.proofs.Telling.{told-append, told-none, dated-append, le_true, le_false}
 use Rattle.warp_stores.proofs.Growing.{one_stop}
 use Rattle.warp_stores.proofs.Extending.{dated-once}
@@ -89,3 +89,24 @@ pub told_start : {T : Type 0} (delay last : ℕ) (ss : List Tally) (ws : List T)
 told_start {T} delay last ss ws p old span =
     let none : told ss ws p p ≡ [] = told-none ss ws p in
     (record { begin = span.begin; end = span.begin; order = omega arith }, span, sym (ap (λ (ds : List (Dated T)). old ++ later delay last ds) none ∙ append-nil old))
+
+-- words of some stops, and then those of the next one
+pub listed_on : {T : Type 0} (ss : List Tally) (ws us : List T) (is is' : List (Dated T)) (i n : ℕ) (s : Tally) → i < length ss → s ≡ get_or ss i s → total ss ≡ length ws → total (take i ss) ≡ n → us ≡ between n (n + s.count) ws
+    → is ≡ dated (take i ss) (take n ws) → is' ≡ is ++ at s.time us → (total (take (i + 1) ss) ≡ n + s.count) × (is' ≡ dated (take (i + 1) ss) (take (n + s.count) ws))
+listed_on {T} ss ws us is is' i n s l same whole many are first more =
+    let stops : take (i + 1) ss ≡ take i ss ++ s ∷ [] = take_more ss i s l ∙ ap (λ (x : Tally). take i ss ++ x ∷ []) (sym same) in
+    let sum : total (take (i + 1) ss) ≡ n + s.count = (let e : total (take (i + 1) ss) ≡ total (take i ss) + (s.count + 0) = ap total stops ∙ total-append (take i ss) (s ∷ []) in omega arith) in
+    let fits : n + s.count ≤ length ws = omega (arith, total-take ss (i + 1)) in
+    let len : length us ≡ s.count = ap length are ∙ (omega (arith, length-between ws n (n + s.count) fits)) in
+    let parts : take (n + s.count) ws ≡ take n ws ++ us = take_between ws n (n + s.count) (omega arith) ∙ ap (λ (vs : List T). take n ws ++ vs) (sym are) in
+    let told : dated (take (i + 1) ss) (take (n + s.count) ws) ≡ dated (take i ss) (take n ws) ++ at s.time us =
+    rw (stops, parts) (dated-append (take i ss) (s ∷ []) (take n ws) us (many ∙ sym (length-take-le n ws (omega arith)))
+    ∙ ap (λ (ds : List (Dated T)). dated (take i ss) (take n ws) ++ ds) (one_stop s.time s.count us len)) in
+    (sum, more ∙ ap (λ (ds : List (Dated T)). ds ++ at s.time us) first ∙ sym told)
+
+-- all stops have all words
+pub listed_all : {T : Type 0} (ss : List Tally) (ws : List T) (is : List (Dated T)) (i n : ℕ) → length ss ≤ i → total ss ≡ length ws → total (take i ss) ≡ n → is ≡ dated (take i ss) (take n ws) → is ≡ dated ss ws
+listed_all {T} ss ws is i n l whole many first =
+    let all : take i ss ≡ ss = take_all i ss l in
+    let len : n ≡ length ws = sym many ∙ ap total all ∙ whole in
+    first ∙ rw (all, len) (ap (dated ss) (take_all (length ws) ws (omega arith)))

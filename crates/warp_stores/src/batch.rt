@@ -1,8 +1,9 @@
 //! Words to be told at once.
-ghost use Rattle.std.specs.Prelude.{◌≡◌, ◌<◌, ◌++◌, [], OnOk, OnErr};
-ghost use Rattle.warp_stores.specs.Dated.{at};
+ghost use Rattle.std.specs.Prelude.{◌≡◌, ◌<◌, ◌++◌, [], IfOk, OnOk, OnErr, length};
+ghost use Rattle.warp_stores.specs.Inner.Stops.{total, dated};
+ghost use Rattle.warp_stores.specs.Dated.{at, undated};
 
-use crate::place::append_all;
+use crate::place::{append_all, part};
 use crate::stop::{Stop, TIMES};
 use std::alloc::{AllocError, Global};
 use std::marker::Model;
@@ -54,4 +55,47 @@ impl<T: Copy> Batch<T> {
     {
         append_all(&mut self.stops, &mut self.words, time, words)
     }
+
+    /// The words, without their times.
+    pub fn words(&self) -> &[T]
+        ensures { result.now ≡ undated self.now }
+    {
+        self.words.as_slice()
+    }
+
+    /// Lists the words with their times. An error is a refused growth.
+    pub fn list(&self, alloc: Global) -> Result<Vec<(u64, T)>, AllocError>
+        ensures { IfOk result (λ list. list.items ≡ self.now) }
+    {
+        list_stops(alloc, self.stops.as_slice(), self.words.as_slice())
+    }
+}
+
+/// The words of stops, with their times.
+fn list_stops<T: Copy>(
+    alloc: Global,
+    stops: &[Stop],
+    words: &[T],
+) -> Result<Vec<(u64, T)>, AllocError>
+    requires whole { total stops.now ≡ length words.now }
+    ensures { IfOk result (λ list. list.items ≡ dated stops.now words.now) }
+{
+    let mut list = Vec::with_capacity(alloc, words.len())?;
+    let mut listed = 0;
+    for stop in stops {
+        let end = listed + stop.count() as usize;
+        list_at(stop.time(), part(words, listed, end), &mut list)?;
+        listed = end;
+    }
+    Ok(list)
+}
+
+/// Puts words behind a list, with their time.
+fn list_at<T: Copy>(time: u64, words: &[T], list: &mut Vec<(u64, T)>) -> Result<(), AllocError>
+    ensures ok { OnOk result (list.new.items ≡ list.old.items ++ at time words.now) }
+{
+    for word in words {
+        list.push((time, *word))?;
+    }
+    Ok(())
 }

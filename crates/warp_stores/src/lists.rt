@@ -86,6 +86,14 @@ impl Lists {
         }
     }
 
+    /// The same lists once more. An error is a refused growth.
+    pub fn copy(&self, alloc: Global) -> Result<Lists, AllocError>
+        ensures { IfOk result (λ lists. lists ≡ self.now) }
+    {
+        let lists = copies(alloc, self.lists.as_slice())?;
+        Ok(Lists { lists })
+    }
+
     /// Gives the lists away.
     pub fn into_vec(self) -> Vec<Vec<Change>>
         ensures { lists_of result.items ≡ self }
@@ -111,6 +119,19 @@ fn empty_lists(alloc: Global, count: usize) -> Result<Vec<Vec<Change>>, AllocErr
         lists.push(Vec::new(alloc))?;
     }
     Ok(lists)
+}
+
+/// Copies of lists.
+fn copies(alloc: Global, lists: &[Vec<Change>]) -> Result<Vec<Vec<Change>>, AllocError>
+    ensures { IfOk result (λ copies. lists_of copies.items ≡ lists_of lists.now) }
+{
+    let mut copies = Vec::with_capacity(alloc, lists.len())?;
+    for list in lists {
+        let mut copy = Vec::with_capacity(alloc, list.len())?;
+        copy.extend_from_slice(list.as_slice())?;
+        copies.push(copy)?;
+    }
+    Ok(copies)
 }
 
 /// Puts a word of a time behind the list of its place.
