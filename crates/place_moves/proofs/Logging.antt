@@ -24,12 +24,12 @@ use Rattle.place_moves.proofs.Sourcing.{driven_or_not}
 use Rattle.place_moves.proofs.Stepping.{outside_past}
 use Rattle.place_moves.proofs.Telling.{changes_grow, up_to, outside_told, changes_are, moves-up_to, moves-early}
 
-log-driven : (s : Source) (mark : ℕ) (all : List Change) → 0 < source_delay s → log_of s mark all ≡ before_time (mark + source_delay s) all
+pub log-driven : (s : Source) (mark : ℕ) (all : List Change) → 0 < source_delay s → log_of s mark all ≡ before_time (mark + source_delay s) all
 log-driven behaviour.Outside mark all h = absurd (omega arith)
 log-driven (behaviour.Gate kind delay inputs) mark all h = refl
 log-driven (behaviour.Flop delay d clock initial) mark all h = refl
 
-log-outside : (s : Source) (mark : ℕ) (all : List Change) → s ≡ behaviour.Outside → log_of s mark all ≡ []
+pub log-outside : (s : Source) (mark : ℕ) (all : List Change) → s ≡ behaviour.Outside → log_of s mark all ≡ []
 log-outside s mark all e = ap (λ (x : Source). log_of x mark all) e
 
 -- Before the first step, the log of a place is the change to what it begins with.

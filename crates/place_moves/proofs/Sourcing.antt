@@ -43,7 +43,7 @@ map-same f g (x ∷ xs) h =
     let rest : map f xs ≡ map g xs = map-same f g xs h in
     cc
 
-flip-still : (held v d : Logic) → flip_of held v v d ≡ held
+pub flip-still : (held v d : Logic) → flip_of held v v d ≡ held
 unfolding flip_of
 flip-still held Zero d = refl
 flip-still held One d = refl
@@ -77,13 +77,13 @@ module _ (source : ℕ → Source) (given : ℕ → ℕ → Logic) where
   pub made-first : (place : ℕ) → IsWellFormed (source place) → 0 < source_delay (source place) → made_before source given place 0 ≡ initial_of (source place)
   made-first place w h = sym (value-first source given place 1 (omega arith) (omega arith)) ∙ initial_before source given place 0 w h
 
-  made-gate : (place t delay : ℕ) (kind : Kind) (inputs : List ℕ) → source place ≡ behaviour.Gate kind delay inputs → made_before source given place t ≡ table_of kind (map (λ (i : ℕ). value_before source given i t) inputs)
+  pub made-gate : (place t delay : ℕ) (kind : Kind) (inputs : List ℕ) → source place ≡ behaviour.Gate kind delay inputs → made_before source given place t ≡ table_of kind (map (λ (i : ℕ). value_before source given i t) inputs)
   made-gate place t delay kind inputs e = ap (λ (s : Source). output s (before source given t) place) e
 
-  made-flop : (place t delay d clock : ℕ) (initial : Logic) → source place ≡ behaviour.Flop delay d clock initial → made_before source given place t ≡ (before source given t).content place
+  pub made-flop : (place t delay d clock : ℕ) (initial : Logic) → source place ≡ behaviour.Flop delay d clock initial → made_before source given place t ≡ (before source given t).content place
   made-flop place t delay d clock initial e = ap (λ (s : Source). output s (before source given t) place) e
 
-  made-flop_next : (place t delay d clock : ℕ) (initial : Logic) → source place ≡ behaviour.Flop delay d clock initial
+  pub made-flop_next : (place t delay d clock : ℕ) (initial : Logic) → source place ≡ behaviour.Flop delay d clock initial
       → made_before source given place (suc t) ≡ flip_of (made_before source given place t) (value_before source given clock t) (value_before source given clock (suc t)) (value_before source given d t)
   made-flop_next place t delay d clock initial e =
       made-flop place (suc t) delay d clock initial e ∙ content_is source given place t delay d clock initial e

@@ -3,7 +3,7 @@ ghost use Rattle.std.specs.Prelude.{◌≡◌, ◌≤◌, ◌<◌, ◌++◌, [],
 ghost use Rattle.std.specs.List.{All, flat_map};
 ghost use Rattle.warp_stores.specs.Dated.{since, undated};
 ghost use Rattle.warp_stores.specs.Delays.{least_due, told_since};
-ghost use Rattle.warp_gates.specs.Cells.{IsCell, value_at};
+ghost use Rattle.warp_gates.specs.Cells.{IsCell, AreGates, value_at};
 ghost use Rattle.warp_journal.specs.Books.{all_of, IsNew, MayPlay, HasPlayed, HasStayed, MayGoBack, HasGoneBack, HasLostBelow};
 ghost use Rattle.warp_journal.specs.Inner.Playing.{MayPass, HasPassed, HasPlayedSome, IsDueFrom};
 
@@ -66,6 +66,13 @@ impl Journal {
             words: Vec::new(alloc),
             puts: Vec::new(alloc),
         })
+    }
+
+    /// What is true of the gates of every journal. It does nothing.
+    pub fn law(&self)
+        ensures { AreGates self.now.gates }
+    {
+        self.gates.law();
     }
 
     /// The first time that isn't played.

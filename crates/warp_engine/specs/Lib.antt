@@ -1,0 +1,4 @@
+pub mod Runs
+pub mod Opening
+pub mod States
+pub mod Nexts
