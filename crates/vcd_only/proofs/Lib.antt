@@ -1,0 +1,5 @@
+pub mod Appending
+pub mod Ordering
+pub mod Showing
+pub mod Writing
+pub mod Agreeing
