@@ -3,4 +3,5 @@ pub mod Pairs
 pub mod Dumps
 pub mod Comparison
 pub mod Answer
+pub mod FaultLines
 pub mod Inner
