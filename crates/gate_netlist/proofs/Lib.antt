@@ -24,3 +24,4 @@ pub mod Readers
 pub mod Owning
 pub mod Refusals
 pub mod Saying
+pub mod Storing

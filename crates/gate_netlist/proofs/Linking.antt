@@ -10,11 +10,10 @@ use Rattle.gate_netlist.specs.declared.fault.BenchCause.{BenchCause}
 use Rattle.gate_netlist.specs.declared.fault.BenchCause.TheVariants.{Undriven}
 use Rattle.gate_netlist.specs.declared.fault.BenchFault.{BenchFault}
 use Rattle.gate_netlist.specs.Netlist.{Netlist}
-use Rattle.gate_netlist.specs.Statements.{Name, Statement, Nothing, Input, Output, Gate, Flop, meaning_of}
+use Rattle.gate_netlist.specs.Statements.{Name, Statement, Nothing, Input, Output, Gate, Flop}
 use Rattle.gate_netlist.specs.Bench.{is_among, uses, number_among, definition_of, output_of}
-use Rattle.gate_netlist.specs.Inner.Passes.{linked, made_by, is_linked}
+use Rattle.gate_netlist.specs.Inner.Passes.{made_by, is_linked}
 use Rattle.gate_netlist.proofs.Differing.{none_passes, passes_none}
-use Rattle.gate_netlist.proofs.Resolving.{linked_lines, linked_more}
 
 some_passes : {X : Type 0} (p : X → Bool) (xs : List X) → position_or_len p xs < length xs → list_any p xs ≡ true
 some_passes p xs less =
@@ -48,41 +47,8 @@ abbrev made : List Name → Statement → Result (Option Definition × Option �
 made nets s = Ok (definition_of nets s, output_of nets s)
 
 -- a line that says this is linked, where its nets are
-pub linked_by : (nets : List Name) (line : List ℕ) (s : Statement) (count : ℕ) (t : Bool) → meaning_of line ≡ Ok s → count ≡ length nets → t ≡ is_linked (definition_of nets s) (output_of nets s) count
-    → made_by nets (linked nets line) ≡ cond t (made nets s) (Err Undriven)
-unfolding linked
-linked_by nets line s count t e f g =
+pub linked_by : (nets : List Name) (s : Statement) (count : ℕ) (t : Bool) → count ≡ length nets → t ≡ is_linked (definition_of nets s) (output_of nets s) count
+    → made_by nets s ≡ cond t (made nets s) (Err Undriven)
+linked_by nets s count t f g =
     let used : list_all (is_among nets) (uses s) ≡ t = sym (are_used nets s) ∙ ap (λ n. is_linked (definition_of nets s) (output_of nets s) n) (sym f) ∙ sym g in
-    rw (e, used) (elim t as (λ b. made_by nets (cond (not b) (Err Undriven) (Ok s)) ≡ cond b (made nets s) (Err Undriven)) [ true ↦ refl | false ↦ refl ])
-
-abbrev Made : Type 0
-Made = Option Definition × Option ℕ
-
-abbrev answered : Made → Result Made BenchCause
-answered m = Ok m
-
-same_made : (m n : Made) → answered m ≡ Ok n → m ≡ n
-same_made m n e = cc
-
-abbrev error_or : {X : Type 0} → BenchCause → Result X BenchCause → BenchCause
-error_or d (Ok x) = d
-error_or d (Err e) = e
-
-refused : (nets : List Name) (said : Result Statement BenchCause) (c : BenchCause) → made_by nets said ≡ Err c → said ≡ Err c
-refused nets (Ok s) c e = absurd cc
-refused nets (Err d) c e = ap Err (ap (error_or d) e)
-
-pub made_refused : (nets : List Name) (line : List ℕ) (c other : BenchCause) → (c ≡ other) ⊎ (made_by nets (linked nets line) ≡ Err c) → (c ≡ other) ⊎ (linked nets line ≡ Err c)
-made_refused nets line c other (inl m) = inl m
-made_refused nets line c other (inr e) = inr (refused nets (linked nets line) c e)
-
-more : (nets : List Name) (line : ℕ) (l : List ℕ) (ls : List (List ℕ)) (ds : List Definition) (os : List ℕ) (made : Made) (total : Result Netlist BenchFault) (said : Result Statement BenchCause) → linked nets l ≡ said → made_by nets said ≡ Ok made
-    → linked_lines nets line (l ∷ ls) ds os ≡ total → linked_lines nets (line + 1) ls (ds ++ option_to_list made.0) (os ++ option_to_list made.1) ≡ total
-more nets line l ls ds os made total (Err c) e f h = absurd cc
-more nets line l ls ds os made total (Ok s) e f h =
-    subst (λ m. linked_lines nets (line + 1) ls (ds ++ option_to_list m.0) (os ++ option_to_list m.1) ≡ total) (same_made (definition_of nets s, output_of nets s) made f) (linked_more nets line l ls ds os s total e h)
-
--- a line more, with what it makes
-pub made_more : (nets : List Name) (line : ℕ) (l : List ℕ) (ls : List (List ℕ)) (ds : List Definition) (os : List ℕ) (d : Option Definition) (o : Option ℕ) (total : Result Netlist BenchFault) → made_by nets (linked nets l) ≡ Ok (d, o)
-    → linked_lines nets line (l ∷ ls) ds os ≡ total → linked_lines nets (line + 1) ls (ds ++ option_to_list d) (os ++ option_to_list o) ≡ total
-made_more nets line l ls ds os d o total e h = more nets line l ls ds os (d, o) total (linked nets l) refl e h
+    rw used (elim t as (λ b. cond (not b) (Err Undriven) (made nets s) ≡ cond b (made nets s) (Err Undriven)) [ true ↦ refl | false ↦ refl ])

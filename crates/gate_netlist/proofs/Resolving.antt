@@ -21,7 +21,7 @@ use Rattle.gate_netlist.specs.Inner.Netlist.{IsDefinition, IsNetlist}
 use Rattle.gate_netlist.specs.Symbols.{Symbol, Open, Close, Equals, Word, before_comment, symbols, is_clean}
 use Rattle.gate_netlist.specs.Statements.{Name, Statement, Nothing, Input, Output, Gate, Flop, says, gate_of, arguments, takes, driven, driven_by, statement_of, meaning_of}
 use Rattle.gate_netlist.specs.Bench.{◌>>=◌, net_defined, is_among, refusal, unless, stated, at_line, accepted, nets_defined, uses_other, number_among, definition_of, output_of, with_last, each_once, netlist_by, unless_undriven, resolved, bench_of}
-use Rattle.gate_netlist.specs.Inner.Passes.{defined_names, linked}
+use Rattle.gate_netlist.specs.Inner.Passes.{AreSaid, made_by}
 use Rattle.gate_netlist.specs.declared.fault.BenchCause.TheVariants.{Undriven}
 use Rattle.gate_netlist.specs.declared.fault.BenchCause.TheVariants as cause
 use Rattle.gate_netlist.specs.Lines.{lines_of}
@@ -252,20 +252,16 @@ unless-ok : (found : Option ℕ) (ss : List Statement) (b : Netlist) → unless_
 unless-ok None ss b e = (refl, ap (value_or b) e)
 unless-ok (Some i) ss b e = absurd cc
 
-pub is_read : (text : List ℕ) (b : Netlist) → bench_of text ≡ Ok b → IsNetlist b
-unfolding bench_of
-is_read text b e =
-    let a = bind_ok (accepted [] 1 (lines_of text)) resolved b e in
-    let r = unless-ok (position (uses_other (nets_defined a.0)) a.0) a.0 b a.2 in
-    subst IsNetlist r.1 (is_netlist a.0 (are_accepted [] 1 (lines_of text) a.0 (omega arith) no_name_differs a.1) r.0)
+pub is_resolved : (ss : List Statement) (b : Netlist) → AreSaid ss → resolved ss ≡ Ok b → IsNetlist b
+is_resolved ss b said e =
+    let r = unless-ok (position (uses_other (nets_defined ss)) ss) ss b e in
+    subst IsNetlist r.1 (is_netlist ss (are_accepted [] 1 said.0 ss (omega arith) no_name_differs said.1) r.0)
 
--- the nets of an accepted text are few enough to be numbered
-pub within : (text : List ℕ) (nets : List Name) → defined_names text ≡ Ok nets → length nets ≤ 999999
-within text nets e =
-    let a = bind_ok (accepted [] 1 (lines_of text)) (λ ss. Ok (nets_defined ss)) nets e in
-    subst (λ (ns : List Name). length ns ≤ 999999) (ap (value_or nets) a.2) (are_accepted [] 1 (lines_of text) a.0 (omega arith) no_name_differs a.1).within
+-- the nets of accepted lines are few enough to be numbered
+pub within : (ss : List Statement) → AreSaid ss → length (nets_defined ss) ≤ 999999
+within ss said = (are_accepted [] 1 said.0 ss (omega arith) no_name_differs said.1).within
 
--- ---- the same, line by line
+-- ---- the same, statement by statement
 
 pub meaning_stated : (earlier : List Name) (l : List ℕ) (s : Statement) → stated earlier l ≡ Ok s → meaning_of l ≡ Ok s
 unfolding stated
@@ -276,24 +272,24 @@ meaning_stated earlier l s e =
 abbrev finished : List Name → List Definition → List ℕ → Netlist
 finished nets ds os = record { names = nets; definitions = ds; outputs = each_once os }
 
--- what lines say, the first of them having this number, after lines that gave these definitions and outputs
-unfoldable pub linked_lines : List Name → ℕ → List (List ℕ) → List Definition → List ℕ → Result Netlist BenchFault
+-- what lines make that say this, the first of them having this number, after lines that gave these definitions and outputs
+unfoldable pub linked_lines : List Name → ℕ → List Statement → List Definition → List ℕ → Result Netlist BenchFault
 linked_lines nets line [] ds os = Ok (finished nets ds os)
-linked_lines nets line (l ∷ ls) ds os = do
-  s ← at_line line (linked nets l)
-  linked_lines nets (line + 1) ls (ds ++ option_to_list (definition_of nets s)) (os ++ option_to_list (output_of nets s))
+linked_lines nets line (s ∷ ss) ds os = do
+  made ← at_line line (made_by nets s)
+  linked_lines nets (line + 1) ss (ds ++ option_to_list made.0) (os ++ option_to_list made.1)
 
-pub linked_more : (nets : List Name) (line : ℕ) (l : List ℕ) (ls : List (List ℕ)) (ds : List Definition) (os : List ℕ) (s : Statement) (total : Result Netlist BenchFault) → linked nets l ≡ Ok s
-    → linked_lines nets line (l ∷ ls) ds os ≡ total → linked_lines nets (line + 1) ls (ds ++ option_to_list (definition_of nets s)) (os ++ option_to_list (output_of nets s)) ≡ total
+pub linked_more : (nets : List Name) (line : ℕ) (s : Statement) (ss : List Statement) (ds : List Definition) (os : List ℕ) (d : Option Definition) (o : Option ℕ) (total : Result Netlist BenchFault) → made_by nets s ≡ Ok (d, o)
+    → linked_lines nets line (s ∷ ss) ds os ≡ total → linked_lines nets (line + 1) ss (ds ++ option_to_list d) (os ++ option_to_list o) ≡ total
 unfolding linked_lines
-linked_more nets line l ls ds os s total e h = rw e at h
+linked_more nets line s ss ds os d o total e h = rw e at h
 
-pub linked_fault : (nets : List Name) (line : ℕ) (l : List ℕ) (ls : List (List ℕ)) (ds : List Definition) (os : List ℕ) (c : BenchCause) (total : Result Netlist BenchFault) → (c ≡ cause.Memory) ⊎ (linked nets l ≡ Err c)
-    → linked_lines nets line (l ∷ ls) ds os ≡ total → (fault_at line c ≡ out_of_memory) ⊎ (total ≡ Err (fault_at line c))
+pub linked_fault : (nets : List Name) (line : ℕ) (s : Statement) (ss : List Statement) (ds : List Definition) (os : List ℕ) (c : BenchCause) (total : Result Netlist BenchFault) → (c ≡ cause.Memory) ⊎ (made_by nets s ≡ Err c)
+    → linked_lines nets line (s ∷ ss) ds os ≡ total → (fault_at line c ≡ out_of_memory) ⊎ (total ≡ Err (fault_at line c))
 unfolding linked_lines
-linked_fault nets line l ls ds os cause.Memory total e h = inl refl
-linked_fault nets line l ls ds os c total (inl m) h = inl (ap (fault_at line) m)
-linked_fault nets line l ls ds os c total (inr e) h = inr (sym h ∙ rw e refl)
+linked_fault nets line s ss ds os cause.Memory total e h = inl refl
+linked_fault nets line s ss ds os c total (inl m) h = inl (ap (fault_at line) m)
+linked_fault nets line s ss ds os c total (inr e) h = inr (sym h ∙ rw e refl)
 
 pub linked_all : (nets : List Name) (line : ℕ) (ds : List Definition) (os : List ℕ) (total : Result Netlist BenchFault) → linked_lines nets line [] ds os ≡ total → total ≡ Ok (finished nets ds os)
 unfolding linked_lines
@@ -317,51 +313,41 @@ one_line_on : (nets : List Name) (line : ℕ) (found : Option ℕ) (ds : List De
 one_line_on nets line None ds os = refl
 one_line_on nets line (Some i) ds os = let e : i + (line + 1) ≡ 1 + i + line = omega arith in ap (λ n. Err (record { line = n; cause = Undriven })) e
 
-abbrev LinksTo : List Name → ℕ → List (List ℕ) → List Statement → List Definition → List ℕ → Type 0
-LinksTo nets line ls ss ds os = linked_lines nets line ls ds os ≡ ending nets line (position (uses_other nets) ss) (ds ++ filter_map (definition_of nets) ss) (os ++ filter_map (output_of nets) ss)
+abbrev LinksTo : List Name → ℕ → List Statement → List Definition → List ℕ → Type 0
+LinksTo nets line ss ds os = linked_lines nets line ss ds os ≡ ending nets line (position (uses_other nets) ss) (ds ++ filter_map (definition_of nets) ss) (os ++ filter_map (output_of nets) ss)
 
-link-more : (nets : List Name) (line : ℕ) (l : List ℕ) (ls : List (List ℕ)) (s : Statement) (ss : List Statement) (ds : List Definition) (os : List ℕ) (t : Bool) → uses_other nets s ≡ t → meaning_of l ≡ Ok s
-    → LinksTo nets (line + 1) ls ss (ds ++ option_to_list (definition_of nets s)) (os ++ option_to_list (output_of nets s)) → LinksTo nets line (l ∷ ls) (s ∷ ss) ds os
-unfolding linked_lines linked
-link-more nets line l ls s ss ds os true u e h = let z : 0 + line ≡ line = omega arith in rw (position-first (uses_other nets) s ss u, e, u, z) refl
-link-more nets line l ls s ss ds os false u e h =
+link-more : (nets : List Name) (line : ℕ) (s : Statement) (ss : List Statement) (ds : List Definition) (os : List ℕ) (t : Bool) → uses_other nets s ≡ t
+    → LinksTo nets (line + 1) ss (ds ++ option_to_list (definition_of nets s)) (os ++ option_to_list (output_of nets s)) → LinksTo nets line (s ∷ ss) ds os
+unfolding linked_lines
+link-more nets line s ss ds os true u h = let z : 0 + line ≡ line = omega arith in rw (position-first (uses_other nets) s ss u, u, z) refl
+link-more nets line s ss ds os false u h =
     let on = one_line_on nets line (position (uses_other nets) ss) (ds ++ filter_map (definition_of nets) (s ∷ ss)) (os ++ filter_map (output_of nets) (s ∷ ss)) in
-    rw (position-later (uses_other nets) s ss u, ← on, ← behind (definition_of nets) ds s ss, ← behind (output_of nets) os s ss, e, u) h
+    rw (position-later (uses_other nets) s ss u, ← on, ← behind (definition_of nets) ds s ss, ← behind (output_of nets) os s ss, u) h
 
-links : (nets earlier : List Name) (line : ℕ) (ls : List (List ℕ)) (ss : List Statement) (ds : List Definition) (os : List ℕ) → accepted earlier line ls ≡ Ok ss → LinksTo nets line ls ss ds os
-unfolding accepted linked_lines
-links nets earlier line [] ss ds os e = subst (λ ss. LinksTo nets line [] ss ds os) (same_list [] ss e) (rw (append-nil ds, append-nil os) refl)
-links nets earlier line (l ∷ ls) ss ds os e =
-    let a = bind_ok (at_line line (stated earlier l)) (λ s. accepted (earlier ++ option_to_list (net_defined s)) (line + 1) ls >>= λ ss. Ok (s ∷ ss)) ss e in
-    let b = bind_ok (accepted (earlier ++ option_to_list (net_defined a.0)) (line + 1) ls) (λ ss. Ok (a.0 ∷ ss)) ss a.2 in
-    let is = meaning_stated earlier l a.0 (at_line-ok line (stated earlier l) a.0 a.1) in
-    let rest = links nets (earlier ++ option_to_list (net_defined a.0)) (line + 1) ls b.0 (ds ++ option_to_list (definition_of nets a.0)) (os ++ option_to_list (output_of nets a.0)) b.1 in
-    subst (λ ss. LinksTo nets line (l ∷ ls) ss ds os) (same_list (a.0 ∷ b.0) ss b.2) (link-more nets line l ls a.0 b.0 ds os (uses_other nets a.0) refl is rest)
+links : (nets : List Name) (line : ℕ) (ss : List Statement) (ds : List Definition) (os : List ℕ) → LinksTo nets line ss ds os
+unfolding linked_lines
+links nets line [] ds os = rw (append-nil ds, append-nil os) refl
+links nets line (s ∷ ss) ds os =
+    link-more nets line s ss ds os (uses_other nets s) refl (links nets (line + 1) ss (ds ++ option_to_list (definition_of nets s)) (os ++ option_to_list (output_of nets s)))
 
 ends : (found : Option ℕ) (ss : List Statement) → ending (nets_defined ss) 1 found (filter_map (definition_of (nets_defined ss)) ss) (filter_map (output_of (nets_defined ss)) ss) ≡ unless_undriven found ss
 ends None ss = refl
 ends (Some i) ss = refl
 
-linked_accepted : (text : List ℕ) (ss : List Statement) → accepted [] 1 (lines_of text) ≡ Ok ss → linked_lines (nets_defined ss) 1 (lines_of text) [] [] ≡ bench_of text
+-- accepted lines say what they make of their nets
+pub linked_said : (ss : List Statement) → linked_lines (nets_defined ss) 1 ss [] [] ≡ resolved ss
+linked_said ss = links (nets_defined ss) 1 ss [] [] ∙ ends (position (uses_other (nets_defined ss)) ss) ss
+
+-- a text says what its accepted lines say
+pub read_said : (text : List ℕ) (ss : List Statement) → accepted [] 1 (lines_of text) ≡ Ok ss → bench_of text ≡ resolved ss
 unfolding bench_of
-linked_accepted text ss e =
-    links (nets_defined ss) [] 1 (lines_of text) ss [] [] e ∙ ends (position (uses_other (nets_defined ss)) ss) ss ∙ sym (ap (λ read. read >>= resolved) e)
+read_said text ss e = rw e refl
 
--- a text says what its lines say of its nets
-pub linked_text : (text : List ℕ) (nets : List Name) → defined_names text ≡ Ok nets → linked_lines nets 1 (lines_of text) [] [] ≡ bench_of text
-linked_text text nets e =
-    let a = bind_ok (accepted [] 1 (lines_of text)) (λ ss. Ok (nets_defined ss)) nets e in
-    subst (λ nets. linked_lines nets 1 (lines_of text) [] [] ≡ bench_of text) (ap (value_or nets) a.2) (linked_accepted text a.0 a.1)
-
-abbrev error_or : {X E : Type 0} → E → Result X E → E
-error_or d (Ok x) = d
-error_or d (Err e) = e
-
-unnamed_by : (read : Result (List Statement) BenchFault) (e : BenchFault) → (read >>= λ ss. Ok (nets_defined ss)) ≡ Err e → (read >>= resolved) ≡ Err e
-unnamed_by (Ok ss) e h = absurd cc
-unnamed_by (Err f) e h = ap Err (ap (error_or f) h)
+unread : (text : List ℕ) (e : BenchFault) → accepted [] 1 (lines_of text) ≡ Err e → bench_of text ≡ Err e
+unfolding bench_of
+unread text e h = rw h refl
 
 -- a text whose lines are refused is refused
-pub unnamed : (text : List ℕ) (e : BenchFault) → defined_names text ≡ Err e → bench_of text ≡ Err e
-unfolding bench_of
-unnamed text e h = unnamed_by (accepted [] 1 (lines_of text)) e h
+pub unread_fault : (text : List ℕ) (e : BenchFault) → (e ≡ out_of_memory) ⊎ (accepted [] 1 (lines_of text) ≡ Err e) → (e ≡ out_of_memory) ⊎ (bench_of text ≡ Err e)
+unread_fault text e (inl m) = inl m
+unread_fault text e (inr h) = inr (unread text e h)

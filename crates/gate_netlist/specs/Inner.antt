@@ -16,4 +16,5 @@ pub mod Owned
 pub mod Passes
 pub mod Readers
 pub mod Splits
+pub mod Stored
 pub mod Tokens

@@ -1,4 +1,4 @@
--- What the code's two passes over the lines of a text come by.
+-- What the code comes by that goes over the lines of a text.
 use Rattle.std.specs.Prelude.{ℕ, List, [], Option, Some, None}
 use Rattle.std.specs.Borrow.{Bor}
 use Rattle.gate_netlist.specs.Lines.{lines_of}

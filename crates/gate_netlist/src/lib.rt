@@ -24,6 +24,7 @@ mod reading;
 mod seed;
 mod settings;
 mod statement;
+mod store;
 mod token;
 
 pub use bench::{Bench, Definition};

@@ -6,8 +6,9 @@ ghost use Rattle.gate_netlist.specs.Inner.Faults.{fault_at};
 ghost use Rattle.gate_netlist.specs.Gives.{Gives};
 ghost use Rattle.gate_netlist.specs.Inner.Meant.{meant};
 ghost use Rattle.gate_netlist.specs.Inner.Keys.{names_in};
-ghost use Rattle.gate_netlist.specs.Bench.{net_defined, refusal, unless, stated, number_among, definition_of, output_of, each_once, bench_of};
-ghost use Rattle.gate_netlist.specs.Inner.Passes.{defined_names, linked, made_by, is_linked};
+ghost use Rattle.gate_netlist.specs.Lines.{lines_of};
+ghost use Rattle.gate_netlist.specs.Bench.{net_defined, refusal, unless, stated, accepted, nets_defined, number_among, definition_of, output_of, each_once, resolved, bench_of};
+ghost use Rattle.gate_netlist.specs.Inner.Passes.{AreSaid, made_by, is_linked};
 
 use crate::bench::{Bench, Definition, Names};
 use crate::fault::{BenchCause, BenchFault};
@@ -15,6 +16,7 @@ use crate::lines::next_line;
 use crate::nets::Nets;
 use crate::seed::TextSeed;
 use crate::statement::{Buffers, Statement, meaning_of};
+use crate::store::Statements;
 use indexmap::IndexSet;
 use std::alloc::{AllocError, Global};
 
@@ -89,25 +91,27 @@ fn fault_at(line: u64, cause: BenchCause) -> BenchFault
     }
 }
 
-/// The nets that the lines of a text define, where no line is faulty by itself or by the lines before it.
-fn defined_names(alloc: Global, text: &[u8]) -> Result<Names, BenchFault>
-    ensures gives { Gives out_of_memory (λ names. names_in names) result (defined_names text.now) }
-    ensures within { IfOk result (λ names. length (names_in names) ≤ 999999) }
+/// The nets that the lines of a text define, and what the lines say, where none is faulty by itself or by those before it.
+fn accepted<'a>(alloc: Global, text: &'a [u8]) -> Result<(Names, Statements<'a>), BenchFault>
+    ensures gives { Gives out_of_memory (λ read. read.1) result (accepted [] 1 (lines_of text.now)) }
+    ensures named { IfOk result (λ read. names_in read.0 ≡ nets_defined read.1) }
     ensures memory { IfErr result MemoryHasNoLine }
 {
     let mut names = IndexSet::with_hasher(alloc, TextSeed::of(text));
+    let mut statements = Statements::new(alloc);
     let mut buffers = Buffers::new(alloc);
     let mut number = 1;
     let mut rest = Some(text);
     while let Some(text) = rest {
         let (line, after) = next_line(text);
         match stated(alloc, &mut buffers, &mut names, line) {
-            Ok(_) => number += 1,
+            Ok(statement) => statements.push(&statement)?,
             Err(cause) => return Err(fault_at(number, cause)),
         }
+        number += 1;
         rest = after;
     }
-    Ok(names)
+    Ok((names, statements))
 }
 
 fn numbers_of(alloc: Global, names: &Names, nets: &[&str]) -> Result<Vec<u32>, AllocError>
@@ -177,19 +181,16 @@ fn is_linked(definition: &Option<Definition>, output: Option<u32>, count: usize)
 }
 
 /// What a line makes of the net that it defines, and the net that it marks, where each net that it uses is one of these.
-#[tactic(auto, unfolding(crate::specs::Inner::Passes::linked))]
-fn linked<'a>(
+fn linked(
     alloc: Global,
-    buffers: &mut Buffers<'a>,
     names: &Names,
-    line: &'a [u8],
+    statement: &Statement,
 ) -> Result<(Option<Definition>, Option<u32>), BenchCause>
     requires { length (names_in names.now) ≤ 999999 }
-    ensures { Gives cause.Memory (λ made. made) result (made_by (names_in names.now) (linked (names_in names.now) line.now)) }
+    ensures { Gives cause.Memory (λ made. made) result (made_by (names_in names.now) (meant statement.now)) }
 {
-    let statement = meaning_of(buffers, line)?;
-    let definition = definition_of(alloc, names, &statement)?;
-    let output = output_of(names, &statement);
+    let definition = definition_of(alloc, names, statement)?;
+    let output = output_of(names, statement);
     if !is_linked(&definition, output, names.len()) {
         return Err(BenchCause::Undriven);
     }
@@ -236,29 +237,24 @@ fn each_once(alloc: Global, seed: TextSeed, numbers: &[u32]) -> Result<Vec<u32>,
     Vec::from_slice(alloc, found.as_slice())
 }
 
-/// What a text says, where its lines define these nets.
-fn bench_of(alloc: Global, names: Names, text: &[u8]) -> Result<Bench, BenchFault>
-    requires named { defined_names text.now ≡ Ok (names_in names) }
-    requires within { length (names_in names) ≤ 999999 }
-    ensures exact { Gives out_of_memory (λ bench. bench) result (bench_of text.now) }
+/// What lines say that define these nets, where each net that one uses is among them.
+fn resolved(alloc: Global, names: Names, statements: &Statements) -> Result<Bench, BenchFault>
+    requires named { names_in names ≡ nets_defined statements.now }
+    requires said { AreSaid statements.now }
+    ensures exact { Gives out_of_memory (λ bench. bench) result (resolved statements.now) }
     ensures memory { IfErr result MemoryHasNoLine }
 {
     let mut definitions = Vec::with_capacity(alloc, names.len())?;
     let mut marked = Vec::new(alloc);
-    let mut buffers = Buffers::new(alloc);
-    let mut number = 1;
-    let mut rest = Some(text);
-    while let Some(text) = rest {
-        let (line, after) = next_line(text);
-        match linked(alloc, &mut buffers, &names, line) {
+    for place in 0..statements.len() {
+        let statement = statements.get(place);
+        match linked(alloc, &names, &statement) {
             Ok((definition, output)) => {
                 push_definition(definition, &mut definitions)?;
                 push_output(output, &mut marked)?;
             }
-            Err(cause) => return Err(fault_at(number, cause)),
+            Err(cause) => return Err(fault_at(place as u64 + 1, cause)),
         }
-        number += 1;
-        rest = after;
     }
     let outputs = each_once(alloc, *names.hasher(), &marked)?;
     Ok(Bench {
@@ -273,13 +269,13 @@ fn bench_of(alloc: Global, names: Names, text: &[u8]) -> Result<Bench, BenchFaul
 /// A refused text gives the first fault: the first faulty line's, with the line's number from 1 on, or else that of the
 /// first line that uses a net which no line defines. Want of memory is answered as soon as a growth is refused, with line 0.
 ///
-/// The text is read twice, since a net may be used before its line: first for the nets, then for what sets them. So
-/// no line needs to be kept.
-#[tactic(auto, using(crate::proofs::Resolving::unnamed))]
+/// The text is read once. Since a net may be used before its line, what each line says is kept until all nets are known.
 pub fn read_bench(alloc: Global, text: &[u8]) -> Result<Bench, BenchFault>
     ensures exact { Gives out_of_memory (λ bench. bench) result (bench_of text.now) }
     ensures memory { IfErr result MemoryHasNoLine }
 {
-    let names = defined_names(alloc, text)?;
-    bench_of(alloc, names, text)
+    match accepted(alloc, text) {
+        Ok((names, statements)) => resolved(alloc, names, &statements),
+        Err(fault) => Err(fault),
+    }
 }

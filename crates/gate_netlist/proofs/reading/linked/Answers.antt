@@ -7,8 +7,8 @@ use Rattle.gate_netlist.proofs.reading.linked.Goals as goal
 
 pub returns-then-not-is_linked : goal.returns-then-not-is_linked
 returns-then-not-is_linked c =
-    inr (linked_by (names_in c.args.names.now) c.args.line.now (meant c.in_ok-statement.statement) _ _ c.in_ok-statement.ensures (c.len.ensures.len ∙ sym (length-map c.args.names.now.keys string_bytes)) (rw (c.in_ok-definition.ensures, c.output_of-output.ensures) at c.if-not-is_linked.ensures))
+    inr (linked_by (names_in c.args.names.now) (meant c.args.statement.now) _ _ (c.len.ensures.len ∙ sym (length-map c.args.names.now.keys string_bytes)) (rw (c.in_ok-definition.ensures, c.output_of-output.ensures) at c.if-not-is_linked.ensures))
 
 pub returns : goal.returns
 returns c =
-    rw (c.in_ok-definition.ensures, c.output_of-output.ensures) (linked_by (names_in c.args.names.now) c.args.line.now (meant c.in_ok-statement.statement) _ _ c.in_ok-statement.ensures (c.len.ensures.len ∙ sym (length-map c.args.names.now.keys string_bytes)) (rw (c.in_ok-definition.ensures, c.output_of-output.ensures) at c.if-not-is_linked.ensures))
+    rw (c.in_ok-definition.ensures, c.output_of-output.ensures) (linked_by (names_in c.args.names.now) (meant c.args.statement.now) _ _ (c.len.ensures.len ∙ sym (length-map c.args.names.now.keys string_bytes)) (rw (c.in_ok-definition.ensures, c.output_of-output.ensures) at c.if-not-is_linked.ensures))
