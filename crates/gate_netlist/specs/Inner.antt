@@ -5,6 +5,7 @@ pub mod Groups
 pub mod Held
 pub mod HeldBench
 pub mod HeldCut
+pub mod HeldNets
 pub mod HeldParts
 pub mod Keys
 pub mod Kinds

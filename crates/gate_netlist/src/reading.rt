@@ -7,8 +7,9 @@ ghost use Rattle.gate_netlist.specs.Gives.{Gives};
 ghost use Rattle.gate_netlist.specs.Inner.Meant.{meant};
 ghost use Rattle.gate_netlist.specs.Inner.Keys.{names_in};
 ghost use Rattle.gate_netlist.specs.Lines.{lines_of};
-ghost use Rattle.gate_netlist.specs.Bench.{net_defined, refusal, unless, stated, accepted, nets_defined, number_among, definition_of, output_of, each_once, resolved, bench_of};
-ghost use Rattle.gate_netlist.specs.Inner.Passes.{AreSaid, made_by, is_linked};
+ghost use Rattle.gate_netlist.specs.Bench.{net_defined, refusal, unless, stated, accepted, nets_defined, each_once, resolved, bench_of};
+ghost use Rattle.gate_netlist.specs.Inner.Passes.{AreSaid, is_linked};
+ghost use Rattle.gate_netlist.specs.Inner.Stored.{statements_in, LiesWithin, definition_by, output_by, made_from};
 
 use crate::bench::{Bench, Definition, Names};
 use crate::fault::{BenchCause, BenchFault};
@@ -16,7 +17,7 @@ use crate::lines::next_line;
 use crate::nets::Nets;
 use crate::seed::TextSeed;
 use crate::statement::{Buffers, Statement, meaning_of};
-use crate::store::Statements;
+use crate::store::{Statements, Stored};
 use indexmap::IndexSet;
 use std::alloc::{AllocError, Global};
 
@@ -36,17 +37,6 @@ fn define(alloc: Global, names: &mut Names, name: &str) -> Result<(), BenchCause
         return Err(BenchCause::TooManyNets);
     }
     Ok(())
-}
-
-/// The number of a name, and that of names where it is none of them.
-fn number_among(names: &Names, name: &str) -> u32
-    requires { length (names_in names.now) ≤ 999999 }
-    ensures { result ≡ number_among (names_in names.now) name.now }
-{
-    match names.get_index_of(name) {
-        Some(number) => number as u32,
-        None => names.len() as u32,
-    }
 }
 
 fn net_defined<'a>(statement: &Statement<'a, '_>) -> Option<&'a str>
@@ -93,8 +83,8 @@ fn fault_at(line: u64, cause: BenchCause) -> BenchFault
 
 /// The nets that the lines of a text define, and what the lines say, where none is faulty by itself or by those before it.
 fn accepted<'a>(alloc: Global, text: &'a [u8]) -> Result<(Names, Statements<'a>), BenchFault>
-    ensures gives { Gives out_of_memory (λ read. read.1) result (accepted [] 1 (lines_of text.now)) }
-    ensures named { IfOk result (λ read. names_in read.0 ≡ nets_defined read.1) }
+    ensures gives { Gives out_of_memory (λ read. statements_in read.1) result (accepted [] 1 (lines_of text.now)) }
+    ensures named { IfOk result (λ read. names_in read.0 ≡ nets_defined (statements_in read.1)) }
     ensures memory { IfErr result MemoryHasNoLine }
 {
     let mut names = IndexSet::with_hasher(alloc, TextSeed::of(text));
@@ -114,48 +104,42 @@ fn accepted<'a>(alloc: Global, text: &'a [u8]) -> Result<(Names, Statements<'a>)
     Ok((names, statements))
 }
 
-fn numbers_of(alloc: Global, names: &Names, nets: &[&str]) -> Result<Vec<u32>, AllocError>
-    requires { length (names_in names.now) ≤ 999999 }
-    ensures { IfOk result (λ numbers. numbers.items ≡ map (λ net. number_among (names_in names.now) net.now) nets.now) }
-{
-    nets.iter()
-        .map(|net| number_among(names, net))
-        .collect(alloc)
-}
-
-/// What a line makes of the net that it defines.
-fn definition_of(
+/// What a line makes of the net that it defines, by the numbers of all uses.
+fn definition_by(
     alloc: Global,
-    names: &Names,
-    statement: &Statement,
+    numbers: &[u32],
+    line: &Stored,
 ) -> Result<Option<Definition>, AllocError>
-    requires { length (names_in names.now) ≤ 999999 }
-    ensures { IfOk result (λ found. found ≡ definition_of (names_in names.now) (meant statement.now)) }
+    requires { LiesWithin (length numbers.now) line.now }
+    ensures { IfOk result (λ found. found ≡ definition_by numbers.now line.now) }
 {
-    match statement {
-        Statement::Input(_) => Ok(Some(Definition::Input)),
-        Statement::Gate { kind, inputs, .. } => {
-            let inputs = Nets::new(numbers_of(alloc, names, inputs)?);
+    match line {
+        Stored::Input(_) => Ok(Some(Definition::Input)),
+        Stored::Gate {
+            kind,
+            start,
+            count,
+            ..
+        } => {
+            let inputs = Nets::of(alloc, &numbers[*start..*start + *count])?;
             Ok(Some(Definition::Gate {
                 kind: *kind,
                 inputs,
             }))
         }
-        Statement::Flop { d, .. } => Ok(Some(Definition::Flop {
-            d: number_among(names, d),
-        })),
-        Statement::Nothing => Ok(None),
-        Statement::Output(_) => Ok(None),
+        Stored::Flop { d, .. } => Ok(Some(Definition::Flop { d: numbers[*d] })),
+        Stored::Nothing => Ok(None),
+        Stored::Output(_) => Ok(None),
     }
 }
 
 /// The net that a line marks.
-fn output_of(names: &Names, statement: &Statement) -> Option<u32>
-    requires { length (names_in names.now) ≤ 999999 }
-    ensures { result ≡ output_of (names_in names.now) (meant statement.now) }
+fn output_by(numbers: &[u32], line: &Stored) -> Option<u32>
+    requires { LiesWithin (length numbers.now) line.now }
+    ensures { result ≡ output_by numbers.now line.now }
 {
-    match statement {
-        Statement::Output(net) => Some(number_among(names, net)),
+    match line {
+        Stored::Output(net) => Some(numbers[*net]),
         _ => None,
     }
 }
@@ -180,18 +164,19 @@ fn is_linked(definition: &Option<Definition>, output: Option<u32>, count: usize)
     }
 }
 
-/// What a line makes of the net that it defines, and the net that it marks, where each net that it uses is one of these.
-fn linked(
+/// What a line makes of the net that it defines, and the net that it marks, where each net that it uses is below a count.
+fn made_from(
     alloc: Global,
-    names: &Names,
-    statement: &Statement,
+    numbers: &[u32],
+    count: usize,
+    line: &Stored,
 ) -> Result<(Option<Definition>, Option<u32>), BenchCause>
-    requires { length (names_in names.now) ≤ 999999 }
-    ensures { Gives cause.Memory (λ made. made) result (made_by (names_in names.now) (meant statement.now)) }
+    requires { LiesWithin (length numbers.now) line.now }
+    ensures { Gives cause.Memory (λ made. made) result (made_from numbers.now count line.now) }
 {
-    let definition = definition_of(alloc, names, statement)?;
-    let output = output_of(names, statement);
-    if !is_linked(&definition, output, names.len()) {
+    let definition = definition_by(alloc, numbers, line)?;
+    let output = output_by(numbers, line);
+    if !is_linked(&definition, output, count) {
         return Err(BenchCause::Undriven);
     }
     Ok((definition, output))
@@ -239,16 +224,17 @@ fn each_once(alloc: Global, seed: TextSeed, numbers: &[u32]) -> Result<Vec<u32>,
 
 /// What lines say that define these nets, where each net that one uses is among them.
 fn resolved(alloc: Global, names: Names, statements: &Statements) -> Result<Bench, BenchFault>
-    requires named { names_in names ≡ nets_defined statements.now }
-    requires said { AreSaid statements.now }
-    ensures exact { Gives out_of_memory (λ bench. bench) result (resolved statements.now) }
+    requires named { names_in names ≡ nets_defined (statements_in statements.now) }
+    requires said { AreSaid (statements_in statements.now) }
+    ensures exact { Gives out_of_memory (λ bench. bench) result (resolved (statements_in statements.now)) }
     ensures memory { IfErr result MemoryHasNoLine }
 {
+    let numbers = statements.numbers(alloc, &names)?;
     let mut definitions = Vec::with_capacity(alloc, names.len())?;
     let mut marked = Vec::new(alloc);
-    for place in 0..statements.len() {
-        let statement = statements.get(place);
-        match linked(alloc, &names, &statement) {
+    statements.law();
+    for (place, line) in statements.lines().iter().enumerate() {
+        match made_from(alloc, &numbers, names.len(), line) {
             Ok((definition, output)) => {
                 push_definition(definition, &mut definitions)?;
                 push_output(output, &mut marked)?;

@@ -4,7 +4,7 @@ use Rattle.std.proofs.lemmas.List.{length-map}
 use Rattle.gate_netlist.specs.Inner.Keys.{names_in}
 use Rattle.gate_netlist.proofs.Positions.{position-map}
 use Rattle.gate_netlist.proofs.Naming.{place_some, place_none}
-use Rattle.gate_netlist.proofs.reading.number_among.Goals as goal
+use Rattle.gate_netlist.proofs.store.number_among.Goals as goal
 
 pub returns-in-Some : goal.returns-in-Some
 returns-in-Some c = place_some (λ other. bytes_eq c.args.name.now other) (names_in c.args.names.now) c.in-Some.number (position-map (λ other. bytes_eq c.args.name.now other) string_bytes c.args.names.now.keys ∙ sym c.get_index_of.ensures.index ∙ c.in-Some.is)
