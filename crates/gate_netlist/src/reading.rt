@@ -24,6 +24,14 @@ use std::alloc::{AllocError, Global};
 /// The most nets that a bench text may define.
 const MOST_NETS: usize = 999_999;
 
+/// As many bytes as most lines have at least that define a net.
+const BYTES_A_NET: usize = 24;
+
+/// A guess at how many nets a text defines, so that lists needn't grow often while it is read.
+fn expected_nets(text: &[u8]) -> usize {
+    (text.len() / BYTES_A_NET).min(MOST_NETS)
+}
+
 /// Gives a new net the next number.
 fn define(alloc: Global, names: &mut Names, name: &str) -> Result<(), BenchCause>
     ensures gives { Gives cause.Memory (λ x. x) result (unless (refusal (names_in names.old) (Some name.now)) tt) }
@@ -87,8 +95,9 @@ fn accepted<'a>(alloc: Global, text: &'a [u8]) -> Result<(Names, Statements<'a>)
     ensures named { IfOk result (λ read. names_in read.0 ≡ nets_defined (statements_in read.1)) }
     ensures memory { IfErr result MemoryHasNoLine }
 {
-    let mut names = IndexSet::with_hasher(alloc, TextSeed::of(text));
-    let mut statements = Statements::new(alloc);
+    let room = expected_nets(text);
+    let mut names = IndexSet::with_capacity_and_hasher(alloc, room, TextSeed::of(text))?;
+    let mut statements = Statements::with_capacity(alloc, room)?;
     let mut buffers = Buffers::new(alloc);
     let mut number = 1;
     let mut rest = Some(text);

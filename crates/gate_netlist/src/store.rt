@@ -53,14 +53,14 @@ impl<'a> Model for Statements<'a> {
 }
 
 impl<'a> Statements<'a> {
-    /// No statement.
-    pub(crate) fn new(alloc: Global) -> Statements<'a>
-        ensures { statements_in result ≡ [] }
+    /// No statement, and room for so many.
+    pub(crate) fn with_capacity(alloc: Global, lines: usize) -> Result<Statements<'a>, AllocError>
+        ensures { IfOk result (λ statements. statements_in statements ≡ []) }
     {
-        Statements {
-            lines: Vec::new(alloc),
-            uses: Vec::new(alloc),
-        }
+        Ok(Statements {
+            lines: Vec::with_capacity(alloc, lines)?,
+            uses: Vec::with_capacity(alloc, lines)?,
+        })
     }
 
     /// What is true of all statements.

@@ -10,8 +10,8 @@ use Rattle.std.proofs.Common.{[], refl, arith}
 
 pub loop-rest-init : goal.loop-rest-init
 loop-rest-init c = record {
-  so_far = rw (c.new-statements.ensures, c.with_hasher-names.ensures.empty) (onto_nothing (accepted [] 1 (lines_of c.args.text.now)));
-  named = rw (c.new-statements.ensures, c.with_hasher-names.ensures.empty) refl;
+  so_far = rw (c.in_ok-statements.ensures, c.in_ok-names.ensures.empty) (onto_nothing (accepted [] 1 (lines_of c.args.text.now)));
+  named = rw (c.in_ok-statements.ensures, c.in_ok-names.ensures.empty) refl;
   counted = omega arith;
 }
 
