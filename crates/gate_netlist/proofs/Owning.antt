@@ -4,11 +4,11 @@ use Rattle.std.specs.List.{All, range_with_len}
 use Rattle.std.proofs.lemmas.List.{append-nil, ext_get_or}
 use Rattle.std.proofs.lemmas.List.Elements.{filter-append, All-push}
 use Rattle.std.proofs.lemmas.List.FromFn.{length-map-range_with_len, get_or-map-range_with_len}
-use Rattle.gate_netlist.specs.declared.groups.Keyed.{Keyed}
-use Rattle.gate_netlist.specs.Inner.Groups.{group}
+use Rattle.number_groups.specs.declared.groups.Keyed.{Keyed}
+use Rattle.number_groups.specs.Groups.{group}
 use Rattle.gate_netlist.specs.Cut.{IsOwnership, is_owner, own_among, own_nets}
 use Rattle.gate_netlist.specs.Inner.Owned.{AreOwned}
-use Rattle.gate_netlist.proofs.Grouping.{group_push, range_more}
+use Rattle.number_groups.proofs.Grouping.{group_push, range_more}
 
 own_among_more : (owners : List (Option ℕ)) (i b : ℕ) → own_among owners (i + 1) b ≡ own_among owners i b ++ cond (is_owner b (get_or owners i None)) (i ∷ []) []
 own_among_more owners i b = rw (range_more i) (filter-append (λ n. is_owner b (get_or owners n None)) (range_with_len 0 i) (i ∷ []))

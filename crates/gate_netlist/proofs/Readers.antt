@@ -10,11 +10,11 @@ use Rattle.std.proofs.lemmas.List.Folds.{list_any_more}
 use Rattle.std.proofs.lemmas.List.FromFn.{length-map-range_with_len, get_or-map-range_with_len}
 use Rattle.gate_netlist.specs.declared.driver.Driver.{Driver}
 use Rattle.gate_netlist.specs.declared.driver.Driver.TheVariants.{Input}
-use Rattle.gate_netlist.specs.declared.groups.Keyed.{Keyed}
-use Rattle.gate_netlist.specs.Inner.Groups.{group}
+use Rattle.number_groups.specs.declared.groups.Keyed.{Keyed}
+use Rattle.number_groups.specs.Groups.{group}
 use Rattle.gate_netlist.specs.Circuit.{nets_used, is_one_of, readers_among}
 use Rattle.gate_netlist.specs.Inner.Readers.{AreOpen, AreTold, AreListed}
-use Rattle.gate_netlist.proofs.Grouping.{group_push, keys_push, range_more}
+use Rattle.number_groups.proofs.Grouping.{group_push, keys_push, range_more}
 
 or-true : (b : Bool) → (b || true) ≡ true
 or-true true = refl

@@ -1,7 +1,6 @@
 -- What only the proofs of this crate need: no contract of a public call speaks of it.
 pub mod Clocked
 pub mod Faults
-pub mod Groups
 pub mod Held
 pub mod HeldBench
 pub mod HeldCut

@@ -12,8 +12,8 @@ use crate::counts::Counts;
 use crate::cut::Cut;
 use crate::driver::Driver;
 use crate::fault::SettingsFault;
-use crate::groups::Groups;
 use crate::settings;
+use number_groups::Groups;
 use std::alloc::Global;
 use std::marker::Model;
 

@@ -5,7 +5,7 @@ ghost use Rattle.gate_netlist.specs.Circuit.{CutFits};
 ghost use Rattle.gate_netlist.specs.Even.{even_cut};
 
 use crate::circuit::Circuit;
-use crate::groups::{Groups, Keyed};
+use number_groups::{Groups, Keyed};
 use std::alloc::{AllocError, Global};
 use std::marker::Model;
 

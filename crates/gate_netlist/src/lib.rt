@@ -16,7 +16,6 @@ mod counts;
 mod cut;
 mod driver;
 mod fault;
-mod groups;
 mod laws;
 mod lines;
 mod nets;

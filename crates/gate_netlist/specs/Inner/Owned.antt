@@ -1,8 +1,8 @@
 -- Each net under its owner.
 use Rattle.std.specs.Prelude.{◌≡◌, ℕ, List, get_or, Option, Some, None}
 use Rattle.std.specs.List.{All}
-use Rattle.gate_netlist.specs.declared.groups.Keyed.{Keyed}
-use Rattle.gate_netlist.specs.Inner.Groups.{group}
+use Rattle.number_groups.specs.declared.groups.Keyed.{Keyed}
+use Rattle.number_groups.specs.Groups.{group}
 use Rattle.gate_netlist.specs.Cut.{own_among}
 
 -- the first so many nets stand under their owners

@@ -2,8 +2,8 @@
 use Rattle.std.specs.Prelude.{◌≡◌, ℕ, ◌+◌, ◌<◌, ◌≤◌, nat_le, not, if◌then◌else◌, List, [], ◌∷◌, ◌++◌, length, get_or}
 use Rattle.std.specs.List.{All}
 use Rattle.gate_netlist.specs.declared.driver.Driver.{Driver}
-use Rattle.gate_netlist.specs.declared.groups.Keyed.{Keyed}
-use Rattle.gate_netlist.specs.Inner.Groups.{group}
+use Rattle.number_groups.specs.declared.groups.Keyed.{Keyed}
+use Rattle.number_groups.specs.Groups.{group}
 use Rattle.gate_netlist.specs.Circuit.{is_one_of, readers_among}
 
 -- No reader from this one on is listed yet.

@@ -3,11 +3,11 @@ ghost use Rattle.std.specs.Prelude.{◌≡◌, ℕ, ◌<◌, ◌≤◌, length, 
 ghost use Rattle.std.specs.List.{All, range_with_len};
 ghost use Rattle.gate_netlist.specs.declared.driver.Driver.TheVariants.{Input};
 ghost use Rattle.gate_netlist.specs.Circuit.{nets_used, readers_among};
-ghost use Rattle.gate_netlist.specs.Inner.Groups.{group};
+ghost use Rattle.number_groups.specs.Groups.{group};
 ghost use Rattle.gate_netlist.specs.Inner.Readers.{AreOpen, AreTold, AreListed};
 
 use crate::driver::Driver;
-use crate::groups::{Groups, Keyed};
+use number_groups::{Groups, Keyed};
 use std::alloc::{AllocError, Global};
 
 /// For each net the nets whose gate or flip-flop uses it, ascending, each once.

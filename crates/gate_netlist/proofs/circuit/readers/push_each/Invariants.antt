@@ -1,5 +1,5 @@
 use Rattle.std.proofs.Common.{◌≡◌, length, take}
-use Rattle.gate_netlist.specs.Inner.Groups.{group}
+use Rattle.number_groups.specs.Groups.{group}
 use Rattle.gate_netlist.specs.Inner.Readers.{AreTold}
 use Rattle.gate_netlist.proofs.circuit.readers.push_each.Given as goal
 
