@@ -1,11 +1,9 @@
 -- The allowed bytes in front are what stands before the comment, if they end there.
-use Rattle.std.proofs.Common.{◌≡◌, ℕ, suc, Bool, true, false, not, ◌&&◌, eqb, cond, List, [], ◌∷◌, take, drop, Option, Some, None, option_map, Err, refl, ap, sym, ◌∙◌, inl, inr, arith}
+use Rattle.std.proofs.Common.{◌≡◌, ℕ, suc, Bool, true, false, not, ◌&&◌, eqb, cond, List, [], ◌∷◌, take, drop, Option, Some, None, option_map, refl, ap, sym, ◌∙◌, inl, inr, arith}
 use Rattle.std.specs.Prelude.{slice_get}
 use Rattle.std.specs.List.{list_all, prefix_len}
 use Rattle.std.proofs.lemmas.Bool.{cases_Bool, eqb-true}
-use Rattle.gate_netlist.specs.declared.fault.BenchCause.TheVariants.{BadName}
 use Rattle.gate_netlist.specs.Symbols.{before_comment, is_allowed}
-use Rattle.gate_netlist.specs.Statements.{meaning_of}
 use Rattle.gate_netlist.specs.Inner.Tokens.{allowed_code}
 
 -- the code where this byte follows it
@@ -54,11 +52,13 @@ on b bs e =
     let len : prefix_len (λ x. not (eqb x 35)) (b ∷ bs) ≡ suc (prefix_len (λ x. not (eqb x 35)) bs) = rw e (omega arith) in
     ap (λ n. take n (b ∷ bs)) len
 
+pub allowed_code-more : (b : ℕ) (bs : List ℕ) → is_allowed b ≡ true → allowed_code (b ∷ bs) ≡ option_map (λ c. b ∷ c) (allowed_code bs)
+allowed_code-more b bs e = ap judged (on b bs (no_mark b e)) ∙ kept-more b (before_comment bs) (is_allowed b) (list_all is_allowed (before_comment bs)) e
+
 allowed-more : (b : ℕ) (bs : List ℕ) → is_allowed b ≡ true → allowed_code bs ≡ read_to bs (prefix_len is_allowed bs) → allowed_code (b ∷ bs) ≡ read_to (b ∷ bs) (prefix_len is_allowed (b ∷ bs))
 allowed-more b bs e h =
     let len : prefix_len is_allowed (b ∷ bs) ≡ suc (prefix_len is_allowed bs) = rw e (omega arith) in
-    ap judged (on b bs (no_mark b e))
-    ∙ kept-more b (before_comment bs) (is_allowed b) (list_all is_allowed (before_comment bs)) e
+    allowed_code-more b bs e
     ∙ ap (option_map (λ c. b ∷ c)) h
     ∙ sym (followed-more b (take (prefix_len is_allowed bs) bs) (slice_get (drop (prefix_len is_allowed bs) bs) 0))
     ∙ ap (read_to (b ∷ bs)) (sym len)
@@ -92,6 +92,5 @@ none_kept : (t : Bool) (before : List ℕ) → None ≡ cond t (Some before) Non
 none_kept true before e = absurd cc
 none_kept false before e = refl
 
-pub refused_line : (line : List ℕ) → None ≡ allowed_code line → meaning_of line ≡ Err BadName
-unfolding meaning_of
-refused_line line e = rw (none_kept (list_all is_allowed (before_comment line)) (before_comment line) e) refl
+pub refused_line : (line : List ℕ) → None ≡ allowed_code line → list_all is_allowed (before_comment line) ≡ false
+refused_line line e = none_kept (list_all is_allowed (before_comment line)) (before_comment line) e

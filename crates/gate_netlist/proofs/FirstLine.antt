@@ -6,12 +6,13 @@ use Rattle.std.proofs.lemmas.List.{take_rest, get_or-take, length-take, take-app
 use Rattle.std.proofs.lemmas.List.Quantifiers.{position-Some}
 use Rattle.std.proofs.lemmas.List.Sums.{fails_before_first}
 use Rattle.gate_netlist.specs.Lines.{lines_of, at_front, begins_with_feed}
+use Rattle.gate_netlist.specs.Inner.FirstLine.{first_of, others_of, first_line}
 use Rattle.gate_netlist.specs.Inner.Passes.{without_return}
 
 abbrev is_feed : ℕ → Bool
 is_feed b = eqb b 10
 
-abbrev HasNoFeed : List ℕ → Type 0
+abbrev pub HasNoFeed : List ℕ → Type 0
 HasNoFeed bs = (k : ℕ) → k < length bs → is_feed (get_or bs k 0) ≡ false
 
 begins-with_none : (bs : List ℕ) → HasNoFeed bs → begins_with_feed bs ≡ false
@@ -57,7 +58,7 @@ unfolding lines_of
 one_byte b rest e =
     rw e (elim (eqb b 13) as (λ t. cond (t && true) ([] ∷ lines_of rest) ((b ∷ []) ∷ lines_of rest) ≡ cond t [] (b ∷ []) ∷ lines_of rest) [ true ↦ refl | false ↦ refl ])
 
-before_feed : (front rest : List ℕ) → HasNoFeed front → lines_of (front ++ 10 ∷ rest) ≡ without_return front ∷ lines_of rest
+pub before_feed : (front rest : List ℕ) → HasNoFeed front → lines_of (front ++ 10 ∷ rest) ≡ without_return front ∷ lines_of rest
 before_feed [] rest h = at_feed rest
 before_feed (b ∷ []) rest h = one_byte b rest (head b [] h)
 before_feed (b ∷ c ∷ bs) rest h =
@@ -76,3 +77,19 @@ line_with_end bs i e =
     let rest : drop i bs ≡ 10 ∷ drop (i + 1) bs = rw (add-one, drop-cons bs i 0) (ap (λ b. b ∷ drop (suc i) bs) (eqb-true _ _ found.1)) in
     let whole : bs ≡ take i bs ++ 10 ∷ drop (i + 1) bs = sym (take-append-drop i bs) ∙ ap (λ (r : List ℕ). take i bs ++ r) rest in
     rw take_rest (ap lines_of whole ∙ before_feed (take i bs) (drop (i + 1) bs) (λ k lt. let below : k < i = omega (arith, length-take i bs) in rw get_or-take (found.2 k below)))
+
+-- a text has a first line
+at_front-some : (b : ℕ) (ls : List (List ℕ)) → at_front b ls ≡ first_of (at_front b ls) ∷ others_of (at_front b ls)
+at_front-some b [] = refl
+at_front-some b (l ∷ ls) = refl
+
+some-lines : (t u : Bool) (b : ℕ) (ls : List (List ℕ)) → ls ≡ first_of ls ∷ others_of ls
+    → cond t ([] ∷ ls) (cond u ls (at_front b ls)) ≡ first_of (cond t ([] ∷ ls) (cond u ls (at_front b ls))) ∷ others_of (cond t ([] ∷ ls) (cond u ls (at_front b ls)))
+some-lines true u b ls h = refl
+some-lines false true b ls h = h
+some-lines false false b ls h = at_front-some b ls
+
+pub some_line : (text : List ℕ) → lines_of text ≡ first_line text ∷ others_of (lines_of text)
+unfolding lines_of
+some_line [] = refl
+some_line (b ∷ bs) = some-lines (eqb b 10) (eqb b 13 && begins_with_feed bs) b (lines_of bs) (some_line bs)

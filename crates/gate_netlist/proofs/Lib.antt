@@ -18,6 +18,7 @@ pub mod Resolving
 pub mod Naming
 pub mod Allowing
 pub mod Splitting
+pub mod Coding
 pub mod Tables
 pub mod Words
 pub mod Readers

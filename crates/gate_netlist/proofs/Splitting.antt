@@ -1,6 +1,7 @@
 -- Statements, read from the front.
 use Rattle.std.proofs.Common.{◌≡◌, ℕ, Bool, true, false, cond, List, [], ◌∷◌, ◌++◌, ◌+◌, ◌≤◌, drop, length, eqb, map, not, ◌&&◌, ◌||◌, arith, append_assoc, sym, ap, ◌∙◌, Option, Some, None, option_map, Result, Ok, Err, refl}
 use Rattle.std.specs.List.{list_any, list_all}
+use Rattle.std.specs.Borrow.{Bor}
 use Rattle.std.proofs.lemmas.Bool.{eqb-true}
 use Rattle.std.proofs.lemmas.List.{drop-drop, drop-map, drop_all}
 use Rattle.gate_netlist.specs.declared.fault.BenchCause.{BenchCause}
@@ -8,6 +9,7 @@ use Rattle.gate_netlist.specs.declared.fault.BenchCause.TheVariants.{BadLine, Ba
 use Rattle.gate_netlist.specs.declared.token.Token.{Token}
 use Rattle.gate_netlist.specs.Inner.Tokens.{symbol_of, symbols_of}
 use Rattle.gate_netlist.specs.Symbols.{Symbol, Open, Close, Comma, Equals, Word, before_comment, is_allowed, is_end, symbols}
+use Rattle.gate_netlist.specs.Inner.FirstLine.{first_of, first_line, IsFirstLine}
 use Rattle.gate_netlist.specs.Inner.Splits.{word_first, after_open, has_comma, after_equals, closes}
 use Rattle.gate_netlist.specs.Statements.{Name, Statement, Nothing, named, arguments, marked, driven_by, statement_of, meaning_of}
 
@@ -135,3 +137,13 @@ unfolding meaning_of
 meaning_at line ts t e f g =
     let ended : list_any is_end (symbols (before_comment line)) ≡ t = ap (list_any is_end) (sym f) ∙ list_any-map is_end symbol_of ts ∙ sym g in
     rw (← e, ended, f) (elim t as (λ b. cond (true && not b) (statement_of (symbols (before_comment line))) (Err BadName) ≡ cond b (Err BadName) (statement_of (symbols (before_comment line)))) [ true ↦ refl | false ↦ refl ])
+
+-- ---- the first line of a text
+
+pub bad_first : (text : List ℕ) (ss : List Symbol) (after : Option (Bor (List ℕ))) → IsFirstLine text ss false after → meaning_of (first_line text) ≡ Err BadName
+unfolding meaning_of
+bad_first text ss after f = rw (ap first_of f.lines, f.allowed) refl
+
+pub meaning_first : (text : List ℕ) (ts : List Token) (after : Option (Bor (List ℕ))) (t : Bool) → IsFirstLine text (symbols_of ts) true after → t ≡ list_any (λ x. is_end (symbol_of x)) ts
+    → meaning_of (first_line text) ≡ cond t (Err BadName) (statement_of (symbols_of ts))
+meaning_first text ts after t f e = rw (ap first_of f.lines) (meaning_at f.line ts t (sym f.allowed) (f.said refl) e)

@@ -57,12 +57,3 @@ symbols-word bs e =
     let within = prefix_len-le-length is_letter bs in
     let stops : begins_with_letter (drop n bs) ≡ false = begins-not (drop n bs) (λ lt. let z : n + 0 ≡ n = omega arith in ap is_letter (get_or-drop n bs 0 0 ∙ ap (λ k. get_or bs k 0) z) ∙ prefix_len_stops is_letter bs 0 (omega (arith, length-drop n bs))) in
     ap symbols (sym (take-append-drop n bs)) ∙ first_word (word_of bs) (drop n bs) (omega (arith, length-take n bs)) (word-letters bs) stops
-
-no_symbols : (bs : List ℕ) → length bs ≡ 0 → symbols bs ≡ []
-unfolding symbols
-no_symbols [] e = refl
-no_symbols (b ∷ bs) e = absurd (omega arith)
-
--- where nothing is left to read, all symbols stand before
-pub symbols-end : (front total : List Symbol) (bs : List ℕ) → eqb (length bs) 0 ≡ true → front ++ symbols bs ≡ total → front ≡ total
-symbols-end front total bs e h = sym (append-nil front) ∙ ap (λ (ss : List Symbol). front ++ ss) (sym (no_symbols bs (eqb-true _ _ e))) ∙ h

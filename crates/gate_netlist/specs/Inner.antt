@@ -1,6 +1,7 @@
 -- What only the proofs of this crate need: no contract of a public call speaks of it.
 pub mod Clocked
 pub mod Faults
+pub mod FirstLine
 pub mod Held
 pub mod HeldBench
 pub mod HeldCut

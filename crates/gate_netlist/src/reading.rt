@@ -1,4 +1,4 @@
-ghost use Rattle.std.specs.Prelude.{◌≡◌, ◌≤◌, ◌++◌, ◌∷◌, [], length, map, nat_lt, Some, Ok, IfOk, IfErr, OnOk, option_to_list, option_map};
+ghost use Rattle.std.specs.Prelude.{◌≡◌, ◌<◌, ◌≤◌, ◌++◌, ◌∷◌, [], length, map, nat_lt, Some, Ok, IfOk, IfErr, IfSome, OnOk, option_to_list, option_map};
 ghost use Rattle.std.specs.List.{list_all};
 ghost use Rattle.gate_netlist.specs.declared.fault.BenchCause.TheVariants as cause;
 ghost use Rattle.gate_netlist.specs.Faults.{out_of_memory, MemoryHasNoLine};
@@ -7,13 +7,14 @@ ghost use Rattle.gate_netlist.specs.Gives.{Gives};
 ghost use Rattle.gate_netlist.specs.Inner.Meant.{meant};
 ghost use Rattle.gate_netlist.specs.Inner.Keys.{names_in};
 ghost use Rattle.gate_netlist.specs.Lines.{lines_of};
+ghost use Rattle.gate_netlist.specs.Passes.{lines_after};
+ghost use Rattle.gate_netlist.specs.Inner.FirstLine.{first_line};
 ghost use Rattle.gate_netlist.specs.Bench.{net_defined, refusal, unless, stated, accepted, nets_defined, each_once, resolved, bench_of};
 ghost use Rattle.gate_netlist.specs.Inner.Passes.{AreSaid, is_linked};
 ghost use Rattle.gate_netlist.specs.Inner.Stored.{statements_in, LiesWithin, definition_by, output_by, made_from};
 
 use crate::bench::{Bench, Definition, Names};
 use crate::fault::{BenchCause, BenchFault};
-use crate::lines::next_line;
 use crate::nets::Nets;
 use crate::seed::TextSeed;
 use crate::statement::{Buffers, Statement, meaning_of};
@@ -59,23 +60,26 @@ fn net_defined<'a>(statement: &Statement<'a, '_>) -> Option<&'a str>
     }
 }
 
-/// What a line says, after lines that define these nets. The net that it defines goes last.
+/// What the first line of a text says, after lines that define these nets, and what follows it. The net that it defines goes
+/// last.
 #[tactic(auto, unfolding(crate::specs::Bench::stated))]
 fn stated<'a, 'b>(
     alloc: Global,
     buffers: &'b mut Buffers<'a>,
     names: &mut Names,
-    line: &'a [u8],
-) -> Result<Statement<'a, 'b>, BenchCause>
-    ensures gives { Gives cause.Memory meant result (stated (names_in names.old) line.now) }
-    ensures names { IfOk result (λ s. names_in names.new ≡ names_in names.old ++ option_to_list (net_defined (meant s))) }
+    text: &'a [u8],
+) -> Result<(Statement<'a, 'b>, Option<&'a [u8]>), BenchCause>
+    ensures gives { Gives cause.Memory (λ read. meant read.0) result (stated (names_in names.old) (first_line text.now)) }
+    ensures names { IfOk result (λ read. names_in names.new ≡ names_in names.old ++ option_to_list (net_defined (meant read.0))) }
+    ensures rest { IfOk result (λ read. lines_of text.now ≡ first_line text.now ∷ lines_after read.1) }
+    ensures shorter { IfOk result (λ read. IfSome read.1 (λ rest. length rest.now < length text.now)) }
 {
-    let statement = meaning_of(buffers, line)?;
+    let (statement, after) = meaning_of(buffers, text)?;
     match net_defined(&statement) {
-        None => Ok(statement),
+        None => Ok((statement, after)),
         Some(name) => {
             define(alloc, names, name)?;
-            Ok(statement)
+            Ok((statement, after))
         }
     }
 }
@@ -102,13 +106,14 @@ fn accepted<'a>(alloc: Global, text: &'a [u8]) -> Result<(Names, Statements<'a>)
     let mut number = 1;
     let mut rest = Some(text);
     while let Some(text) = rest {
-        let (line, after) = next_line(text);
-        match stated(alloc, &mut buffers, &mut names, line) {
-            Ok(statement) => statements.push(&statement)?,
+        match stated(alloc, &mut buffers, &mut names, text) {
+            Ok((statement, after)) => {
+                statements.push(&statement)?;
+                rest = after;
+            }
             Err(cause) => return Err(fault_at(number, cause)),
         }
         number += 1;
-        rest = after;
     }
     Ok((names, statements))
 }

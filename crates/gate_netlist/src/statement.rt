@@ -1,4 +1,4 @@
-ghost use Rattle.std.specs.Prelude.{◌≡◌, ◌∷◌, [], option_map, IfOk};
+ghost use Rattle.std.specs.Prelude.{◌≡◌, ◌<◌, ◌∷◌, [], length, option_map, IfOk, IfSome};
 ghost use Rattle.std.specs.Str.{str_eq_ignore_ascii_case};
 ghost use Rattle.gate_netlist.specs.declared.fault.BenchCause.TheVariants as cause;
 ghost use Rattle.gate_netlist.specs.Gives.{Gives};
@@ -6,8 +6,12 @@ ghost use Rattle.gate_netlist.specs.Statements.{gate_of, takes, named, arguments
 ghost use Rattle.gate_netlist.specs.Inner.Meant.{meant, names_meant};
 ghost use Rattle.gate_netlist.specs.Symbols.{Word, Open, Equals};
 ghost use Rattle.gate_netlist.specs.Inner.Tokens.{symbols_of};
+ghost use Rattle.gate_netlist.specs.Lines.{lines_of};
+ghost use Rattle.gate_netlist.specs.Passes.{lines_after};
+ghost use Rattle.gate_netlist.specs.Inner.FirstLine.{after_feed, first_line, IsFirstLine};
 
 use crate::fault::BenchCause;
+use crate::lines::next_line;
 use crate::token::{
     Token, after_equals, after_open, allowed_code, closes, has_comma, has_end, tokenize, word_first,
 };
@@ -237,20 +241,67 @@ impl<'a> Buffers<'a> {
     }
 }
 
-/// What a line says.
-#[tactic(auto, unfolding(crate::specs::Statements::meaning_of))]
+/// What follows an LF in front.
+fn after_feed(text: &[u8]) -> Option<&[u8]>
+    ensures { option_map (λ rest. rest.now) result ≡ after_feed text.now }
+{
+    match text.first() {
+        Some(b'\n') => Some(&text[1..]),
+        _ => None,
+    }
+}
+
+/// Puts the marks and words of a text's first line in place of what the buffer holds, where each byte may stand there. Gives
+/// whether that is so, and what follows the line.
+fn read_line<'a>(
+    text: &'a [u8],
+    tokens: &mut Vec<Token<'a>>,
+) -> Result<(bool, Option<&'a [u8]>), AllocError>
+    ensures line { IfOk result (λ read. IsFirstLine text.now (symbols_of tokens.new.items) read.0 read.1) }
+    ensures shorter { IfOk result (λ read. IfSome read.1 (λ rest. length rest.now < length text.now)) }
+{
+    // Most lines are code up to their LF. These are gone over once.
+    let rest = tokenize(text, tokens)?;
+    match after_feed(rest) {
+        Some(after) => Ok((true, Some(after))),
+        None => read_any_line(text, tokens),
+    }
+}
+
+/// The same of a line that may have a comment, a CR or no end.
+fn read_any_line<'a>(
+    text: &'a [u8],
+    tokens: &mut Vec<Token<'a>>,
+) -> Result<(bool, Option<&'a [u8]>), AllocError>
+    ensures line { IfOk result (λ read. IsFirstLine text.now (symbols_of tokens.new.items) read.0 read.1) }
+    ensures shorter { IfOk result (λ read. IfSome read.1 (λ rest. length rest.now < length text.now)) }
+{
+    let (line, after) = next_line(text);
+    let Some(code) = allowed_code(line) else {
+        return Ok((false, after));
+    };
+    tokenize(code, tokens)?;
+    Ok((true, after))
+}
+
+/// What the first line of a text says, and what follows the line.
 pub(crate) fn meaning_of<'a, 'b>(
     buffers: &'b mut Buffers<'a>,
-    line: &'a [u8],
-) -> Result<Statement<'a, 'b>, BenchCause>
-    ensures { Gives cause.Memory meant result (meaning_of line.now) }
+    text: &'a [u8],
+) -> Result<(Statement<'a, 'b>, Option<&'a [u8]>), BenchCause>
+    ensures gives { Gives cause.Memory (λ read. meant read.0) result (meaning_of (first_line text.now)) }
+    ensures rest { IfOk result (λ read. lines_of text.now ≡ first_line text.now ∷ lines_after read.1) }
+    ensures shorter { IfOk result (λ read. IfSome read.1 (λ rest. length rest.now < length text.now)) }
 {
-    let Some(code) = allowed_code(line) else {
+    let (is_allowed, after) = read_line(text, &mut buffers.tokens)?;
+    if !is_allowed {
         return Err(BenchCause::BadName);
-    };
-    tokenize(code, &mut buffers.tokens)?;
+    }
     if has_end(&buffers.tokens) {
         return Err(BenchCause::BadName);
     }
-    statement_of(&mut buffers.inputs, &buffers.tokens)
+    match statement_of(&mut buffers.inputs, &buffers.tokens) {
+        Ok(statement) => Ok((statement, after)),
+        Err(cause) => Err(cause),
+    }
 }

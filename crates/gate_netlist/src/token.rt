@@ -1,8 +1,8 @@
-ghost use Rattle.std.specs.Prelude.{◌≡◌, ◌<◌, ◌∷◌, ◌++◌, length, option_map, option_to_list, OnOk, true};
+ghost use Rattle.std.specs.Prelude.{◌≡◌, ◌<◌, ◌∷◌, ◌++◌, length, option_map, option_to_list, OnOk, IfOk, true};
 ghost use Rattle.std.specs.List.{list_any, prefix_len};
 ghost use Rattle.gate_netlist.specs.Symbols.{Word, mark_of, is_letter, begins_with_letter, is_allowed, is_end, symbols};
 ghost use Rattle.gate_netlist.specs.Inner.Splits.{word_first, after_open, has_comma, after_equals, closes};
-ghost use Rattle.gate_netlist.specs.Inner.Tokens.{symbol_of, symbols_of, allowed_code};
+ghost use Rattle.gate_netlist.specs.Inner.Tokens.{symbol_of, symbols_of, code_of, after_code, begins_with_code, allowed_code};
 
 use std::alloc::AllocError;
 
@@ -106,10 +106,21 @@ fn word_len(code: &[u8]) -> usize
     code.iter().take_while(|byte| is_letter(**byte)).count()
 }
 
+/// Whether a byte stands in front that may stand outside a comment.
+fn begins_with_code(text: &[u8]) -> bool
+    ensures { result ≡ begins_with_code text.now }
+{
+    match text {
+        [byte, ..] => may_stand(*byte),
+        [] => false,
+    }
+}
+
 /// The word in front, and what follows it.
 fn split_word(code: &[u8]) -> (&str, &[u8])
     requires { begins_with_letter code.now ≡ true }
-    ensures word { symbols code.now ≡ Word result.0.now ∷ symbols result.1.now }
+    ensures word { symbols (code_of code.now) ≡ Word result.0.now ∷ symbols (code_of result.1.now) }
+    ensures rest { after_code result.1.now ≡ after_code code.now }
     ensures shorter { length result.1.now < length code.now }
 {
     let (word, rest) = code.split_at(word_len(code));
@@ -118,10 +129,10 @@ fn split_word(code: &[u8]) -> (&str, &[u8])
 }
 
 /// The token in front, if one is there, and what follows it.
-#[tactic(auto, unfolding(crate::specs::Symbols::symbols))]
 fn next_token(code: &[u8]) -> (Option<Token<'_>>, &[u8])
-    requires { 0 < length code.now }
-    ensures token { symbols code.now ≡ option_to_list (option_map symbol_of result.0) ++ symbols result.1.now }
+    requires { begins_with_code code.now ≡ true }
+    ensures token { symbols (code_of code.now) ≡ option_to_list (option_map symbol_of result.0) ++ symbols (code_of result.1.now) }
+    ensures rest { after_code result.1.now ≡ after_code code.now }
     ensures shorter { length result.1.now < length code.now }
 {
     let byte = code[0];
@@ -132,20 +143,25 @@ fn next_token(code: &[u8]) -> (Option<Token<'_>>, &[u8])
     (mark_of(byte), &code[1..])
 }
 
-/// Puts the marks and words of a line in place of what the buffer holds.
-pub(crate) fn tokenize<'a>(code: &'a [u8], tokens: &mut Vec<Token<'a>>) -> Result<(), AllocError>
-    ensures { OnOk result (symbols_of tokens.new.items ≡ symbols code.now) }
+/// Puts the marks and words in front, up to the first byte that may not stand outside a comment, in place of what the buffer
+/// holds. Gives what is left.
+pub(crate) fn tokenize<'a>(
+    text: &'a [u8],
+    tokens: &mut Vec<Token<'a>>,
+) -> Result<&'a [u8], AllocError>
+    ensures symbols { OnOk result (symbols_of tokens.new.items ≡ symbols (code_of text.now)) }
+    ensures rest { IfOk result (λ rest. rest.now ≡ after_code text.now) }
 {
     tokens.clear();
-    let mut rest = code;
-    while !rest.is_empty() {
+    let mut rest = text;
+    while begins_with_code(rest) {
         let (token, after) = next_token(rest);
         if let Some(token) = token {
             tokens.push(token)?;
         }
         rest = after;
     }
-    Ok(())
+    Ok(rest)
 }
 
 /// The word in front, and what follows it.
