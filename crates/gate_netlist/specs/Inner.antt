@@ -2,11 +2,7 @@
 pub mod Clocked
 pub mod Faults
 pub mod FirstLine
-pub mod Held
-pub mod HeldBench
-pub mod HeldCut
-pub mod HeldNets
-pub mod HeldParts
+pub mod Hashing
 pub mod Keys
 pub mod Kinds
 pub mod Meaning

@@ -10,6 +10,11 @@ pub mod Gives
 pub mod Accepted
 pub mod Bench
 pub mod Netlist
+pub mod Held
+pub mod HeldBench
+pub mod HeldCut
+pub mod HeldNets
+pub mod HeldParts
 pub mod Statements
 pub mod Symbols
 pub mod Settings

@@ -29,7 +29,7 @@ impl Model for Bench {
 
     ghost Value = { Netlist };
 
-    ghost use Rattle.gate_netlist.specs.Inner.HeldBench.{bench_netlist};
+    ghost use Rattle.gate_netlist.specs.HeldBench.{bench_netlist};
 
     ghost view = { bench_netlist };
 

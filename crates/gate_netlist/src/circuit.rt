@@ -35,7 +35,7 @@ impl Model for Circuit {
 
     ghost Value = { Design };
 
-    ghost use Rattle.gate_netlist.specs.Inner.Held.{design_of, IsHeld};
+    ghost use Rattle.gate_netlist.specs.Held.{design_of, IsHeld};
 
     ghost view = { design_of };
 

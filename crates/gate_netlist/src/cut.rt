@@ -22,7 +22,7 @@ impl Model for Cut {
 
     ghost Value = { Ownership };
 
-    ghost use Rattle.gate_netlist.specs.Inner.HeldCut.{ownership_of, IsHeldCut};
+    ghost use Rattle.gate_netlist.specs.HeldCut.{ownership_of, IsHeldCut};
 
     ghost view = { ownership_of };
 

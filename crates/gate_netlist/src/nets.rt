@@ -1,5 +1,5 @@
 ghost use Rattle.std.specs.Prelude.{◌≡◌, ◌≤◌, length, IfOk};
-ghost use Rattle.gate_netlist.specs.Inner.HeldNets.{numbers_held, AreHeld};
+ghost use Rattle.gate_netlist.specs.HeldNets.{numbers_held, AreHeld};
 
 use std::alloc::{AllocError, Global};
 use std::marker::Model;
@@ -24,7 +24,7 @@ impl Model for Nets {
 
     ghost Value = { List ℕ };
 
-    ghost use Rattle.gate_netlist.specs.Inner.HeldNets.{numbers_held, AreHeld};
+    ghost use Rattle.gate_netlist.specs.HeldNets.{numbers_held, AreHeld};
 
     ghost view = { λ nets. numbers_held nets.held };
 

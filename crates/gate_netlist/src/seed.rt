@@ -10,7 +10,7 @@ pub struct TextHasher {
 }
 
 impl Hasher for TextHasher {
-    ghost use Rattle.gate_netlist.specs.Seeds.{written};
+    ghost use Rattle.gate_netlist.specs.Inner.Hashing.{written};
     ghost use Rattle.std.specs.Hash.FoldHasher.{finish};
 
     ghost write = { written };

@@ -5,7 +5,7 @@ ghost use Rattle.gate_netlist.specs.Netlist.{place_of};
 ghost use Rattle.gate_netlist.specs.Settings.{text_at};
 ghost use Rattle.gate_netlist.specs.Causes.{cause_of};
 ghost use Rattle.gate_netlist.specs.Inner.Clocked.{HasClocks};
-ghost use Rattle.gate_netlist.specs.Inner.HeldParts.{parts_netlist};
+ghost use Rattle.gate_netlist.specs.HeldParts.{parts_netlist};
 ghost use Rattle.gate_netlist.specs.Meaning.{clock_among, driver_by, drivers_of, cut_of, clocked_circuit, circuit_of};
 
 use super::Circuit;

@@ -3,7 +3,7 @@ ghost use Rattle.std.specs.List.{list_any};
 ghost use Rattle.std.specs.Str.{bytes_eq};
 ghost use Rattle.toml.specs.View.{table_view};
 ghost use Rattle.gate_netlist.specs.Inner.Netlist.{IsNetlist};
-ghost use Rattle.gate_netlist.specs.Inner.HeldParts.{parts_netlist};
+ghost use Rattle.gate_netlist.specs.HeldParts.{parts_netlist};
 ghost use Rattle.gate_netlist.specs.Meaning.{with_input, with_clock};
 
 use super::flops::some_takes_clock;

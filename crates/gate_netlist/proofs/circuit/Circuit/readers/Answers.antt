@@ -1,7 +1,7 @@
 use Rattle.std.proofs.Common.{◌<◌, ◌∙◌, [], ap, length, get_or, arith}
 use Rattle.std.proofs.lemmas.List.FromFn.{length-map-range_with_len, get_or-map-range_with_len}
 use Rattle.gate_netlist.specs.Circuit.{nets_of, readers_of}
-use Rattle.gate_netlist.specs.Inner.Held.{design_of}
+use Rattle.gate_netlist.specs.Held.{design_of}
 use Rattle.gate_netlist.proofs.circuit.Circuit.readers.Goals as goal
 
 pub get-requires : goal.get-requires

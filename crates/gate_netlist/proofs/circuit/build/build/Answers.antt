@@ -1,5 +1,5 @@
 use Rattle.toml.specs.View.{table_view}
-use Rattle.gate_netlist.specs.Inner.HeldParts.{parts_netlist}
+use Rattle.gate_netlist.specs.HeldParts.{parts_netlist}
 use Rattle.gate_netlist.proofs.Clocks.{has_clocks_by}
 use Rattle.gate_netlist.proofs.Circuits.{clocked_circuit-circuit_of}
 use Rattle.gate_netlist.proofs.circuit.build.build.Goals as goal

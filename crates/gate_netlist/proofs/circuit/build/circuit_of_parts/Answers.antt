@@ -1,7 +1,7 @@
 use Rattle.std.proofs.Common.{◌∙◌, sym, subst, arith}
 use Rattle.toml.specs.View.{table_view}
 use Rattle.gate_netlist.specs.Circuit.{IsCircuit}
-use Rattle.gate_netlist.specs.Inner.HeldParts.{parts_netlist}
+use Rattle.gate_netlist.specs.HeldParts.{parts_netlist}
 use Rattle.gate_netlist.specs.Meaning.{clocked_circuit}
 use Rattle.gate_netlist.proofs.Circuits.{is_circuit, used_below, readers_all}
 use Rattle.gate_netlist.proofs.circuit.build.circuit_of_parts.Goals as goal

@@ -1,7 +1,7 @@
 use Rattle.std.proofs.Common.{◌<◌, ◌∙◌, [], ap, length, get_or, arith}
 use Rattle.std.proofs.lemmas.List.FromFn.{length-map-range_with_len, get_or-map-range_with_len}
 use Rattle.gate_netlist.specs.Cut.{own_nets}
-use Rattle.gate_netlist.specs.Inner.HeldCut.{ownership_of}
+use Rattle.gate_netlist.specs.HeldCut.{ownership_of}
 use Rattle.gate_netlist.proofs.cut.Cut.own_nets.Goals as goal
 
 pub get-requires : goal.get-requires

@@ -1,7 +1,7 @@
 use Rattle.std.proofs.Common.{◌≡◌, ℕ, suc, ◌-◌, ◌/◌, ◌<◌, ◌≤◌, List, length, take, drop, refl, ap, sym, ◌∙◌, arith}
 use Rattle.std.specs.Hash.FoldHasher as words
 use Rattle.std.proofs.lemmas.List.{length-drop}
-use Rattle.gate_netlist.specs.Seeds.{parted}
+use Rattle.gate_netlist.specs.Inner.Hashing.{parted}
 use Rattle.gate_netlist.proofs.seed.TextHasherHasher.write.Goals as goal
 
 module _ {H : Type 0} (write : H → List ℕ → H) (h : H) (bytes : List ℕ) where

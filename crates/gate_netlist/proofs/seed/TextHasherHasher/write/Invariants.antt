@@ -1,5 +1,5 @@
 use Rattle.std.proofs.Common.{◌≡◌, length}
-use Rattle.gate_netlist.specs.Seeds.{written}
+use Rattle.gate_netlist.specs.Inner.Hashing.{written}
 use Rattle.gate_netlist.proofs.seed.TextHasherHasher.write.Given as goal
 
 abbrev pub invariant-loop-rest : goal.invariant-loop-rest
