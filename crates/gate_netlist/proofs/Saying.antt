@@ -6,7 +6,7 @@ use Rattle.gate_netlist.specs.Accepted.{AreSaid, Means}
 use Rattle.gate_netlist.specs.Bench.{◌>>=◌, net_defined, nets_defined, stated, accepted, at_line, uses_other, unless_undriven, resolved, netlist_by, bench_of}
 use Rattle.gate_netlist.specs.Lines.{lines_of}
 use Rattle.gate_netlist.specs.Netlist.{Netlist}
-use Rattle.gate_netlist.specs.Statements.{Statement, meaning_of}
+use Rattle.gate_netlist.specs.Statements.{Statement}
 use Rattle.gate_netlist.proofs.Resolving.{bind_ok, at_line-ok, same_list, meaning_stated}
 
 are_said : (earlier : List (List ℕ)) (line : ℕ) (ls : List (List ℕ)) (ss : List Statement) → accepted earlier line ls ≡ Ok ss → AreSaid ls ss

@@ -4,7 +4,6 @@ use Rattle.std.specs.List.{All, AllByRecursion}
 use Rattle.std.proofs.lemmas.Grind.{common_steps}
 use Rattle.std.proofs.lemmas.List.{map_push, length-append, take-map, drop-map, get_or-map, length-map}
 use Rattle.std.proofs.lemmas.List.Elements.{All-from_recursion, recursion_from_All, All-push, All-get_or}
-use Rattle.gate_netlist.specs.declared.bench.Definition.TheVariants as definition
 use Rattle.gate_netlist.specs.Bench.{number_among, definition_of, output_of}
 use Rattle.gate_netlist.specs.Statements.{Name, Statement, Nothing}
 use Rattle.gate_netlist.specs.Inner.Passes.{made_by, is_linked}

@@ -1,7 +1,6 @@
-use Rattle.std.proofs.Common.{◌≡◌, ◌∙◌, ◌+◌, ◌≤◌, ◌<◌, List, drop, length, map, get_or, ap, sym, arith, string_bytes}
+use Rattle.std.proofs.Common.{◌∙◌, ◌+◌, ◌≤◌, ◌<◌, List, drop, length, get_or, ap, sym, arith, string_bytes}
 use Rattle.std.proofs.lemmas.List.{drop_all, length-map}
 use Rattle.gate_netlist.specs.Statements.{Statement}
-use Rattle.gate_netlist.specs.Bench.{number_among}
 use Rattle.gate_netlist.specs.Inner.Keys.{names_in}
 use Rattle.gate_netlist.specs.Inner.Stored.{told_by, statements_in}
 use Rattle.gate_netlist.specs.declared.store.Stored.TheVariants as stored

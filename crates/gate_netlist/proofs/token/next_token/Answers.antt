@@ -1,7 +1,5 @@
-use Rattle.std.proofs.Common.{◌≡◌, ◌∙◌, sym, ap, option_map}
-use Rattle.std.specs.Prelude.{option_to_list}
+use Rattle.std.proofs.Common.{◌∙◌, sym}
 use Rattle.std.proofs.lemmas.List.{take_rest}
-use Rattle.gate_netlist.specs.Inner.Tokens.{symbol_of}
 use Rattle.gate_netlist.proofs.Coding.{code-mark-at, after-mark}
 use Rattle.gate_netlist.proofs.token.next_token.Goals as goal
 

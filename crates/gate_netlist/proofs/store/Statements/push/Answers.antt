@@ -1,5 +1,4 @@
 use Rattle.std.proofs.Common.{◌≡◌, ◌∙◌, List, [], ◌∷◌, ◌++◌, map, ap}
-use Rattle.gate_netlist.specs.Statements.{Statement}
 use Rattle.gate_netlist.specs.Inner.Meant.{meant, names_meant}
 use Rattle.gate_netlist.specs.Inner.Stored.{told_by, statements_in}
 use Rattle.gate_netlist.specs.declared.store.Stored.{Stored}
