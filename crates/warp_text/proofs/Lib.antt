@@ -1,2 +1,3 @@
 pub mod Simulating
 pub mod Replaying
+pub mod Telling

@@ -53,6 +53,7 @@ answered bench text stimulus until d (Err (faults.Run f)) is (r, read, run) = (d
 answered bench text stimulus until d (Err faults.Memory) is h = tt
 answered bench text stimulus until d (Err (faults.Bench f)) is h = absurd h
 answered bench text stimulus until d (Err (faults.Settings f)) is h = absurd h
+answered bench text stimulus until d (Err (faults.Only f)) is h = absurd h
 answered bench text stimulus until d (Err (faults.Schedule f)) is h = absurd h
 answered bench text stimulus until d (Err (faults.Event number cause)) is h = absurd h
 answered bench text stimulus until d (Err (faults.Unfinished time)) is h = absurd h

@@ -9,6 +9,9 @@ use Rattle.gate_vcd.specs.Faults.{stim_cause_name}
 use Rattle.gate_vcd.specs.declared.fault.StimCause.{StimCause}
 use Rattle.gate_vcd.specs.declared.fault.StimCause.TheVariants as stimulus
 use Rattle.gate_vcd.specs.declared.fault.StimFault.{StimFault}
+use Rattle.only_nets.specs.Names.{only_cause_name}
+use Rattle.only_nets.specs.declared.fault.OnlyCause.TheVariants as only
+use Rattle.only_nets.specs.declared.fault.OnlyFault.{OnlyFault}
 use Rattle.warp_block.specs.Faults.{block_fault_name}
 use Rattle.warp_block.specs.declared.fault.BlockFault.TheVariants as block
 use Rattle.warp_core.specs.Gather.{gather_fault_name}
@@ -40,6 +43,7 @@ run_fault_line run.Memory = codes "memory"
 abbrev pub fault_line : Fault → List ℕ
 fault_line (faults.Bench f) = codes "bench line " ++ decimal f.line ++ codes ": " ++ bench_cause_name f.cause
 fault_line (faults.Settings f) = codes "settings: " ++ settings_fault_name f
+fault_line (faults.Only f) = codes "only line " ++ decimal f.line ++ codes ": " ++ only_cause_name f.cause
 fault_line (faults.Stimulus f) =
     codes "stimulus " ++ place_word f.cause ++ codes " " ++ decimal f.at ++ codes ": " ++ stim_cause_name f.cause
 fault_line (faults.Schedule f) = codes "schedule line " ++ decimal f.line ++ codes ": " ++ schedule_cause_name f.cause
@@ -63,6 +67,9 @@ bench_fault f = elim f.cause [ bench.Memory ↦ faults.Memory | _ ↦ faults.Ben
 abbrev pub settings_fault : SettingsFault → Fault
 settings_fault settings.Memory = faults.Memory
 settings_fault f = faults.Settings f
+
+abbrev pub only_fault : OnlyFault → Fault
+only_fault f = elim f.cause [ only.Memory ↦ faults.Memory | _ ↦ faults.Only f ]
 
 abbrev pub stimulus_fault : StimFault → Fault
 stimulus_fault f = elim f.cause [ stimulus.Memory ↦ faults.Memory | _ ↦ faults.Stimulus f ]

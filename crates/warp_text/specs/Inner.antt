@@ -2,3 +2,4 @@
 pub mod Answer
 pub mod FaultLines
 pub mod Replay
+pub mod Only

@@ -5,3 +5,4 @@ pub mod Replay
 pub mod CountLines
 pub mod NetLines
 pub mod Inner
+pub mod Only

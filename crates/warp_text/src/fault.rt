@@ -8,25 +8,29 @@ ghost use Rattle.warp_text.specs.FaultLines.{
   settings_fault,
   stimulus_fault,
   schedule_fault,
+  only_fault,
   run_fault,
 };
 ghost use Rattle.warp_text.specs.declared.fault.Fault.TheVariants as faults;
 
 use gate_netlist::{BenchCause, BenchFault, SettingsFault};
 use gate_vcd::{StimCause, StimFault};
+use only_nets::{OnlyCause, OnlyFault};
 use std::alloc::AllocError;
 use std::fmt;
 use warp_block::BlockFault;
 use warp_core::{GatherFault, PlayFault, ScheduleCause, ScheduleFault};
 use warp_rounds::RunFault;
 
-/// Why a run or a replay ends without a dump: the text that is refused, with its fault; the fault of the run itself; the
+/// Why a run or a replay ends without a dump: the text that is refused, with its fault, the names of nets that are told
+/// among them; the fault of the run itself; the
 /// event that is refused, by its number from 1, or that a schedule leaves something to do, at a time in the stimulus's
 /// timescale; or want of memory, whatever part wanted it.
 #[derive(Clone, Copy, Debug, PartialEq, Eq)]
 pub enum Fault {
     Bench(BenchFault),
     Settings(SettingsFault),
+    Only(OnlyFault),
     Stimulus(StimFault),
     Schedule(ScheduleFault),
     Run(RunFault),
@@ -42,7 +46,8 @@ impl Fault {
         ensures { result ≡ status_of self.now }
     {
         match self {
-            Fault::Bench(_) | Fault::Settings(_) | Fault::Stimulus(_) | Fault::Schedule(_) => 1,
+            Fault::Bench(_) | Fault::Settings(_) | Fault::Only(_) => 1,
+            Fault::Stimulus(_) | Fault::Schedule(_) => 1,
             Fault::Run(_) | Fault::Event { .. } | Fault::Unfinished { .. } => 3,
             Fault::Memory => 3,
         }
@@ -73,6 +78,11 @@ impl fmt::Display for Fault {
             Fault::Settings(fault) => {
                 let cause = fault.name();
                 write!(f, "settings: {cause}")
+            }
+            Fault::Only(fault) => {
+                let line = fault.line;
+                let cause = fault.cause.name();
+                write!(f, "only line {line}: {cause}")
             }
             Fault::Stimulus(fault) => {
                 let place = place_name(fault.cause);
@@ -125,6 +135,17 @@ impl From<SettingsFault> for Fault {
         match fault {
             SettingsFault::Memory => Fault::Memory,
             _ => Fault::Settings(fault),
+        }
+    }
+}
+
+impl From<OnlyFault> for Fault {
+    ghost from_gives = { λ part fault. fault ≡ only_fault part };
+
+    fn from(fault: OnlyFault) -> Fault {
+        match fault.cause {
+            OnlyCause::Memory => Fault::Memory,
+            _ => Fault::Only(fault),
         }
     }
 }

@@ -3,8 +3,9 @@
 //! [`simulate_text`] answers the dump of a circuit's values for a bench text (ISCAS'89), a settings text (TOML) and
 //! a stimulus text (IEEE 1364-2005, section 18), or the first fault among them, or that of the run of its blocks;
 //! [`replay_text`] answers the same dump where a schedule of events is played on these blocks to its end;
+//! [`simulate_told`] and [`replay_told`] answer the same with a dump in which some nets alone are told;
 //! [`counts_of_texts`] answers what a circuit has, and [`nets_of_texts`] what each of its nets is. What is promised stands
-//! in `specs/`: `Answer` for the dump, `Replay` for schedules.
+//! in `specs/`: `Answer` for the dump, `Replay` for schedules, `Only` for nets that are told alone.
 #![tactic(auto)]
 
 mod counts;
@@ -14,6 +15,7 @@ mod nets;
 mod options;
 mod replay;
 mod simulate;
+mod told;
 
 pub use counts::count_text;
 pub use fault::Fault;
@@ -21,3 +23,4 @@ pub use nets::nets_text;
 pub use options::{MOST_BLOCKS, MOST_WINDOW, MOST_WORKERS, Options};
 pub use replay::replay_text;
 pub use simulate::{counts_of_texts, nets_of_texts, simulate_text};
+pub use told::{replay_told, simulate_told};

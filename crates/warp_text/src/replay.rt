@@ -83,7 +83,7 @@ fn play_cut(
 
 /// Plays events on the blocks of a circuit, which is cut evenly where the options give a number of blocks, else as its
 /// settings say, else not at all.
-fn waves_of(
+pub(crate) fn waves_of(
     alloc: Global,
     circuit: &Circuit,
     stimulus: &Stimulus,

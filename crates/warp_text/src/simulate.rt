@@ -63,7 +63,7 @@ pub(crate) fn settled_cut(circuit: &Circuit) -> Option<&Cut>
 
 /// Runs the blocks of a circuit, which is cut evenly where the options give a number of blocks, else as its settings
 /// say, else not at all.
-fn waves_of<G: Gate + Sync, R: Threads + Wait + Sync>(
+pub(crate) fn waves_of<G: Gate + Sync, R: Threads + Wait + Sync>(
     rt: &R,
     alloc: Global,
     circuit: &Circuit,
