@@ -3,6 +3,7 @@ use Rattle.std.proofs.Common.{◌≡◌, ◌⊎◌, ◌∙◌, ap, sym, subst, i
 use Rattle.std.proofs.lemmas.Slice.Eq.{bytes_eq-Decides}
 use Rattle.std.specs.Borrow.{Bor}
 use Rattle.std.specs.Result.{result_unwrap_or}
+use Rattle.std.specs.Str.{bytes_eq}
 use Rattle.std.specs.Str.Parse.{ExplainsUnsignedError, HasUnsignedDigitsIfOk, ParsesUnsigned, digits_value, without_leading_plus}
 use Rattle.std.specs.declared.num.ParseIntError.{ParseIntError}
 use Rattle.clap.proofs.WalkLemmas.{first_value-rows, one_text-rows}
@@ -37,6 +38,10 @@ flag_read m name flag none set unset = record {
 -- the name of standard input
 pub input_named : (text : Option Text) (name : Text) → text ≡ Some name → is_input name ≡ true → text ≡ Some (codes "-")
 input_named text name is input = is ∙ ap Some ((bytes_eq-Decides name (codes "-")).0 input)
+
+-- the name of the outputs
+pub outputs_named : (text : Option Text) (name : Text) → text ≡ Some name → bytes_eq name (codes "outputs") ≡ true → text ≡ Some (codes "outputs")
+outputs_named text name is same = is ∙ ap Some ((bytes_eq-Decides name (codes "outputs")).0 same)
 
 -- the number that a text writes
 abbrev IsNumber : Option ℕ → Text → Type 0

@@ -22,6 +22,7 @@ refusal_of explains Is fault failures.Unwritten told is = absurd told
 pub uncounted_of : (bench settings : List ℕ) (fault : Fault) → IsCounted bench settings (Err fault) → IsUncounted bench settings fault
 uncounted_of bench settings (faults.Bench fault) is = is
 uncounted_of bench settings (faults.Settings fault) is = is
+uncounted_of bench settings (faults.Only fault) is = is
 uncounted_of bench settings (faults.Stimulus fault) is = is
 uncounted_of bench settings (faults.Schedule fault) is = is
 uncounted_of bench settings (faults.Run fault) is = is

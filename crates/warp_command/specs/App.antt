@@ -38,6 +38,9 @@ window_rule = with_default (number_option (codes "window") (Signed (pos 1) (pos 
 abbrev pub settings_rule : Rule
 settings_rule = option (codes "settings")
 
+abbrev pub only_rule : Rule
+only_rule = option (codes "only")
+
 -- a flag, which is set or not
 abbrev pub explain_rule : Rule
 explain_rule = record (new_rule (codes "explain")) { long = Some (codes "explain"); action = Some SetTrue }
@@ -58,11 +61,11 @@ shape name rules = record (new_shape name) { rules = rules }
 
 abbrev pub run_shape : Shape
 run_shape = shape (codes "run")
-    (until_rule ∷ blocks_rule ∷ workers_rule ∷ window_rule ∷ settings_rule ∷ explain_rule ∷ bench_rule ∷ stimulus_rule ∷ [])
+    (until_rule ∷ blocks_rule ∷ workers_rule ∷ window_rule ∷ settings_rule ∷ only_rule ∷ explain_rule ∷ bench_rule ∷ stimulus_rule ∷ [])
 
 abbrev pub replay_shape : Shape
 replay_shape = shape (codes "replay")
-    (until_rule ∷ blocks_rule ∷ settings_rule ∷ explain_rule ∷ bench_rule ∷ required stimulus_rule ∷ schedule_rule ∷ [])
+    (until_rule ∷ blocks_rule ∷ settings_rule ∷ only_rule ∷ explain_rule ∷ bench_rule ∷ required stimulus_rule ∷ schedule_rule ∷ [])
 
 abbrev pub check_shape : Shape
 check_shape = shape (codes "check") (settings_rule ∷ explain_rule ∷ bench_rule ∷ [])

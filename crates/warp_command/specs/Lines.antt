@@ -1,6 +1,7 @@
 -- Which request the words of a command line give.
 use Rattle.std.specs.Prelude.{◌≡◌, ◌⊎◌, ℕ, List, [], Bool, true, false, Option, None, Some, Result, Ok, Err, codes, option_map}
 use Rattle.std.specs.Borrow.{Bor}
+use Rattle.std.specs.Str.{bytes_eq}
 use Rattle.std.specs.Str.Parse.{digits_value, without_leading_plus}
 use Rattle.clap.specs.Words.{IsAmong, Row, Text, fault_of, first_of, one_of, subcommand_of}
 use Rattle.clap.specs.declared.error.kind.ErrorKind.TheVariants as kind
@@ -17,6 +18,8 @@ use Rattle.warp_command.specs.declared.request.Run.{Run}
 use Rattle.warp_command.specs.declared.request.Replay.{Replay}
 use Rattle.warp_command.specs.declared.request.Check.{Check}
 use Rattle.warp_command.specs.declared.request.Listing.{Listing}
+use Rattle.warp_command.specs.declared.request.Only.{Only}
+use Rattle.warp_command.specs.declared.request.Only.TheVariants as only
 use Rattle.warp_command.specs.declared.request.Sources.{Sources}
 use Rattle.warp_command.specs.declared.request.Sources.TheVariants as sources
 
@@ -54,10 +57,17 @@ AreSources rows sources.Joined = (text_in rows (codes "BENCH") ≡ Some (codes "
 AreSources rows (sources.Apart bench stimulus) =
     (text_in rows (codes "BENCH") ≡ Some bench.now) × (is_input bench.now ≡ false) × (text_in rows (codes "STIMULUS") ≡ Some stimulus.now)
 
+-- all nets, the outputs, or those that a text names, which isn't called `outputs`
+abbrev pub IsOnly : Rows → Only → Type 0
+IsOnly rows only.All = text_in rows (codes "only") ≡ None
+IsOnly rows only.Outputs = text_in rows (codes "only") ≡ Some (codes "outputs")
+IsOnly rows (only.Named name) = (text_in rows (codes "only") ≡ Some name.now) × (bytes_eq name.now (codes "outputs") ≡ false)
+
 pub record IsRun (rows : Rows) (run : Run) : Type 0 where
   pub options : AreOptions rows run.options
   pub explains : IsFlag rows (codes "explain") run.explains
   pub settings : text_in rows (codes "settings") ≡ text_behind run.settings
+  pub only : IsOnly rows run.only
   pub sources : AreSources rows run.sources
 
 pub record IsReplay (rows : Rows) (replay : Replay) : Type 0 where
@@ -65,6 +75,7 @@ pub record IsReplay (rows : Rows) (replay : Replay) : Type 0 where
   pub blocks : number_in rows (codes "blocks") ≡ replay.options.blocks
   pub explains : IsFlag rows (codes "explain") replay.explains
   pub settings : text_in rows (codes "settings") ≡ text_behind replay.settings
+  pub only : IsOnly rows replay.only
   pub bench : text_in rows (codes "BENCH") ≡ Some replay.bench.now
   pub stimulus : text_in rows (codes "STIMULUS") ≡ Some replay.stimulus.now
   pub schedule : text_in rows (codes "SCHEDULE") ≡ Some replay.schedule.now

@@ -4,6 +4,7 @@ use Rattle.std.specs.Borrow.{Bor}
 use Rattle.std.specs.declared.alloc.Global.{Global}
 use Rattle.warp_text.specs.Answer.{IsAnswer, IsCounted, IsListed}
 use Rattle.warp_text.specs.Replay.{IsReplay}
+use Rattle.warp_text.specs.Only.{IsToldAnswer, IsToldReplay}
 use Rattle.warp_text.specs.CountLines.{count_lines}
 use Rattle.warp_command.specs.Joined.{lines, before_parting, after_parting}
 use Rattle.gate_netlist.specs.declared.counts.Counts.{Counts}
@@ -17,6 +18,8 @@ use Rattle.warp_command.specs.declared.request.Run.{Run}
 use Rattle.warp_command.specs.declared.request.Replay.{Replay}
 use Rattle.warp_command.specs.declared.request.Check.{Check}
 use Rattle.warp_command.specs.declared.request.Listing.{Listing}
+use Rattle.warp_command.specs.declared.request.Only.{Only}
+use Rattle.warp_command.specs.declared.request.Only.TheVariants as only
 use Rattle.warp_command.specs.declared.request.Sources.{Sources}
 use Rattle.warp_command.specs.declared.request.Sources.TheVariants as sources
 use Rattle.warp_command.specs.declared.texts.FetchFault.{FetchFault}
@@ -67,35 +70,60 @@ IsRefusal explains Is (failures.Fault fault) = Is fault
 IsRefusal explains Is (failures.Explained fault text) = (explains ≡ true) × Is fault
 IsRefusal explains Is _ = ⊥
 
-abbrev pub IsSimulated : (explains : Bool) → (bench settings stimulus : List ℕ) (until : ℕ) → Reply → Type 0
-IsSimulated explains bench settings stimulus until (Ok dump) = IsAnswer bench settings stimulus until (Ok dump)
-IsSimulated explains bench settings stimulus until (Err failure) =
-    IsRefusal explains (λ fault. IsAnswer bench settings stimulus until (Err fault)) failure
+-- the text that names the nets that are told, empty where they are all nets or the outputs
+abbrev pub FetchesOnly : {T : Type 0} → Fetching T → Only → Step T
+FetchesOnly gives (only.Named name) = Fetches gives name.now
+FetchesOnly gives _ = Ends (λ result. IsOkAnd result (λ text. text.items ≡ []))
+
+-- the answer to three texts: all nets are told, the outputs, or those that a text names
+abbrev pub IsAnswerOf : Only → (names bench settings stimulus : List ℕ) (until : ℕ) → Result (Vec ℕ Global) Fault → Type 0
+IsAnswerOf only.All names bench settings stimulus until result = IsAnswer bench settings stimulus until result
+IsAnswerOf only.Outputs names bench settings stimulus until result = IsToldAnswer bench settings None stimulus until result
+IsAnswerOf (only.Named name) names bench settings stimulus until result = IsToldAnswer bench settings (Some names) stimulus until result
+
+abbrev pub IsSimulated : (explains : Bool) → Only → (names bench settings stimulus : List ℕ) (until : ℕ) → Reply → Type 0
+IsSimulated explains only names bench settings stimulus until (Ok dump) = IsAnswerOf only names bench settings stimulus until (Ok dump)
+IsSimulated explains only names bench settings stimulus until (Err failure) =
+    IsRefusal explains (λ fault. IsAnswerOf only names bench settings stimulus until (Err fault)) failure
 
 -- standard input holds both texts
-abbrev pub RunsJoined : {T : Type 0} → Fetching T → (explains : Bool) → List ℕ → ℕ → Step T
-RunsJoined gives explains settings until =
+abbrev pub RunsJoined : {T : Type 0} → Fetching T → (explains : Bool) → Only → List ℕ → ℕ → Step T
+RunsJoined gives explains only settings until =
     Then (Fetches gives (codes "-")) (λ joined.
-    Ends (IsSimulated explains (before_parting (lines joined.items)) settings (after_parting (lines joined.items)) until))
+    Then (FetchesOnly gives only) (λ names.
+    Ends (IsSimulated explains only names.items (before_parting (lines joined.items)) settings (after_parting (lines joined.items)) until)))
 
 -- each text has its name
-abbrev pub RunsApart : {T : Type 0} → Fetching T → (explains : Bool) → (bench_name stimulus_name : List ℕ) → List ℕ → ℕ → Step T
-RunsApart gives explains bench_name stimulus_name settings until =
+abbrev pub RunsApart : {T : Type 0} → Fetching T → (explains : Bool) → Only → (bench_name stimulus_name : List ℕ) → List ℕ → ℕ → Step T
+RunsApart gives explains only bench_name stimulus_name settings until =
     Then (Fetches gives bench_name) (λ bench.
     Then (Fetches gives stimulus_name) (λ stimulus.
-    Ends (IsSimulated explains bench.items settings stimulus.items until)))
+    Then (FetchesOnly gives only) (λ names.
+    Ends (IsSimulated explains only names.items bench.items settings stimulus.items until))))
 
-abbrev pub RunsSources : {T : Type 0} → Fetching T → (explains : Bool) → Sources → List ℕ → ℕ → Step T
-RunsSources gives explains sources.Joined = RunsJoined gives explains
-RunsSources gives explains (sources.Apart bench stimulus) = RunsApart gives explains bench.now stimulus.now
+abbrev pub RunsSources : {T : Type 0} → Fetching T → (explains : Bool) → Only → Sources → List ℕ → ℕ → Step T
+RunsSources gives explains only sources.Joined = RunsJoined gives explains only
+RunsSources gives explains only (sources.Apart bench stimulus) = RunsApart gives explains only bench.now stimulus.now
 
 abbrev pub Runs : {T : Type 0} → Fetching T → Run → Step T
-Runs gives run = Then (FetchesSettings gives run.settings) (λ settings. RunsSources gives run.explains run.sources settings.items run.options.until)
+Runs gives run = Then (FetchesSettings gives run.settings) (λ settings. RunsSources gives run.explains run.only run.sources settings.items run.options.until)
 
-abbrev pub IsReplayed : (explains : Bool) → (bench settings stimulus schedule : List ℕ) → Option ℕ → ℕ → Reply → Type 0
-IsReplayed explains bench settings stimulus schedule blocks until (Ok dump) = IsReplay bench settings stimulus schedule blocks until (Ok dump)
-IsReplayed explains bench settings stimulus schedule blocks until (Err failure) =
-    IsRefusal explains (λ fault. IsReplay bench settings stimulus schedule blocks until (Err fault)) failure
+-- the answer to four texts
+abbrev pub IsReplayOf : Only → (names bench settings stimulus schedule : List ℕ) → Option ℕ → ℕ → Result (Vec ℕ Global) Fault → Type 0
+IsReplayOf only.All names bench settings stimulus schedule blocks until result = IsReplay bench settings stimulus schedule blocks until result
+IsReplayOf only.Outputs names bench settings stimulus schedule blocks until result = IsToldReplay bench settings None stimulus schedule blocks until result
+IsReplayOf (only.Named name) names bench settings stimulus schedule blocks until result = IsToldReplay bench settings (Some names) stimulus schedule blocks until result
+
+abbrev pub IsReplayed : (explains : Bool) → Only → (names bench settings stimulus schedule : List ℕ) → Option ℕ → ℕ → Reply → Type 0
+IsReplayed explains only names bench settings stimulus schedule blocks until (Ok dump) = IsReplayOf only names bench settings stimulus schedule blocks until (Ok dump)
+IsReplayed explains only names bench settings stimulus schedule blocks until (Err failure) =
+    IsRefusal explains (λ fault. IsReplayOf only names bench settings stimulus schedule blocks until (Err fault)) failure
+
+-- a schedule is played once the texts are had but for the names
+abbrev pub ReplaysOn : {T : Type 0} → Fetching T → Replay → (bench settings stimulus schedule : List ℕ) → Step T
+ReplaysOn gives replay bench settings stimulus schedule =
+    Then (FetchesOnly gives replay.only) (λ names.
+    Ends (IsReplayed replay.explains replay.only names.items bench settings stimulus schedule replay.options.blocks replay.options.until))
 
 -- a schedule is played
 abbrev pub Replays : {T : Type 0} → Fetching T → Replay → Step T
@@ -104,7 +132,7 @@ Replays gives replay =
     Then (Fetches gives replay.bench.now) (λ bench.
     Then (Fetches gives replay.stimulus.now) (λ stimulus.
     Then (Fetches gives replay.schedule.now) (λ schedule.
-    Ends (IsReplayed replay.explains bench.items settings.items stimulus.items schedule.items replay.options.blocks replay.options.until)))))
+    ReplaysOn gives replay bench.items settings.items stimulus.items schedule.items))))
 
 -- the counts are printed; want of memory may keep them from it
 abbrev pub IsUncounted : (bench settings : List ℕ) → Fault → Type 0

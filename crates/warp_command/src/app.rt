@@ -8,6 +8,7 @@ ghost use Rattle.warp_command.specs.App.{
   workers_rule,
   window_rule,
   settings_rule,
+  only_rule,
   explain_rule,
   bench_rule,
   stimulus_rule,
@@ -35,6 +36,16 @@ fn settings_option<'a>(alloc: Global) -> Arg<'a>
         .value_name("FILE")
         .action(ArgAction::Set)
         .help("Delays, clock, scope and cut, as TOML")
+}
+
+fn only_option<'a>(alloc: Global) -> Arg<'a>
+    ensures { HasRule only_rule result }
+{
+    Arg::new(alloc, "only")
+        .long("only")
+        .value_name("NETS")
+        .action(ArgAction::Set)
+        .help("Tells some nets alone: outputs, or a file of names, one a line")
 }
 
 fn explain_flag<'a>(alloc: Global) -> Arg<'a>
@@ -122,6 +133,7 @@ fn run_command<'a>(alloc: Global) -> Result<Command<'a>, AllocError>
         .arg(workers_option(alloc))?
         .arg(window_option(alloc))?
         .arg(settings_option(alloc))?
+        .arg(only_option(alloc))?
         .arg(explain_flag(alloc))?
         .arg(bench_argument(alloc, bench))?
         .arg(stimulus_argument(alloc))
@@ -137,6 +149,7 @@ fn replay_command<'a>(alloc: Global) -> Result<Command<'a>, AllocError>
         .arg(until_option(alloc))?
         .arg(blocks_option(alloc))?
         .arg(settings_option(alloc))?
+        .arg(only_option(alloc))?
         .arg(explain_flag(alloc))?
         .arg(bench_argument(alloc, "The circuit; - for standard input"))?
         .arg(stimulus)?

@@ -18,6 +18,7 @@ pub(crate) struct Given<'a> {
     pub settings: Source<'a>,
     pub stimulus: Source<'a>,
     pub schedule: Source<'a>,
+    pub only: Source<'a>,
 }
 
 /// A text that is all of its file.
@@ -60,7 +61,7 @@ fn explained(alloc: Global, fault: &Fault, given: &Given<'_>) -> Result<String, 
         Fault::Schedule(fault) => explain_schedule(alloc, given.schedule, fault),
         Fault::Event { number, cause } => explain_event(alloc, given.schedule, *number, *cause),
         Fault::Unfinished { time } => explain_unfinished(alloc, given.schedule, *time),
-        Fault::Run(_) | Fault::Memory => Ok(String::new(alloc)),
+        Fault::Only(_) | Fault::Run(_) | Fault::Memory => Ok(String::new(alloc)),
     }
 }
 

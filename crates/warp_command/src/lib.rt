@@ -26,5 +26,5 @@ pub use joined::split_joined;
 pub use line::read_line;
 pub use outside::{Outside, read_all};
 pub use reply::reply_to;
-pub use request::{Check, Listing, Replay, Request, Run, Sources};
+pub use request::{Check, Listing, Only, Replay, Request, Run, Sources};
 pub use texts::{FetchFault, Texts};

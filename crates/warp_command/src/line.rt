@@ -10,6 +10,7 @@ ghost use Rattle.warp_command.specs.Lines.{
   AreOptions,
   AreSources,
   IsFlag,
+  IsOnly,
   IsRun,
   IsReplay,
   IsCheck,
@@ -20,7 +21,7 @@ ghost use Rattle.warp_command.specs.Lines.{
 
 use crate::app::program_command;
 use crate::failure::Failure;
-use crate::request::{Check, Listing, Replay, Request, Run, Sources};
+use crate::request::{Check, Listing, Only, Replay, Request, Run, Sources};
 use clap::error::ErrorKind;
 use clap::{ArgMatches, Error};
 use std::alloc::Global;
@@ -90,6 +91,23 @@ fn settings_of<'a>(found: &ArgMatches<'a>) -> Option<&'a str>
     text_of(found, "settings")
 }
 
+/// Which nets the dump tells.
+#[tactic(auto, using(crate::proofs::Lines::outputs_named))]
+fn only_of<'a>(found: &ArgMatches<'a>) -> Only<'a>
+    ensures { IsOnly (rows_in found.now) result }
+{
+    match text_of(found, "only") {
+        None => Only::All,
+        Some(name) => {
+            if name == "outputs" {
+                Only::Outputs
+            } else {
+                Only::Named(name)
+            }
+        }
+    }
+}
+
 /// What is chosen for a run.
 fn options_of<'a>(found: &ArgMatches<'a>) -> Result<Options, Failure<'a>>
     ensures { IsRead (AreOptions (rows_in found.now)) result }
@@ -130,11 +148,13 @@ fn run_of<'a>(found: &ArgMatches<'a>) -> Result<Run<'a>, Failure<'a>>
     let options = options_of(found)?;
     let explains = explains_of(found);
     let settings = settings_of(found);
+    let only = only_of(found);
     let sources = sources_of(found)?;
     Ok(Run {
         options,
         explains,
         settings,
+        only,
         sources,
     })
 }
@@ -157,6 +177,7 @@ fn replay_of<'a>(found: &ArgMatches<'a>) -> Result<Replay<'a>, Failure<'a>>
     let options = replay_options_of(found)?;
     let explains = explains_of(found);
     let settings = settings_of(found);
+    let only = only_of(found);
     let bench = given_text_of(found, "BENCH")?;
     let stimulus = given_text_of(found, "STIMULUS")?;
     let schedule = given_text_of(found, "SCHEDULE")?;
@@ -164,6 +185,7 @@ fn replay_of<'a>(found: &ArgMatches<'a>) -> Result<Replay<'a>, Failure<'a>>
         options,
         explains,
         settings,
+        only,
         bench,
         stimulus,
         schedule,

@@ -3,12 +3,16 @@ ghost use Rattle.std.specs.Prelude.{◌≡◌, ◌≤◌, codes};
 ghost use Rattle.warp_command.specs.Replies.{
   Fetches,
   FetchesSettings,
+  FetchesOnly,
+  IsAnswerOf,
   IsSimulated,
   RunsJoined,
   RunsApart,
   RunsSources,
   Runs,
+  IsReplayOf,
   IsReplayed,
+  ReplaysOn,
   Replays,
   IsCountReply,
   Checks,
@@ -20,7 +24,7 @@ ghost use Rattle.warp_command.specs.Replies.{
 use crate::explained::{Given, at_end, nothing, refused, whole};
 use crate::failure::Failure;
 use crate::joined::split_joined;
-use crate::request::{Check, Listing, Replay, Request, Run, Sources};
+use crate::request::{Check, Listing, Only, Replay, Request, Run, Sources};
 use crate::texts::{FetchFault, Texts};
 use std::alloc::Global;
 use std::sync::Wait;
@@ -28,7 +32,8 @@ use std::thread::Threads;
 use text_places::Source;
 use warp_rounds::NoGate;
 use warp_text::{
-    Fault, Options, count_text, counts_of_texts, nets_of_texts, replay_text, simulate_text,
+    Fault, Options, count_text, counts_of_texts, nets_of_texts, replay_text, replay_told,
+    simulate_text, simulate_told,
 };
 
 fn fetch<'a, T: Texts>(alloc: Global, name: &'a str, texts: &mut T) -> Result<Vec<u8>, Failure<'a>>
@@ -54,23 +59,69 @@ fn fetch_settings<'a, T: Texts>(
     }
 }
 
-#[tactic(auto, using(crate::proofs::Refused::refusal_of))]
-fn simulated<'a, R: Threads + Wait + Sync>(
+/// The text that names the nets that are told, if one does.
+fn fetch_only<'a, T: Texts>(
+    alloc: Global,
+    only: Only<'a>,
+    texts: &mut T,
+) -> Result<Vec<u8>, Failure<'a>>
+    ensures { FetchesOnly T.gives only.entry texts.old result texts.new }
+{
+    match only {
+        Only::Named(name) => fetch(alloc, name, texts),
+        Only::All | Only::Outputs => Ok(Vec::new(alloc)),
+    }
+}
+
+/// The name of that text.
+fn only_name<'a>(only: Only<'a>) -> &'a str {
+    match only {
+        Only::Named(name) => name,
+        Only::All | Only::Outputs => "",
+    }
+}
+
+/// What is answered to the texts of a run.
+fn answer_to<R: Threads + Wait + Sync>(
     rt: &R,
     alloc: Global,
     given: &Given<'_>,
+    only: Only<'_>,
     options: &Options,
-    explains: bool,
-) -> Result<Vec<u8>, Failure<'a>>
-    ensures { IsSimulated explains given.now.bench.text.now given.now.settings.text.now given.now.stimulus.text.now
+) -> Result<Vec<u8>, Fault>
+    ensures { IsAnswerOf only.entry given.now.only.text.now given.now.bench.text.now given.now.settings.text.now given.now.stimulus.text.now
         options.now.until result }
 {
     let bench = given.bench.text;
     let settings = given.settings.text;
     let stimulus = given.stimulus.text;
-    match simulate_text(rt, alloc, bench, settings, stimulus, options, &NoGate) {
+    match only {
+        Only::All => simulate_text(rt, alloc, bench, settings, stimulus, options, &NoGate),
+        Only::Outputs => {
+            simulate_told(rt, alloc, bench, settings, None, stimulus, options, &NoGate)
+        }
+        Only::Named(_) => {
+            let names = Some(given.only.text);
+            simulate_told(
+                rt, alloc, bench, settings, names, stimulus, options, &NoGate,
+            )
+        }
+    }
+}
+
+#[tactic(auto, using(crate::proofs::Refused::refusal_of))]
+fn simulated<'a, R: Threads + Wait + Sync>(
+    rt: &R,
+    alloc: Global,
+    given: &Given<'_>,
+    run: &Run<'_>,
+) -> Result<Vec<u8>, Failure<'a>>
+    ensures { IsSimulated run.now.explains run.now.only given.now.only.text.now given.now.bench.text.now given.now.settings.text.now
+        given.now.stimulus.text.now run.now.options.until result }
+{
+    match answer_to(rt, alloc, given, run.only, &run.options) {
         Ok(dump) => Ok(dump),
-        Err(fault) => Err(refused(alloc, explains, given, fault)),
+        Err(fault) => Err(refused(alloc, run.explains, given, fault)),
     }
 }
 
@@ -78,20 +129,22 @@ fn run_joined<'a, R: Threads + Wait + Sync, T: Texts>(
     rt: &R,
     alloc: Global,
     settings: &Source<'_>,
-    run: &Run<'_>,
+    run: &Run<'a>,
     texts: &mut T,
 ) -> Result<Vec<u8>, Failure<'a>>
-    ensures { RunsJoined T.gives run.now.explains settings.now.text.now run.now.options.until texts.old result texts.new }
+    ensures { RunsJoined T.gives run.now.explains run.now.only settings.now.text.now run.now.options.until texts.old result texts.new }
 {
     let joined = fetch(alloc, "-", texts)?;
+    let names = fetch_only(alloc, run.only, texts)?;
     let (bench, stimulus) = split_joined(joined.as_slice());
     let given = Given {
         bench: whole("-", bench),
         settings: *settings,
         stimulus: at_end("-", stimulus, joined.as_slice()),
         schedule: nothing(),
+        only: whole(only_name(run.only), names.as_slice()),
     };
-    simulated(rt, alloc, &given, &run.options, run.explains)
+    simulated(rt, alloc, &given, run)
 }
 
 fn run_apart<'a, R: Threads + Wait + Sync, T: Texts>(
@@ -100,21 +153,23 @@ fn run_apart<'a, R: Threads + Wait + Sync, T: Texts>(
     bench: &'a str,
     stimulus: &'a str,
     settings: &Source<'_>,
-    run: &Run<'_>,
+    run: &Run<'a>,
     texts: &mut T,
 ) -> Result<Vec<u8>, Failure<'a>>
-    ensures { RunsApart T.gives run.now.explains bench.entry.now stimulus.entry.now settings.now.text.now run.now.options.until
+    ensures { RunsApart T.gives run.now.explains run.now.only bench.entry.now stimulus.entry.now settings.now.text.now run.now.options.until
         texts.old result texts.new }
 {
     let bench_text = fetch(alloc, bench, texts)?;
     let stimulus_text = fetch(alloc, stimulus, texts)?;
+    let names = fetch_only(alloc, run.only, texts)?;
     let given = Given {
         bench: whole(bench, bench_text.as_slice()),
         settings: *settings,
         stimulus: whole(stimulus, stimulus_text.as_slice()),
         schedule: nothing(),
+        only: whole(only_name(run.only), names.as_slice()),
     };
-    simulated(rt, alloc, &given, &run.options, run.explains)
+    simulated(rt, alloc, &given, run)
 }
 
 fn run_sources<'a, R: Threads + Wait + Sync, T: Texts>(
@@ -124,7 +179,7 @@ fn run_sources<'a, R: Threads + Wait + Sync, T: Texts>(
     run: &Run<'a>,
     texts: &mut T,
 ) -> Result<Vec<u8>, Failure<'a>>
-    ensures { RunsSources T.gives run.now.explains run.now.sources settings.now.text.now run.now.options.until texts.old result texts.new }
+    ensures { RunsSources T.gives run.now.explains run.now.only run.now.sources settings.now.text.now run.now.options.until texts.old result texts.new }
 {
     match run.sources {
         Sources::Joined => run_joined(rt, alloc, settings, run, texts),
@@ -152,30 +207,64 @@ fn reply_to_run<'a, R: Threads + Wait + Sync, T: Texts>(
     run_sources(rt, alloc, &settings, &run, texts)
 }
 
-#[tactic(auto, using(crate::proofs::Refused::refusal_of))]
-fn replayed<'a>(
+/// What is answered to the texts of a replay.
+fn replay_of(
     alloc: Global,
     given: &Given<'_>,
+    only: Only<'_>,
     options: &Options,
-    explains: bool,
-) -> Result<Vec<u8>, Failure<'a>>
-    ensures { IsReplayed explains given.now.bench.text.now given.now.settings.text.now given.now.stimulus.text.now
+) -> Result<Vec<u8>, Fault>
+    ensures { IsReplayOf only.entry given.now.only.text.now given.now.bench.text.now given.now.settings.text.now given.now.stimulus.text.now
         given.now.schedule.text.now options.now.blocks options.now.until result }
 {
     let bench = given.bench.text;
     let settings = given.settings.text;
     let stimulus = given.stimulus.text;
-    match replay_text(
-        alloc,
-        bench,
-        settings,
-        stimulus,
-        given.schedule.text,
-        options,
-    ) {
-        Ok(dump) => Ok(dump),
-        Err(fault) => Err(refused(alloc, explains, given, fault)),
+    let schedule = given.schedule.text;
+    match only {
+        Only::All => replay_text(alloc, bench, settings, stimulus, schedule, options),
+        Only::Outputs => replay_told(alloc, bench, settings, None, stimulus, schedule, options),
+        Only::Named(_) => {
+            let names = Some(given.only.text);
+            replay_told(alloc, bench, settings, names, stimulus, schedule, options)
+        }
     }
+}
+
+#[tactic(auto, using(crate::proofs::Refused::refusal_of))]
+fn replayed<'a>(
+    alloc: Global,
+    given: &Given<'_>,
+    replay: &Replay<'_>,
+) -> Result<Vec<u8>, Failure<'a>>
+    ensures { IsReplayed replay.now.explains replay.now.only given.now.only.text.now given.now.bench.text.now given.now.settings.text.now
+        given.now.stimulus.text.now given.now.schedule.text.now replay.now.options.blocks replay.now.options.until result }
+{
+    match replay_of(alloc, given, replay.only, &replay.options) {
+        Ok(dump) => Ok(dump),
+        Err(fault) => Err(refused(alloc, replay.explains, given, fault)),
+    }
+}
+
+/// What a replay is answered whose texts are had but for the names of nets.
+fn replay_on<'a, T: Texts>(
+    alloc: Global,
+    others: &Given<'_>,
+    replay: &Replay<'a>,
+    texts: &mut T,
+) -> Result<Vec<u8>, Failure<'a>>
+    ensures { ReplaysOn T.gives replay.now others.now.bench.text.now others.now.settings.text.now others.now.stimulus.text.now
+        others.now.schedule.text.now texts.old result texts.new }
+{
+    let names = fetch_only(alloc, replay.only, texts)?;
+    let given = Given {
+        bench: others.bench,
+        settings: others.settings,
+        stimulus: others.stimulus,
+        schedule: others.schedule,
+        only: whole(only_name(replay.only), names.as_slice()),
+    };
+    replayed(alloc, &given, replay)
 }
 
 fn reply_to_replay<'a, T: Texts>(
@@ -189,13 +278,14 @@ fn reply_to_replay<'a, T: Texts>(
     let bench = fetch(alloc, replay.bench, texts)?;
     let stimulus = fetch(alloc, replay.stimulus, texts)?;
     let schedule = fetch(alloc, replay.schedule, texts)?;
-    let given = Given {
+    let others = Given {
         bench: whole(replay.bench, bench.as_slice()),
         settings: whole(shown_name(replay.settings), settings.as_slice()),
         stimulus: whole(replay.stimulus, stimulus.as_slice()),
         schedule: whole(replay.schedule, schedule.as_slice()),
+        only: nothing(),
     };
-    replayed(alloc, &given, &replay.options, replay.explains)
+    replay_on(alloc, &others, &replay, texts)
 }
 
 /// A bench and its settings, which a command reads alone.
@@ -213,6 +303,7 @@ fn circuit_texts<'a>(
         settings: whole(shown_name(settings_name), settings),
         stimulus: nothing(),
         schedule: nothing(),
+        only: nothing(),
     }
 }
 
@@ -276,7 +367,7 @@ fn reply_to_nets<'a, T: Texts>(
 }
 
 /// What a request is answered: the text to show, or why there is none. The texts that it names
-/// are fetched first, the settings before the bench before the stimulus before the schedule.
+/// are fetched first, the settings before the bench before the stimulus before the schedule before the names of nets.
 pub fn reply_to<'a, R: Threads + Wait + Sync, T: Texts>(
     rt: &R,
     alloc: Global,

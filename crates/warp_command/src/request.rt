@@ -12,12 +12,23 @@ pub enum Request<'a> {
     Nets(Listing<'a>),
 }
 
+/// Which nets a dump tells.
+#[derive(Clone, Copy, Debug)]
+pub enum Only<'a> {
+    All,
+    /// The outputs of the circuit.
+    Outputs,
+    /// Those that the text of this name names.
+    Named(&'a str),
+}
+
 /// To be shown the dump of a circuit.
 #[derive(Clone, Copy, Debug)]
 pub struct Run<'a> {
     pub options: Options,
     pub explains: bool,
     pub settings: Option<&'a str>,
+    pub only: Only<'a>,
     pub sources: Sources<'a>,
 }
 
@@ -35,6 +46,7 @@ pub struct Replay<'a> {
     pub options: Options,
     pub explains: bool,
     pub settings: Option<&'a str>,
+    pub only: Only<'a>,
     pub bench: &'a str,
     pub stimulus: &'a str,
     pub schedule: &'a str,

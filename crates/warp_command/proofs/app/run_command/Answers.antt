@@ -13,6 +13,7 @@ returns c =
     let workers = with_arg _ _ _ _ _ blocks c.workers_option.ensures c.in_ok-arg-3.ensures in
     let window = with_arg _ _ _ _ _ workers c.window_option.ensures c.in_ok-arg-4.ensures in
     let settings = with_arg _ _ _ _ _ window c.settings_option.ensures c.in_ok-arg-5.ensures in
-    let explain = with_arg _ _ _ _ _ settings c.explain_flag.ensures c.in_ok-arg-6.ensures in
-    let bench = with_arg _ _ _ _ _ explain c.bench_argument.ensures c.in_ok-arg-7.ensures in
-    IfOk-weaker c.arg-8.result _ _ (λ made adds. with_arg _ _ _ made _ bench c.stimulus_argument.ensures adds) c.arg-8.ensures
+    let only = with_arg _ _ _ _ _ settings c.only_option.ensures c.in_ok-arg-6.ensures in
+    let explain = with_arg _ _ _ _ _ only c.explain_flag.ensures c.in_ok-arg-7.ensures in
+    let bench = with_arg _ _ _ _ _ explain c.bench_argument.ensures c.in_ok-arg-8.ensures in
+    IfOk-weaker c.arg-9.result _ _ (λ made adds. with_arg _ _ _ made _ bench c.stimulus_argument.ensures adds) c.arg-9.ensures
