@@ -103,6 +103,7 @@ asked_of words parted (Ok (requests.Run run)) none same asks = (none, rw same at
 asked_of words parted (Ok (requests.Replay replay)) none same asks = (none, rw same at asks)
 asked_of words parted (Ok (requests.Check check)) none same asks = (none, rw same at asks)
 asked_of words parted (Ok (requests.Nets listing)) none same asks = (none, rw same at asks)
+asked_of words parted (Ok (requests.Compare comparison)) none same asks = (none, rw same at asks)
 asked_of words parted (Err failure) none same of_line = of_line
 
 -- what the matches ask for, the words ask for
@@ -126,6 +127,7 @@ shown_of words k (Ok (requests.Run run)) has told = absurd told
 shown_of words k (Ok (requests.Replay replay)) has told = absurd told
 shown_of words k (Ok (requests.Check check)) has told = absurd told
 shown_of words k (Ok (requests.Nets listing)) has told = absurd told
+shown_of words k (Ok (requests.Compare comparison)) has told = absurd told
 shown_of words k (Err failure) has of_line = of_line
 
 -- what `clap` has to show, the words ask for

@@ -14,9 +14,12 @@ refusal_of explains Is fault failures.NotText told is = absurd told
 refusal_of explains Is fault failures.Incomplete told is = absurd told
 refusal_of explains Is fault failures.StimulusExpected told is = absurd told
 refusal_of explains Is fault failures.StimulusNotExpected told is = absurd told
+refusal_of explains Is fault (failures.Expected form) told is = absurd told
 refusal_of explains Is fault (failures.Unreadable name) told is = absurd told
 refusal_of explains Is fault (failures.Fault same) told is = subst Is (sym told) is
 refusal_of explains Is fault (failures.Explained same text) told is = (told.0, subst Is (sym told.1) is)
+refusal_of explains Is fault (failures.NotCompared other) told is = absurd told
+refusal_of explains Is fault (failures.Differ text) told is = absurd told
 refusal_of explains Is fault failures.Unwritten told is = absurd told
 
 pub uncounted_of : (bench settings : List ℕ) (fault : Fault) → IsCounted bench settings (Err fault) → IsUncounted bench settings fault

@@ -1,5 +1,5 @@
 -- The program's commands, options and arguments, as far as they say which words `clap` takes.
-use Rattle.std.specs.Prelude.{List, [], ◌∷◌, Some, true, false, pos, codes}
+use Rattle.std.specs.Prelude.{ℕ, List, [], ◌∷◌, Some, true, false, pos, codes}
 use Rattle.clap.specs.Words.{App, Rule, Shape, Text, new_rule}
 use Rattle.clap.specs.Simple.{new_shape}
 use Rattle.clap.specs.declared.builder.action.ArgAction.TheVariants.{Set, SetTrue}
@@ -45,6 +45,40 @@ only_rule = option (codes "only")
 abbrev pub explain_rule : Rule
 explain_rule = record (new_rule (codes "explain")) { long = Some (codes "explain"); action = Some SetTrue }
 
+-- those of a comparison
+abbrev pub flag : Text → Rule
+flag name = record (new_rule name) { long = Some name; action = Some SetTrue }
+
+abbrev pub most_time : ℕ
+most_time = 18446744073709551615
+
+abbrev pub time_option : Text → Rule
+time_option name = number_option name (Unsigned 0 most_time)
+
+abbrev pub scope_rule : Rule
+scope_rule = option (codes "scope")
+
+abbrev pub from_rule : Rule
+from_rule = with_default (time_option (codes "from")) (codes "0")
+
+abbrev pub to_rule : Rule
+to_rule = time_option (codes "to")
+
+abbrev pub offset_rule : Rule
+offset_rule = option (codes "offset")
+
+abbrev pub within_rule : Rule
+within_rule = with_default (time_option (codes "within")) (codes "0")
+
+abbrev pub at_rule : Rule
+at_rule = option (codes "at")
+
+abbrev pub any_for_x_rule : Rule
+any_for_x_rule = flag (codes "any-for-x")
+
+abbrev pub list_rule : Rule
+list_rule = with_default (number_option (codes "list") (Signed (pos 0) (pos 4294967295))) (codes "20")
+
 -- the arguments without a name, in their order
 abbrev pub bench_rule : Rule
 bench_rule = required (new_rule (codes "BENCH"))
@@ -54,6 +88,12 @@ stimulus_rule = new_rule (codes "STIMULUS")
 
 abbrev pub schedule_rule : Rule
 schedule_rule = required (new_rule (codes "SCHEDULE"))
+
+abbrev pub expected_rule : Rule
+expected_rule = required (new_rule (codes "EXPECTED"))
+
+abbrev pub actual_rule : Rule
+actual_rule = required (new_rule (codes "ACTUAL"))
 
 -- the commands
 abbrev pub shape : Text → List Rule → Shape
@@ -73,6 +113,10 @@ check_shape = shape (codes "check") (settings_rule ∷ explain_rule ∷ bench_ru
 abbrev pub nets_shape : Shape
 nets_shape = shape (codes "nets") (settings_rule ∷ explain_rule ∷ bench_rule ∷ [])
 
+abbrev pub compare_shape : Shape
+compare_shape = shape (codes "compare")
+    (scope_rule ∷ from_rule ∷ to_rule ∷ offset_rule ∷ within_rule ∷ at_rule ∷ any_for_x_rule ∷ list_rule ∷ explain_rule ∷ expected_rule ∷ actual_rule ∷ [])
+
 -- the program, which does nothing without a command
 unfoldable pub program_app : App
 program_app = record {
@@ -82,5 +126,5 @@ program_app = record {
     arg_required_else_help = true;
     subcommand_required = true;
   };
-  subs = run_shape ∷ replay_shape ∷ check_shape ∷ nets_shape ∷ [];
+  subs = run_shape ∷ replay_shape ∷ check_shape ∷ nets_shape ∷ compare_shape ∷ [];
 }

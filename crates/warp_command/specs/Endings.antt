@@ -21,16 +21,17 @@ pub record IsTold (failure : Failure) (status : ℕ) (before after : Channels) :
   pub is_status : status ≡ failure_status failure
   pub told : Takes (failure_text failure) before.err after.err
 
--- A text goes to standard output. Where that took it, the program ends with 0 and standard error is as it was; where it
--- failed, that is told.
-pub record IsWritten (text : List ℕ) (status : ℕ) (before after : Channels) : Type 0 where
+-- A text goes to standard output. Where that took it, the program ends with a status and standard error is as it was;
+-- where it failed, that is told.
+pub record IsWritten (text : List ℕ) (ended status : ℕ) (before after : Channels) : Type 0 where
   pub written : Takes text before.out after.out
-  pub fine : after.out.failed ≡ false → (status ≡ 0) × (after.err ≡ before.err)
+  pub fine : after.out.failed ≡ false → (status ≡ ended) × (after.err ≡ before.err)
   pub unwritten : after.out.failed ≡ true → IsTold failures.Unwritten status before after
 
--- a text is written, and a failure told while standard output stays as it was
+-- A text is written, also that of dumps that differ, and any other failure told while standard output stays as it was.
 abbrev pub IsShown : Reply → (status : ℕ) → (before after : Channels) → Type 0
-IsShown (Ok text) status before after = IsWritten text.items status before after
+IsShown (Ok text) status before after = IsWritten text.items 0 status before after
+IsShown (Err (failures.Differ text)) status before after = IsWritten text.items 5 status before after
 IsShown (Err failure) status before after = IsTold failure status before after × (after.out ≡ before.out)
 
 -- a request is answered over the texts, and the answer is shown

@@ -1,8 +1,9 @@
 -- Which request the words of a command line give.
-use Rattle.std.specs.Prelude.{◌≡◌, ◌⊎◌, ℕ, List, [], Bool, true, false, Option, None, Some, Result, Ok, Err, codes, option_map}
+use Rattle.std.specs.Prelude.{◌≡◌, ◌⊎◌, ℕ, ◌<◌, ◌==◌, ◌&&◌, List, [], ◌∷◌, length, Bool, true, false, Option, None, Some, Result, Ok, Err, codes, option_map}
 use Rattle.std.specs.Borrow.{Bor}
+use Rattle.std.specs.List.{after_first, before_first, position_or_len}
 use Rattle.std.specs.Str.{bytes_eq}
-use Rattle.std.specs.Str.Parse.{digits_value, without_leading_plus}
+use Rattle.std.specs.Str.Parse.{IsNumeral, digits_value, without_leading_plus}
 use Rattle.clap.specs.Words.{IsAmong, Row, Text, fault_of, first_of, one_of, subcommand_of}
 use Rattle.clap.specs.declared.error.kind.ErrorKind.TheVariants as kind
 use Rattle.warp_text.specs.declared.options.Options.{Options}
@@ -17,6 +18,8 @@ use Rattle.warp_command.specs.declared.request.Request.TheVariants as requests
 use Rattle.warp_command.specs.declared.request.Run.{Run}
 use Rattle.warp_command.specs.declared.request.Replay.{Replay}
 use Rattle.warp_command.specs.declared.request.Check.{Check}
+use Rattle.vcd_compare.specs.declared.report.Options.{Options as Comparing}
+use Rattle.warp_command.specs.declared.request.Comparison.{Comparison}
 use Rattle.warp_command.specs.declared.request.Listing.{Listing}
 use Rattle.warp_command.specs.declared.request.Only.{Only}
 use Rattle.warp_command.specs.declared.request.Only.TheVariants as only
@@ -90,6 +93,52 @@ pub record IsListing (rows : Rows) (listing : Listing) : Type 0 where
   pub settings : text_in rows (codes "settings") ≡ text_behind listing.settings
   pub bench : text_in rows (codes "BENCH") ≡ Some listing.bench.now
 
+-- a text writes a number
+pub record IsNumber (text : Text) (number : ℕ) : Type 0 where
+  pub numeral : IsNumeral 10 (without_leading_plus text)
+  pub value : number ≡ digits_value 10 (without_leading_plus text)
+
+-- a text is parted at its first byte of this kind
+pub record AreParted (byte : ℕ) (text front back : Text) : Type 0 where
+  pub some : position_or_len (λ b. b == byte) text < length text
+  pub front_is : front ≡ before_first (λ b. b == byte) text
+  pub back_is : back ≡ after_first (λ b. b == byte) text
+
+-- two scopes, parted by `=`, or none
+abbrev pub AreScopes : Option Text → (expected actual : Option Text) → Type 0
+AreScopes None expected actual = (expected ≡ None) × (actual ≡ None)
+AreScopes (Some text) expected actual =
+    (front : Text) × (back : Text) × AreParted 61 text front back × (expected ≡ Some front) × (actual ≡ Some back)
+
+-- a time and a step that goes on, parted by `:`, or none
+abbrev pub AreStrobes : Option Text → Option (ℕ × ℕ) → Type 0
+AreStrobes None strobes = strobes ≡ None
+AreStrobes (Some text) None = ⊥
+AreStrobes (Some text) (Some strobe) =
+    (front : Text) × (back : Text) × AreParted 58 text front back × IsNumber front strobe.0 × IsNumber back strobe.1 × (0 < strobe.1)
+
+-- how much later, or behind a `-` how much earlier
+abbrev pub IsOffset : Option Text → (later earlier : ℕ) → Type 0
+IsOffset None later earlier = (later ≡ 0) × (earlier ≡ 0)
+IsOffset (Some text) later earlier =
+    (IsNumber text later × (earlier ≡ 0)) ⊎ ((digits : Text) × (text ≡ 45 ∷ digits) × (later ≡ 0) × IsNumber digits earlier)
+
+pub record AreComparing (rows : Rows) (options : Comparing) : Type 0 where
+  pub scopes : AreScopes (text_in rows (codes "scope")) (text_behind options.expected_scope) (text_behind options.actual_scope)
+  pub from : number_in rows (codes "from") ≡ Some options.from
+  pub to : number_in rows (codes "to") ≡ options.to
+  pub offset : IsOffset (text_in rows (codes "offset")) options.later options.earlier
+  pub within : number_in rows (codes "within") ≡ Some options.within
+  pub strobes : AreStrobes (text_in rows (codes "at")) options.strobes
+  pub any_for_x : IsFlag rows (codes "any-for-x") options.any_for_x
+
+pub record IsComparison (rows : Rows) (comparison : Comparison) : Type 0 where
+  pub options : AreComparing rows comparison.options
+  pub most : number_in rows (codes "list") ≡ Some comparison.most
+  pub expected : text_in rows (codes "EXPECTED") ≡ Some comparison.expected.now
+  pub actual : text_in rows (codes "ACTUAL") ≡ Some comparison.actual.now
+  pub apart : (is_input comparison.expected.now && is_input comparison.actual.now) ≡ false
+
 -- a line that is parted into this command and rows that say this
 pub record Commands (parted : Option (Text × Rows)) (command : Text) (Says : Rows → Type 0) : Type 0 where
   pub rows : Rows
@@ -103,6 +152,7 @@ Asks parted (requests.Run run) = Commands parted (codes "run") (λ rows. IsRun r
 Asks parted (requests.Replay replay) = Commands parted (codes "replay") (λ rows. IsReplay rows replay)
 Asks parted (requests.Check check) = Commands parted (codes "check") (λ rows. IsCheck rows check)
 Asks parted (requests.Nets listing) = Commands parted (codes "nets") (λ rows. IsListing rows listing)
+Asks parted (requests.Compare comparison) = Commands parted (codes "compare") (λ rows. IsComparison rows comparison)
 
 -- the line asks for help, or for the version
 abbrev pub AsksForHelp : List Text → Type 0

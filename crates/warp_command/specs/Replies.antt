@@ -1,5 +1,5 @@
 -- What a request is answered, over the texts in the order in which they are fetched.
-use Rattle.std.specs.Prelude.{◌≡◌, ℕ, List, [], Bool, true, Option, None, Some, Result, Ok, Err, Vec, codes, string_bytes, IsOkAnd}
+use Rattle.std.specs.Prelude.{◌≡◌, ℕ, List, [], Bool, true, false, Option, None, Some, Result, Ok, Err, Vec, codes, string_bytes, IsOkAnd}
 use Rattle.std.specs.Borrow.{Bor}
 use Rattle.std.specs.declared.alloc.Global.{Global}
 use Rattle.warp_text.specs.Answer.{IsAnswer, IsCounted, IsListed}
@@ -17,6 +17,11 @@ use Rattle.warp_command.specs.declared.request.Request.TheVariants as requests
 use Rattle.warp_command.specs.declared.request.Run.{Run}
 use Rattle.warp_command.specs.declared.request.Replay.{Replay}
 use Rattle.warp_command.specs.declared.request.Check.{Check}
+use Rattle.vcd_compare.specs.Times.{Moves}
+use Rattle.vcd_compare.specs.declared.report.Options.{Options as Comparing}
+use Rattle.compare_answer.specs.Answer.{IsText}
+use Rattle.compare_answer.specs.declared.answer.Compared.{Compared}
+use Rattle.warp_command.specs.declared.request.Comparison.{Comparison}
 use Rattle.warp_command.specs.declared.request.Listing.{Listing}
 use Rattle.warp_command.specs.declared.request.Only.{Only}
 use Rattle.warp_command.specs.declared.request.Only.TheVariants as only
@@ -160,6 +165,23 @@ Lists gives listing =
     Then (Fetches gives listing.bench.now) (λ bench.
     Ends (IsNetsReply listing.explains bench.items settings.items)))
 
+-- Two dumps are compared: a text where all bits agree, or that tells where they differ; or why they aren't. The line
+-- is incomplete where compared times don't go on.
+abbrev pub IsCompared : Comparing → ℕ → (expected actual : List ℕ) → Reply → Type 0
+IsCompared options most expected actual (Ok text) =
+    (c : Compared) × IsText options most expected actual (Ok c) × (c.agrees ≡ true) × (text.items ≡ c.text.items)
+IsCompared options most expected actual (Err (failures.Differ text)) =
+    (c : Compared) × IsText options most expected actual (Ok c) × (c.agrees ≡ false) × (text.items ≡ c.text.items)
+IsCompared options most expected actual (Err (failures.NotCompared fault)) = IsText options most expected actual (Err fault)
+IsCompared options most expected actual (Err failures.Incomplete) = ¬ Moves options
+IsCompared options most expected actual (Err _) = ⊥
+
+abbrev pub Compares : {T : Type 0} → Fetching T → Comparison → Step T
+Compares gives comparison =
+    Then (Fetches gives comparison.expected.now) (λ expected.
+    Then (Fetches gives comparison.actual.now) (λ actual.
+    Ends (IsCompared comparison.options comparison.most expected.items actual.items)))
+
 -- what a request is answered
 abbrev pub Replies : {T : Type 0} → Fetching T → Request → Step T
 Replies gives (requests.Help text) = Ends (λ result. IsOkAnd result (λ shown. shown.items ≡ string_bytes text))
@@ -167,3 +189,4 @@ Replies gives (requests.Run run) = Runs gives run
 Replies gives (requests.Replay replay) = Replays gives replay
 Replies gives (requests.Check check) = Checks gives check
 Replies gives (requests.Nets listing) = Lists gives listing
+Replies gives (requests.Compare comparison) = Compares gives comparison

@@ -16,6 +16,17 @@ ghost use Rattle.warp_command.specs.App.{
   replay_shape,
   check_shape,
   nets_shape,
+  scope_rule,
+  from_rule,
+  to_rule,
+  offset_rule,
+  within_rule,
+  at_rule,
+  any_for_x_rule,
+  list_rule,
+  expected_rule,
+  actual_rule,
+  compare_shape,
   program_app,
 };
 ghost use Rattle.warp_command.specs.Inner.App.{HasApp, HasRule, HasShape};
@@ -176,6 +187,132 @@ fn nets_command<'a>(alloc: Global) -> Result<Command<'a>, AllocError>
         .arg(bench_argument(alloc, "The circuit; - for standard input"))
 }
 
+fn scope_option<'a>(alloc: Global) -> Arg<'a>
+    ensures { HasRule scope_rule result }
+{
+    Arg::new(alloc, "scope")
+        .long("scope")
+        .value_name("E=A")
+        .action(ArgAction::Set)
+        .help(
+            "The scope of each dump that is compared, empty for all; else that of its first variable",
+        )
+}
+
+fn from_option<'a>(alloc: Global) -> Arg<'a>
+    ensures { HasRule from_rule result }
+{
+    Arg::new(alloc, "from")
+        .long("from")
+        .value_name("T")
+        .default_value("0")
+        .action(ArgAction::Set)
+        .value_parser(value_parser!(u64))
+        .help("The first compared time, in units of EXPECTED's timescale")
+}
+
+fn to_option<'a>(alloc: Global) -> Arg<'a>
+    ensures { HasRule to_rule result }
+{
+    Arg::new(alloc, "to")
+        .long("to")
+        .value_name("T")
+        .action(ArgAction::Set)
+        .value_parser(value_parser!(u64))
+        .help("The last compared time, else the last stamp of EXPECTED")
+}
+
+fn offset_option<'a>(alloc: Global) -> Arg<'a>
+    ensures { HasRule offset_rule result }
+{
+    Arg::new(alloc, "offset")
+        .long("offset")
+        .value_name("T")
+        .action(ArgAction::Set)
+        .help("How much later ACTUAL is looked at; --offset=-5 for earlier")
+}
+
+fn within_option<'a>(alloc: Global) -> Arg<'a>
+    ensures { HasRule within_rule result }
+{
+    Arg::new(alloc, "within")
+        .long("within")
+        .value_name("J")
+        .default_value("0")
+        .action(ArgAction::Set)
+        .value_parser(value_parser!(u64))
+        .help("How much earlier or later an edge may come")
+}
+
+fn at_option<'a>(alloc: Global) -> Arg<'a>
+    ensures { HasRule at_rule result }
+{
+    Arg::new(alloc, "at")
+        .long("at")
+        .value_name("FIRST:STEP")
+        .action(ArgAction::Set)
+        .help("Compares at FIRST, FIRST + STEP and so on alone")
+}
+
+fn any_for_x_flag<'a>(alloc: Global) -> Arg<'a>
+    ensures { HasRule any_for_x_rule result }
+{
+    Arg::new(alloc, "any-for-x")
+        .long("any-for-x")
+        .action(ArgAction::SetTrue)
+        .help("Takes any value where x is expected")
+}
+
+fn list_option<'a>(alloc: Global) -> Arg<'a>
+    ensures { HasRule list_rule result }
+{
+    Arg::new(alloc, "list")
+        .long("list")
+        .value_name("N")
+        .default_value("20")
+        .action(ArgAction::Set)
+        .value_parser(value_parser!(u32))
+        .help("The most differing bits that are listed; 0 for all")
+}
+
+fn expected_argument<'a>(alloc: Global) -> Arg<'a>
+    ensures { HasRule expected_rule result }
+{
+    required_argument(
+        alloc,
+        "EXPECTED",
+        "The dump that is expected; - for standard input",
+    )
+}
+
+fn actual_argument<'a>(alloc: Global) -> Arg<'a>
+    ensures { HasRule actual_rule result }
+{
+    required_argument(
+        alloc,
+        "ACTUAL",
+        "The dump that is compared with it; - for standard input",
+    )
+}
+
+fn compare_command<'a>(alloc: Global) -> Result<Command<'a>, AllocError>
+    ensures { IfOk result (HasShape compare_shape) }
+{
+    Command::new(alloc, "compare")
+        .about("Says where two value change dumps differ, bit by bit")
+        .arg(scope_option(alloc))?
+        .arg(from_option(alloc))?
+        .arg(to_option(alloc))?
+        .arg(offset_option(alloc))?
+        .arg(within_option(alloc))?
+        .arg(at_option(alloc))?
+        .arg(any_for_x_flag(alloc))?
+        .arg(list_option(alloc))?
+        .arg(explain_flag(alloc))?
+        .arg(expected_argument(alloc))?
+        .arg(actual_argument(alloc))
+}
+
 /// The program's command line, as `clap` reads it.
 pub(crate) fn program_command<'a>(alloc: Global) -> Result<Command<'a>, AllocError>
     ensures { IfOk result (HasApp program_app) }
@@ -188,5 +325,6 @@ pub(crate) fn program_command<'a>(alloc: Global) -> Result<Command<'a>, AllocErr
         .subcommand(run_command(alloc)?)?
         .subcommand(replay_command(alloc)?)?
         .subcommand(check_command(alloc)?)?
-        .subcommand(nets_command(alloc)?)
+        .subcommand(nets_command(alloc)?)?
+        .subcommand(compare_command(alloc)?)
 }

@@ -2,7 +2,7 @@
 ghost use Rattle.std.specs.Prelude.{◌≡◌, map};
 ghost use Rattle.warp_command.specs.Channels.{Takes};
 ghost use Rattle.warp_command.specs.Failures.{failure_status, failure_text};
-ghost use Rattle.warp_command.specs.Endings.{channels, IsShown, Executes, Answers};
+ghost use Rattle.warp_command.specs.Endings.{channels, IsShown, IsWritten, Executes, Answers};
 
 use crate::channel::Channel;
 use crate::failure::Failure;
@@ -24,6 +24,17 @@ fn told<E: Channel>(failure: &Failure<'_>, err: &mut E) -> u8
     failure.status()
 }
 
+/// Writes a text on `out`, and answers this status where that takes it.
+fn written<O: Channel, E: Channel>(text: &[u8], ended: u8, out: &mut O, err: &mut E) -> u8
+    ensures { IsWritten text.now ended result
+        (channels (O.held out.old) (E.held err.old)) (channels (O.held out.new) (E.held err.new)) }
+{
+    match out.put(text) {
+        Ok(()) => ended,
+        Err(_) => told(&Failure::Unwritten, err),
+    }
+}
+
 /// Shows what a request is answered, the text on `out` or the failure's on `err`, and answers the program's status.
 pub fn show<O: Channel, E: Channel>(
     reply: &Result<Vec<u8>, Failure<'_>>,
@@ -34,10 +45,8 @@ pub fn show<O: Channel, E: Channel>(
         (channels (O.held out.old) (E.held err.old)) (channels (O.held out.new) (E.held err.new)) }
 {
     match reply {
-        Ok(text) => match out.put(text.as_slice()) {
-            Ok(()) => 0,
-            Err(_) => told(&Failure::Unwritten, err),
-        },
+        Ok(text) => written(text.as_slice(), 0, out, err),
+        Err(Failure::Differ(text)) => written(text.as_slice(), 5, out, err),
         Err(failure) => told(failure, err),
     }
 }
@@ -60,7 +69,7 @@ pub fn execute<R: Threads + Wait + Sync, T: Texts, O: Channel, E: Channel>(
 
 /// Runs the program on the words of a command line, its own name first, and answers its exit
 /// status: 0; 1 for a refused text; 2 for a refused line; 3 for a refused run and for want of memory; 4 where a text
-/// can't be read or `out` fails. What goes wrong is told on `err`; where that fails too, the
+/// can't be read or `out` fails; 5 for dumps that differ. What goes wrong is told on `err`; where that fails too, the
 /// status stays.
 pub fn program<R: Threads + Wait + Sync, S: AsStr, T: Texts, O: Channel, E: Channel>(
     rt: &R,

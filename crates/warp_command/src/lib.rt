@@ -8,6 +8,7 @@
 
 mod app;
 mod channel;
+mod comparison;
 mod ending;
 mod explained;
 mod failure;
@@ -21,10 +22,10 @@ mod texts;
 pub use app::VERSION;
 pub use channel::{Channel, Stream, Unwritten};
 pub use ending::{execute, program, show};
-pub use failure::Failure;
+pub use failure::{Failure, Form};
 pub use joined::split_joined;
 pub use line::read_line;
 pub use outside::{Outside, read_all};
 pub use reply::reply_to;
-pub use request::{Check, Listing, Only, Replay, Request, Run, Sources};
+pub use request::{Check, Comparison, Listing, Only, Replay, Request, Run, Sources};
 pub use texts::{FetchFault, Texts};

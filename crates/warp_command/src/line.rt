@@ -20,6 +20,7 @@ ghost use Rattle.warp_command.specs.Lines.{
 };
 
 use crate::app::program_command;
+use crate::comparison::comparison_of;
 use crate::failure::Failure;
 use crate::request::{Check, Listing, Only, Replay, Request, Run, Sources};
 use clap::error::ErrorKind;
@@ -29,7 +30,7 @@ use std::convert::AsStr;
 use warp_text::{Fault, Options};
 
 /// The number of an option that may be left out.
-fn number_of<'a>(found: &ArgMatches<'a>, name: &str) -> Result<Option<u32>, Failure<'a>>
+pub(crate) fn number_of<'a>(found: &ArgMatches<'a>, name: &str) -> Result<Option<u32>, Failure<'a>>
     ensures { IsRead (λ number. number_in (rows_in found.now) name.now ≡ number) result }
 {
     match found.try_get_one::<u32>(name) {
@@ -39,7 +40,7 @@ fn number_of<'a>(found: &ArgMatches<'a>, name: &str) -> Result<Option<u32>, Fail
 }
 
 /// The number of an option that is given or has a default.
-fn given_number_of<'a>(found: &ArgMatches<'a>, name: &str) -> Result<u32, Failure<'a>>
+pub(crate) fn given_number_of<'a>(found: &ArgMatches<'a>, name: &str) -> Result<u32, Failure<'a>>
     ensures { IsRead (λ number. number_in (rows_in found.now) name.now ≡ Some number) result }
 {
     match number_of(found, name)? {
@@ -60,14 +61,14 @@ fn until_of<'a>(found: &ArgMatches<'a>) -> Result<u64, Failure<'a>>
 
 /// The text of an option or an argument that may be left out.
 #[tactic(auto, using(crate::proofs::Lines::text_read))]
-fn text_of<'a>(found: &ArgMatches<'a>, name: &str) -> Option<&'a str>
+pub(crate) fn text_of<'a>(found: &ArgMatches<'a>, name: &str) -> Option<&'a str>
     ensures { text_in (rows_in found.now) name.now ≡ text_behind result }
 {
     found.get_str(name)
 }
 
 /// The text of an argument that is given.
-fn given_text_of<'a>(found: &ArgMatches<'a>, name: &str) -> Result<&'a str, Failure<'a>>
+pub(crate) fn given_text_of<'a>(found: &ArgMatches<'a>, name: &str) -> Result<&'a str, Failure<'a>>
     ensures { IsRead (λ text. text_in (rows_in found.now) name.now ≡ Some text.now) result }
 {
     match text_of(found, name) {
@@ -227,6 +228,7 @@ fn request_of<'a>(matches: &ArgMatches<'a>) -> Result<Request<'a>, Failure<'a>>
         Some(("replay", found)) => Ok(Request::Replay(replay_of(found)?)),
         Some(("check", found)) => Ok(Request::Check(check_of(found)?)),
         Some(("nets", found)) => Ok(Request::Nets(listing_of(found)?)),
+        Some(("compare", found)) => Ok(Request::Compare(comparison_of(found)?)),
         _ => Err(Failure::Incomplete),
     }
 }

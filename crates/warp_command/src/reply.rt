@@ -1,5 +1,6 @@
 //! What a request is answered.
-ghost use Rattle.std.specs.Prelude.{◌≡◌, ◌≤◌, codes};
+ghost use Rattle.std.specs.Prelude.{◌≡◌, ◌≤◌, codes, true, false};
+ghost use Rattle.vcd_compare.specs.Times.{Moves};
 ghost use Rattle.warp_command.specs.Replies.{
   Fetches,
   FetchesSettings,
@@ -18,18 +19,22 @@ ghost use Rattle.warp_command.specs.Replies.{
   Checks,
   IsNetsReply,
   Lists,
+  IsCompared,
+  Compares,
   Replies,
 };
 
 use crate::explained::{Given, at_end, nothing, refused, whole};
 use crate::failure::Failure;
 use crate::joined::split_joined;
-use crate::request::{Check, Listing, Only, Replay, Request, Run, Sources};
+use crate::request::{Check, Comparison, Listing, Only, Replay, Request, Run, Sources};
 use crate::texts::{FetchFault, Texts};
+use compare_answer::compare_text;
 use std::alloc::Global;
 use std::sync::Wait;
 use std::thread::Threads;
 use text_places::Source;
+use vcd_compare::Options as Comparing;
 use warp_rounds::NoGate;
 use warp_text::{
     Fault, Options, count_text, counts_of_texts, nets_of_texts, replay_text, replay_told,
@@ -366,6 +371,53 @@ fn reply_to_nets<'a, T: Texts>(
     listed(alloc, &given, listing.explains)
 }
 
+/// Whether compared times go on.
+fn moves(options: &Comparing<'_>) -> bool
+    ensures on { result ≡ true → Moves options.now }
+    ensures still { result ≡ false → ¬ Moves options.now }
+{
+    match options.strobes {
+        Some((_, step)) => step > 0,
+        None => true,
+    }
+}
+
+fn compared<'a>(
+    alloc: Global,
+    comparison: &Comparison<'_>,
+    expected: &[u8],
+    actual: &[u8],
+) -> Result<Vec<u8>, Failure<'a>>
+    ensures { IsCompared comparison.now.options comparison.now.most expected.now actual.now result }
+{
+    let options = &comparison.options;
+    if !moves(options) {
+        return Err(Failure::Incomplete);
+    }
+    match compare_text(alloc, options, comparison.most as usize, expected, actual) {
+        Ok(compared) => {
+            if compared.agrees {
+                Ok(compared.text)
+            } else {
+                Err(Failure::Differ(compared.text))
+            }
+        }
+        Err(fault) => Err(Failure::NotCompared(fault)),
+    }
+}
+
+fn reply_to_compare<'a, T: Texts>(
+    alloc: Global,
+    comparison: Comparison<'a>,
+    texts: &mut T,
+) -> Result<Vec<u8>, Failure<'a>>
+    ensures { Compares T.gives comparison.entry texts.old result texts.new }
+{
+    let expected = fetch(alloc, comparison.expected, texts)?;
+    let actual = fetch(alloc, comparison.actual, texts)?;
+    compared(alloc, &comparison, expected.as_slice(), actual.as_slice())
+}
+
 /// What a request is answered: the text to show, or why there is none. The texts that it names
 /// are fetched first, the settings before the bench before the stimulus before the schedule before the names of nets.
 pub fn reply_to<'a, R: Threads + Wait + Sync, T: Texts>(
@@ -382,5 +434,6 @@ pub fn reply_to<'a, R: Threads + Wait + Sync, T: Texts>(
         Request::Replay(replay) => reply_to_replay(alloc, replay, texts),
         Request::Check(check) => reply_to_check(alloc, check, texts),
         Request::Nets(listing) => reply_to_nets(alloc, listing, texts),
+        Request::Compare(comparison) => reply_to_compare(alloc, comparison, texts),
     }
 }

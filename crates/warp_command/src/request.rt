@@ -1,4 +1,5 @@
 //! What a command line asks for. Each command may ask for an explanation behind the line of a refused text.
+use vcd_compare::Options as Comparing;
 use warp_text::Options;
 
 /// What the words of a command line ask for.
@@ -10,6 +11,7 @@ pub enum Request<'a> {
     Replay(Replay<'a>),
     Check(Check<'a>),
     Nets(Listing<'a>),
+    Compare(Comparison<'a>),
 }
 
 /// Which nets a dump tells.
@@ -66,4 +68,13 @@ pub struct Listing<'a> {
     pub explains: bool,
     pub settings: Option<&'a str>,
     pub bench: &'a str,
+}
+
+/// To be shown where two dumps differ: of at most so many bits (of all at 0) a line each.
+#[derive(Clone, Copy, Debug)]
+pub struct Comparison<'a> {
+    pub options: Comparing<'a>,
+    pub most: u32,
+    pub expected: &'a str,
+    pub actual: &'a str,
 }

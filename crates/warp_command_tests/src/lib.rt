@@ -3,6 +3,8 @@
 #![tactic(auto)]
 
 #[cfg(test)]
+mod compare_tests;
+#[cfg(test)]
 mod dump_tests;
 #[cfg(test)]
 mod flop_tests;

@@ -16,7 +16,7 @@ use warp_rounds::RunFault;
 use warp_text::{Fault, Options};
 
 /// Lines over no text that can be read, the status, and what is written on standard error.
-static LINES: [(&str, u8, &str); 19] = [
+static LINES: [(&str, u8, &str); 27] = [
     ("warp_sim run --until 10 -", 4, "cannot read -\n"),
     (
         "warp_sim run --until 1000000000000 b v",
@@ -52,6 +52,30 @@ static LINES: [(&str, u8, &str); 19] = [
     ("warp_sim nets b", 4, "cannot read b\n"),
     ("warp_sim nets --settings s b", 4, "cannot read s\n"),
     ("warp_sim nets full", 3, "memory\n"),
+    ("warp_sim compare e a", 4, "cannot read e\n"),
+    ("warp_sim compare --offset=-5 - a", 4, "cannot read -\n"),
+    ("warp_sim compare full a", 3, "memory\n"),
+    ("warp_sim compare - -", 2, "a file beside - expected\n"),
+    (
+        "warp_sim compare --at 3 e a",
+        2,
+        "--at FIRST:STEP expected\n",
+    ),
+    (
+        "warp_sim compare --at 3:0 e a",
+        2,
+        "--at FIRST:STEP expected\n",
+    ),
+    (
+        "warp_sim compare --scope top e a",
+        2,
+        "--scope E=A expected\n",
+    ),
+    (
+        "warp_sim compare --offset x e a",
+        2,
+        "--offset T expected\n",
+    ),
 ];
 
 #[test]
@@ -68,7 +92,7 @@ fn lines_are_read_before_any_text(rt: HostRuntime) -> Result<(), Fail> {
 }
 
 /// Lines that ask for nothing that the program does.
-static REFUSED: [&str; 26] = [
+static REFUSED: [&str; 31] = [
     "warp_sim",
     "warp_sim walk",
     "warp_sim run b v",
@@ -95,6 +119,11 @@ static REFUSED: [&str; 26] = [
     "warp_sim nets",
     "warp_sim nets b v",
     "warp_sim nets --workers 1 b",
+    "warp_sim compare",
+    "warp_sim compare e",
+    "warp_sim compare e a m",
+    "warp_sim compare --from -1 e a",
+    "warp_sim compare --list x e a",
 ];
 
 fn assert_refused<R: Abort + Threads + Wait + Sync>(
@@ -152,6 +181,7 @@ fn help_is_shown_on_standard_output(rt: HostRuntime) -> Result<(), Fail> {
         "warp_sim replay --help",
         "warp_sim check --help",
         "warp_sim nets --help",
+        "warp_sim compare --help",
     ] {
         assert_helped(&rt, alloc, line)?;
     }

@@ -22,4 +22,5 @@ returns c =
     let run = with_command _ _ _ _ _ begun c.in_ok-run_command.ensures c.in_ok-subcommand.ensures in
     let replay = with_command _ _ _ _ _ run c.in_ok-replay_command.ensures c.in_ok-subcommand-2.ensures in
     let check = with_command _ _ _ _ _ replay c.in_ok-check_command.ensures c.in_ok-subcommand-3.ensures in
-    IfOk-weaker c.subcommand-4.result _ _ (λ made adds. with_command _ _ _ made _ check c.in_ok-nets_command.ensures adds) c.subcommand-4.ensures
+    let nets = with_command _ _ _ _ _ check c.in_ok-nets_command.ensures c.in_ok-subcommand-4.ensures in
+    IfOk-weaker c.subcommand-5.result _ _ (λ made adds. with_command _ _ _ made _ nets c.in_ok-compare_command.ensures adds) c.subcommand-5.ensures

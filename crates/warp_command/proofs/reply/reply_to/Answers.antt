@@ -11,3 +11,6 @@ returns-in-Check g c = rw c.in-Check.is c.reply_to_check.ensures
 
 pub returns-in-Nets : goal.returns-in-Nets
 returns-in-Nets g c = rw c.in-Nets.is c.reply_to_nets.ensures
+
+pub returns-in-Compare : goal.returns-in-Compare
+returns-in-Compare g c = rw c.in-Compare.is c.reply_to_compare.ensures
