@@ -1,6 +1,7 @@
 -- The bits that a table keeps, one after another.
-use Rattle.std.proofs.Common.{◌≡◌, ℕ, ◌+◌, ◌<◌, Bool, true, false, cond, ◌||◌, List, [], ◌∷◌, ◌++◌, length, map, take, get_or, min, Option, Some, None, option_map, is_some, Vec, Global, refl, ap, sym, ◌∙◌, arith, codes, decimal, add-one}
+use Rattle.std.proofs.Common.{◌≡◌, ℕ, ◌+◌, ◌<◌, Bool, true, false, not, cond, ◌||◌, List, [], ◌∷◌, ◌++◌, length, map, take, get_or, min, Option, Some, None, option_map, is_some, Vec, Global, refl, ap, sym, ◌∙◌, arith, codes, decimal, add-one}
 use Rattle.std.specs.Int.{abs_diff}
+use Rattle.std.specs.List.{position, prefix_len}
 use Rattle.std.specs.Map.{lookup}
 use Rattle.std.specs.Str.{bytes_eq}
 use Rattle.std.proofs.lemmas.List.{get_or-map, length-map}
@@ -9,7 +10,7 @@ use Rattle.gate_vcd.specs.declared.variable.Variable.{Variable as HeldVariable}
 use Rattle.gate_vcd.specs.Inner.Commands.{variable, variables}
 use Rattle.gate_vcd.specs.Inner.Known.{source}
 use Rattle.gate_vcd.specs.Vectors.{Vector}
-use Rattle.vcd_bits.specs.Names.{Bit, all_bits, bits_below, is_named, named_in, named_source, number_from_left, vector_bit, vector_bits, with_bit, with_bits}
+use Rattle.vcd_bits.specs.Names.{Bit, all_bits, bits_below, is_named, named_in, named_source, number_from_left, number_of, vector_bit, vector_bits, with_bit, with_bits}
 use Rattle.vcd_bits.specs.Inner.Held.{texts_in}
 use Rattle.vcd_bits.specs.Inner.Tables.{bit_by}
 use Rattle.vcd_bits.proofs.NameLaws.{all_bits-more, all_bits-whole, with_bits-more}
@@ -42,6 +43,19 @@ kept-named name (e ∷ es) = elim (bytes_eq name e.0.items) as (λ b. is_some (c
 pub named-lookup : (name : List ℕ) (es : List (Vec ℕ Global × HeldSource)) → option_map source (lookup (has_name name) es) ≡ named_source (map entry_bit es) name
 named-lookup name [] = refl
 named-lookup name (e ∷ es) = elim (bytes_eq name e.0.items) as (λ b. option_map source (cond b (Some e.1) (lookup (has_name name) es)) ≡ cond b (Some (source e.1)) (named_source (map entry_bit es) name)) [ true ↦ refl | false ↦ named-lookup name es ]
+
+-- ---- numbers
+
+not-first-map : {A B : Type 0} (p : B → Bool) (f : A → B) (xs : List A) → prefix_len p (map f xs) ≡ prefix_len (λ x. p (f x)) xs
+not-first-map p f [] = refl
+not-first-map p f (x ∷ xs) = ap (λ n. cond (p (f x)) (1 + n) 0) (not-first-map p f xs)
+
+position-map : {A B : Type 0} (p : B → Bool) (f : A → B) (xs : List A) → position p (map f xs) ≡ position (λ x. p (f x)) xs
+position-map p f xs = rw (not-first-map (λ y. not (p y)) f xs, length-map xs f) refl
+
+-- the number of a name among the entries is that of its bit
+pub kept-number : (name : List ℕ) (es : List (Vec ℕ Global × HeldSource)) → position (has_name name) (map (λ (e : Vec ℕ Global × HeldSource). e.0) es) ≡ number_of (map entry_bit es) name
+kept-number name es = position-map (has_name name) (λ (e : Vec ℕ Global × HeldSource). e.0) es ∙ sym (position-map (λ (b : Bit). bytes_eq name b.name) entry_bit es)
 
 pub with-there : (bits : List Bit) (b : Bit) → is_named bits b.name ≡ true → bits ≡ with_bit bits b
 with-there bits b e = rw e refl

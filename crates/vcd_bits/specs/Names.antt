@@ -1,5 +1,5 @@
 -- The bits of a dump, by their names.
-use Rattle.std.specs.Prelude.{ℕ, zero, suc, ◌+◌, ◌-◌, Bool, nat_eq, nat_le, if◌then◌else◌, List, [], ◌∷◌, ◌++◌, length, take, drop, codes, decimal, Option, Some, None}
+use Rattle.std.specs.Prelude.{ℕ, zero, suc, ◌+◌, ◌-◌, Bool, nat_eq, nat_le, if◌then◌else◌, List, [], ◌∷◌, ◌++◌, length, take, drop, codes, decimal, Option, Some, None, position}
 use Rattle.std.specs.Int.{abs_diff}
 use Rattle.std.specs.List.{list_any}
 use Rattle.std.specs.Str.{bytes_eq}
@@ -93,3 +93,7 @@ scope_in None paths vs = first_scope paths vs
 abbrev pub named_source : List Bit → List ℕ → Option Source
 named_source [] name = None
 named_source (b ∷ bs) name = if bytes_eq name b.name then Some b.source else named_source bs name
+
+-- the number of the bit of a name
+abbrev pub number_of : List Bit → List ℕ → Option ℕ
+number_of bits name = position (λ b. bytes_eq name b.name) bits

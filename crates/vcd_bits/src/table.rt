@@ -5,7 +5,7 @@ ghost use Rattle.gate_vcd.specs.Inner.Commands.{variable as variable_of, variabl
 ghost use Rattle.gate_vcd.specs.Inner.Known.{source as source_of};
 ghost use Rattle.gate_vcd.specs.Inner.Scalars.{vector as vector_in};
 ghost use Rattle.gate_vcd.specs.Vectors.{last_bit};
-ghost use Rattle.vcd_bits.specs.Names.{all_bits, bits_below, bits_of, named_source, vector_bits, with_bit, with_bits};
+ghost use Rattle.vcd_bits.specs.Names.{all_bits, bits_below, bits_of, named_source, number_of, vector_bits, with_bit, with_bits};
 ghost use Rattle.vcd_bits.specs.Inner.Held.{texts_in};
 ghost use Rattle.vcd_bits.specs.Inner.Tables.{bit_by, bit_of, bits_in};
 
@@ -141,5 +141,12 @@ impl<'a> Table<'a> {
         ensures { option_map source_of result ≡ named_source (bits_in self.now) name.now }
     {
         self.bits.get(name).copied()
+    }
+
+    /// The number of the bit of a name.
+    pub fn find(&self, name: &[u8]) -> Option<usize>
+        ensures { result ≡ number_of (bits_in self.now) name.now }
+    {
+        self.bits.get_index_of(name)
     }
 }
