@@ -1,5 +1,5 @@
 -- What is answered to two dumps, as text.
-use Rattle.std.specs.Prelude.{◌≡◌, ℕ, List, Result, Ok, Err, length, ◌==◌}
+use Rattle.std.specs.Prelude.{◌≡◌, ℕ, List, Option, Result, Ok, Err, length, ◌==◌}
 use Rattle.vcd_compare.specs.Answer.{IsAnswer}
 use Rattle.vcd_compare.specs.declared.fault.CompareFault.{CompareFault}
 use Rattle.vcd_compare.specs.declared.report.Differing.{Differing}
@@ -16,7 +16,7 @@ pub record IsPrinted (most : ℕ) (r : Report) (c : Compared) : Type 0 where
   pub text : c.text.items ≡ report_text most r shown
   pub agrees : c.agrees ≡ (length r.differing.items == 0)
 
--- the text of the report of the dumps that the texts are, or their fault
-abbrev pub IsText : Options → ℕ → (expected actual : List ℕ) → Result Compared CompareFault → Type 0
-IsText options most expected actual (Ok c) = (r : Report) × IsAnswer options expected actual (Ok r) × IsPrinted most r c
-IsText options most expected actual (Err fault) = IsAnswer options expected actual (Err fault)
+-- the text of the report of the dumps that the texts are, by a map if there is one, or the fault
+abbrev pub IsText : Options → ℕ → (expected actual : List ℕ) → Option (List ℕ) → Result Compared CompareFault → Type 0
+IsText options most expected actual map (Ok c) = (r : Report) × IsAnswer options expected actual map (Ok r) × IsPrinted most r c
+IsText options most expected actual map (Err fault) = IsAnswer options expected actual map (Err fault)

@@ -1,5 +1,5 @@
 //! What is answered to two dumps, as text.
-ghost use Rattle.std.specs.Prelude.{◌≡◌, IfOk};
+ghost use Rattle.std.specs.Prelude.{◌≡◌, IfOk, option_map};
 ghost use Rattle.vcd_compare.specs.Times.{Moves};
 ghost use Rattle.compare_answer.specs.Answer.{IsPrinted, IsText};
 
@@ -30,7 +30,7 @@ fn report_text(alloc: Global, most: usize, report: Report) -> Result<Compared, A
     Ok(Compared { text, agrees })
 }
 
-/// Compares two dumps, and answers the text of what is found: of at most so many bits that differ (of all at 0) a line each,
+/// Compares two dumps, by a map if there is one, and answers the text of what is found: of at most so many bits that differ (of all at 0) a line each,
 /// and a last line.
 pub fn compare_text(
     alloc: Global,
@@ -38,10 +38,11 @@ pub fn compare_text(
     most: usize,
     expected: &[u8],
     actual: &[u8],
+    map: Option<&[u8]>,
 ) -> Result<Compared, CompareFault>
     requires { Moves options.now }
-    ensures { IsText options.now most expected.now actual.now result }
+    ensures { IsText options.now most expected.now actual.now (option_map (λ m. m.now) map.entry) result }
 {
-    let report = compare_texts(alloc, options, expected, actual)?;
+    let report = compare_texts(alloc, options, expected, actual, map)?;
     Ok(report_text(alloc, most, report)?)
 }

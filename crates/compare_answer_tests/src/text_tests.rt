@@ -50,7 +50,21 @@ fn told(
 ) -> Result<String, Fail>
     requires { Moves options.now }
 {
-    match compare_text(alloc, options, most, expected.as_bytes(), actual.as_bytes()) {
+    told_by(alloc, options, most, (expected, actual), None)
+}
+
+/// The same with a map.
+fn told_by(
+    alloc: Global,
+    options: &Options,
+    most: usize,
+    dumps: (&str, &str),
+    map: Option<&[u8]>,
+) -> Result<String, Fail>
+    requires { Moves options.now }
+{
+    let (expected, actual) = (dumps.0.as_bytes(), dumps.1.as_bytes());
+    match compare_text(alloc, options, most, expected, actual, map) {
         Ok(compared) => {
             let text = String::from_utf8(compared.text)?;
             let agrees = compared.agrees;
@@ -138,6 +152,28 @@ fn faults_have_their_lines(rt: HostRuntime) -> Result<(), Fail> {
     let past = Options { from: 11, ..ALL };
     assert_eq!(rt;
         told(alloc, &past, 20, PROMPT, LATE)?.as_str(),
+        "nothing to compare"
+    );
+    Ok(())
+}
+
+#[test]
+fn maps_pair_bits_or_are_refused(rt: HostRuntime) -> Result<(), Fail> {
+    let alloc = rt.alloc();
+    let both = (PROMPT, LATE);
+    let swapped = Some(b"Y A\nA Y\n".as_slice());
+    assert_eq!(rt;
+        told_by(alloc, &ALL, 20, both, swapped)?.as_str(),
+        "false 0 Y: expected x, found 0\n0 A: expected 0, found x\n2 of 2 bits differ from 0 to 10 (1 ns)\n"
+    );
+    let unknown = Some(b"A A\nY B\n".as_slice());
+    assert_eq!(rt;
+        told_by(alloc, &ALL, 20, both, unknown)?.as_str(),
+        "map line 2: UnknownName"
+    );
+    let none = Some(b"# nothing\n".as_slice());
+    assert_eq!(rt;
+        told_by(alloc, &ALL, 20, both, none)?.as_str(),
         "nothing to compare"
     );
     Ok(())

@@ -1,5 +1,7 @@
 pub mod SightLaws
 pub mod PairLaws
+pub mod MapLaws
+pub mod SourceLaws
 pub mod FoundLaws
 pub mod CountLaws
 pub mod AloneLaws

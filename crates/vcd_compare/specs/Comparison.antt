@@ -12,7 +12,7 @@ use Rattle.vcd_compare.specs.declared.fault.CompareFault.{CompareFault}
 use Rattle.vcd_compare.specs.declared.fault.CompareFault.TheVariants as faults
 use Rattle.vcd_compare.specs.declared.report.Differing.{Differing}
 use Rattle.vcd_compare.specs.declared.report.Options.{Options}
-use Rattle.vcd_compare.specs.Pairs.{Pair, pairs_of}
+use Rattle.vcd_compare.specs.Pairs.{Pair}
 use Rattle.vcd_compare.specs.Times.{actual_lens, expected_lens, finer, how_of, times_of, units_in}
 
 abbrev pub out_of_memory : CompareFault
@@ -22,16 +22,13 @@ out_of_memory = faults.Memory
 abbrev pub shown_by : Lens → List Event → Source → ℕ → Logic
 shown_by lens events source = value_through lens (changes_with source events)
 
--- what is compared: two dumps, and the pairs of their bits
+-- what is compared: two dumps
 module _ (options : Options) (e a : Dump) where
   abbrev pub unit : Timescale
   unit = finer e.timescale a.timescale
 
   abbrev pub scale : ℕ
   scale = units_in e.timescale unit
-
-  abbrev pub pairs : List Pair
-  pairs = pairs_of e.bits a.bits
 
   -- what is found of a pair
   abbrev pub IsFound : Pair → Option Difference → Type 0
@@ -50,9 +47,9 @@ abbrev pub AreAscending : List Differing → Type 0
 AreAscending [] = Unit {0}
 AreAscending (d ∷ ds) = AllByRecursion (λ (x : Differing). d.pair < x.pair) ds × AreAscending ds
 
--- these bits differ, in the order of pairs and with their names, and no others
-pub record AreDiffering (options : Options) (e a : Dump) (ds : List Differing) : Type 0 where
-  pub each : (k : ℕ) (p : Pair) → slice_get (pairs options e a) k ≡ Some p → IsFound options e a p (difference_of ds k)
-  pub within : AllByRecursion (λ (d : Differing). d.pair < length (pairs options e a)) ds
+-- of these pairs these bits differ, in their order and with their names, and no others
+pub record AreDiffering (options : Options) (pairs : List Pair) (e a : Dump) (ds : List Differing) : Type 0 where
+  pub each : (k : ℕ) (p : Pair) → slice_get pairs k ≡ Some p → IsFound options e a p (difference_of ds k)
+  pub within : AllByRecursion (λ (d : Differing). d.pair < length pairs) ds
   pub ascending : AreAscending ds
-  pub named : (k : ℕ) (p : Pair) (d : Differing) → slice_get (pairs options e a) k ≡ Some p → differing_at ds k ≡ Some d → d.name.items ≡ p.name
+  pub named : (k : ℕ) (p : Pair) (d : Differing) → slice_get pairs k ≡ Some p → differing_at ds k ≡ Some d → d.name.items ≡ p.name

@@ -2,3 +2,4 @@ pub mod Held
 pub mod Sights
 pub mod Found
 pub mod Reported
+pub mod Mapping

@@ -1,5 +1,6 @@
 pub mod Times
 pub mod Pairs
+pub mod Map
 pub mod Dumps
 pub mod Comparison
 pub mod Answer

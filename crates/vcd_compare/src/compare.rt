@@ -1,7 +1,7 @@
-ghost use Rattle.std.specs.Prelude.{◌≡◌, ◌<◌, ◌^◌, true, false, length};
+ghost use Rattle.std.specs.Prelude.{◌≡◌, ◌<◌, ◌^◌, true, false, length, option_map};
 ghost use Rattle.vcd_compare.specs.Answer.{IsAnswer, actual_by, expected_by};
 ghost use Rattle.vcd_bits.specs.Inner.Tables.{bits_in};
-ghost use Rattle.vcd_compare.specs.Inner.Reported.{HasNothing, IsBehind, Reports, events_of};
+ghost use Rattle.vcd_compare.specs.Inner.Reported.{HasNothing, IsBefore, IsBeforeOther, IsBehind, Reports, events_of};
 ghost use Rattle.vcd_compare.specs.Inner.Sights.{IsSmallSight};
 ghost use Rattle.vcd_compare.specs.Times.{Moves};
 
@@ -9,6 +9,7 @@ use crate::fault::CompareFault;
 use crate::found::differing;
 use crate::lonely::alone;
 use crate::looking::sight_of;
+use crate::mapped::pairs_by;
 use crate::pairs::Pairs;
 use crate::report::{Options, Report};
 use crate::sight::Sight;
@@ -44,6 +45,32 @@ fn fault_behind(alloc: Global, expected: &mut Dump, fault: StimFault) -> Compare
 {
     match expected.follow(alloc, &[]) {
         Ok(_) => return actual_fault(fault),
+        Err(own) => return expected_fault(own),
+    }
+}
+
+/// The fault where the map has one, once the changes of the dump that is expected are read: one of the other dump's changes
+/// comes before it.
+fn fault_before_other(alloc: Global, actual: &mut Dump, fault: CompareFault) -> CompareFault
+    ensures { IsBeforeOther (events_of actual.old) fault result }
+{
+    match actual.follow(alloc, &[]) {
+        Ok(_) => return fault,
+        Err(own) => return actual_fault(own),
+    }
+}
+
+/// The fault where the map has one: one of the changes of either dump comes before it.
+fn fault_before(
+    alloc: Global,
+    expected: &mut Dump,
+    actual: &mut Dump,
+    fault: CompareFault,
+) -> CompareFault
+    ensures { IsBefore (events_of expected.old) (events_of actual.old) fault result }
+{
+    match expected.follow(alloc, &[]) {
+        Ok(_) => return fault_before_other(alloc, actual, fault),
         Err(own) => return expected_fault(own),
     }
 }
@@ -91,15 +118,16 @@ fn report(
     })
 }
 
-/// Compares two dumps.
+/// Compares two dumps: the bits of one name, or those that a map pairs.
 pub fn compare_texts(
     alloc: Global,
     options: &Options,
     expected: &[u8],
     actual: &[u8],
+    map: Option<&[u8]>,
 ) -> Result<Report, CompareFault>
     requires { Moves options.now }
-    ensures { IsAnswer options.now expected.now actual.now result }
+    ensures { IsAnswer options.now expected.now actual.now (option_map (λ m. m.now) map.entry) result }
 {
     let mut first = match Dump::open(alloc, expected, options.expected_scope) {
         Ok(dump) => dump,
@@ -109,7 +137,10 @@ pub fn compare_texts(
         Ok(dump) => dump,
         Err(fault) => return Err(fault_behind(alloc, &mut first, fault)),
     };
-    let pairs = Pairs::of(alloc, &first.table, &second.table)?;
+    let pairs = match pairs_by(alloc, map, &first.table, &second.table) {
+        Ok(pairs) => pairs,
+        Err(fault) => return Err(fault_before(alloc, &mut first, &mut second, fault)),
+    };
     let shown = match first.follow(alloc, pairs.expected.as_slice()) {
         Ok(followed) => followed,
         Err(fault) => return Err(expected_fault(fault)),

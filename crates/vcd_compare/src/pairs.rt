@@ -1,8 +1,9 @@
-ghost use Rattle.std.specs.Prelude.{◌≡◌, ◌≤◌, ◌<◌, ◌^◌, ◌+◌, List, Some, length, slice_get, take, IfErr, IfOk, OnOk};
+ghost use Rattle.std.specs.Prelude.{◌≡◌, ◌≤◌, ◌<◌, ◌^◌, ◌+◌, [], List, Some, length, slice_get, take, IfErr, IfOk, OnOk};
 ghost use Rattle.gate_vcd.specs.Inner.Known.{source as source_of};
 ghost use Rattle.vcd_bits.specs.Names.{Bit};
 ghost use Rattle.vcd_bits.specs.Inner.Tables.{bit_by, bits_in};
 ghost use Rattle.vcd_compare.specs.Comparison.{out_of_memory};
+ghost use Rattle.vcd_compare.specs.Pairs.{pairs_of};
 ghost use Rattle.vcd_compare.specs.Inner.Held.{ArePairs, Takes};
 
 use crate::fault::CompareFault;
@@ -20,8 +21,21 @@ pub struct Pairs<'e, 'a> {
 }
 
 impl<'e, 'a> Pairs<'e, 'a> {
+    /// No pair.
+    pub fn none(alloc: Global) -> Pairs<'e, 'a>
+        ensures numbers { result.numbers.items ≡ [] }
+        ensures expected { result.expected.items ≡ [] }
+        ensures actual { result.actual.items ≡ [] }
+    {
+        Pairs {
+            numbers: Vec::new(alloc),
+            expected: Vec::new(alloc),
+            actual: Vec::new(alloc),
+        }
+    }
+
     /// Adds a pair, of which there are no more than a number of 32 bits counts.
-    fn push(
+    pub fn push(
         &mut self,
         number: usize,
         expected: Source<'e>,
@@ -47,7 +61,7 @@ impl<'e, 'a> Pairs<'e, 'a> {
         source: Source<'e>,
         actual: &Table<'a>,
     ) -> Result<(), CompareFault>
-        ensures ok { (bits : List Bit) → slice_get bits number ≡ Some (bit_by name.now (source_of source.entry)) → ArePairs (take number bits) (bits_in actual.now) bits self.old → OnOk result (ArePairs (take (number + 1) bits) (bits_in actual.now) bits self.new) }
+        ensures ok { (bits : List Bit) → slice_get bits number ≡ Some (bit_by name.now (source_of source.entry)) → ArePairs (pairs_of (take number bits) (bits_in actual.now)) bits self.old → OnOk result (ArePairs (pairs_of (take (number + 1) bits) (bits_in actual.now)) bits self.new) }
         ensures err { IfErr result (λ e. e ≡ out_of_memory) }
     {
         match actual.source(name) {
@@ -64,7 +78,7 @@ impl<'e, 'a> Pairs<'e, 'a> {
         actual: &Table<'a>,
     ) -> Result<(), CompareFault>
         requires { number < length (bits_in expected.now) }
-        ensures ok { ArePairs (take number (bits_in expected.now)) (bits_in actual.now) (bits_in expected.now) self.old → OnOk result (ArePairs (take (number + 1) (bits_in expected.now)) (bits_in actual.now) (bits_in expected.now) self.new) }
+        ensures ok { ArePairs (pairs_of (take number (bits_in expected.now)) (bits_in actual.now)) (bits_in expected.now) self.old → OnOk result (ArePairs (pairs_of (take (number + 1) (bits_in expected.now)) (bits_in actual.now)) (bits_in expected.now) self.new) }
         ensures err { IfErr result (λ e. e ≡ out_of_memory) }
     {
         match expected.bit(number) {
@@ -79,14 +93,10 @@ impl<'e, 'a> Pairs<'e, 'a> {
         expected: &Table<'e>,
         actual: &Table<'a>,
     ) -> Result<Pairs<'e, 'a>, CompareFault>
-        ensures ok { IfOk result (ArePairs (bits_in expected.now) (bits_in actual.now) (bits_in expected.now)) }
+        ensures ok { IfOk result (ArePairs (pairs_of (bits_in expected.now) (bits_in actual.now)) (bits_in expected.now)) }
         ensures err { IfErr result (λ e. e ≡ out_of_memory) }
     {
-        let mut pairs = Pairs {
-            numbers: Vec::new(alloc),
-            expected: Vec::new(alloc),
-            actual: Vec::new(alloc),
-        };
+        let mut pairs = Pairs::none(alloc);
         for number in 0..expected.count() {
             pairs.put(number, expected, actual)?;
         }

@@ -38,7 +38,7 @@ pub struct Report {
     /// The times that were compared, in the common unit.
     pub times: Times,
     pub unit: Timescale,
-    /// How many bits of the scopes are in no pair.
+    /// How many names one dump alone has in its scope.
     pub only_expected: usize,
     pub only_actual: usize,
 }

@@ -4,7 +4,7 @@ use gate_values::Logic;
 use gate_vcd::{Timescale, Unit};
 use std::alloc::Global;
 use std::test::Fail;
-use vcd_compare::{CompareFault, Options, Report, compare_texts};
+use vcd_compare::{CompareFault, MapCause, Options, Report, compare_texts};
 
 /// `Y = NOT(A)` with a delay of 1, where A rises at 5.
 const PROMPT: &str =
@@ -36,7 +36,7 @@ const ALL: Options = Options {
 fn compare(alloc: Global, actual: &str, options: &Options) -> Result<Report, Fail>
     requires { Moves options.now }
 {
-    match compare_texts(alloc, options, PROMPT.as_bytes(), actual.as_bytes()) {
+    match compare_texts(alloc, options, PROMPT.as_bytes(), actual.as_bytes(), None) {
         Ok(report) => Ok(report),
         Err(_) => Err("refused")?,
     }
@@ -111,9 +111,41 @@ fn bits_of_one_dump_alone_are_counted(rt: HostRuntime) -> Result<(), Fail> {
 #[test]
 fn no_time_is_nothing_to_compare(rt: HostRuntime) -> Result<(), Fail> {
     let past = Options { from: 11, ..ALL };
-    match compare_texts(rt.alloc(), &past, PROMPT.as_bytes(), LATE.as_bytes()) {
+    let (expected, actual) = (PROMPT.as_bytes(), LATE.as_bytes());
+    match compare_texts(rt.alloc(), &past, expected, actual, None) {
         Ok(_) => assert!(rt; false),
         Err(fault) => assert!(rt; fault == CompareFault::Nothing),
     }
+    Ok(())
+}
+
+/// The fault of a map of the first dump and the late one, by its line and cause.
+fn map_fault(alloc: Global, map: &str) -> Result<(u64, MapCause), Fail> {
+    let (expected, actual) = (PROMPT.as_bytes(), LATE.as_bytes());
+    match compare_texts(alloc, &ALL, expected, actual, Some(map.as_bytes())) {
+        Err(CompareFault::Map(fault)) => Ok((fault.line, fault.cause)),
+        _ => Err("no fault of the map")?,
+    }
+}
+
+#[test]
+fn a_map_pairs_bits_of_other_names(rt: HostRuntime) -> Result<(), Fail> {
+    let map = Some(b"# the input\n\n\tA  A \n".as_slice());
+    let (expected, actual) = (PROMPT.as_bytes(), LATE.as_bytes());
+    match compare_texts(rt.alloc(), &ALL, expected, actual, map) {
+        Ok(report) => assert!(rt; report.pairs == 1 && report.differing.is_empty()),
+        Err(_) => assert!(rt; false),
+    }
+    Ok(())
+}
+
+#[test]
+fn the_first_fault_of_a_map_is_told(rt: HostRuntime) -> Result<(), Fail> {
+    let alloc = rt.alloc();
+    assert!(rt; map_fault(alloc, "A Y\nA\n")? == (2, MapCause::BadLine));
+    assert!(rt; map_fault(alloc, "A Y Y\nB A\n")? == (1, MapCause::BadLine));
+    assert!(rt; map_fault(alloc, "#\nY A\r\nA B\n")? == (3, MapCause::UnknownName));
+    assert!(rt; map_fault(alloc, "B A\n")? == (1, MapCause::UnknownName));
+    assert!(rt; map_fault(alloc, "Y A\nA A\nY Y\n")? == (3, MapCause::NamedTwice));
     Ok(())
 }

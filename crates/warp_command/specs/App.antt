@@ -58,6 +58,9 @@ time_option name = number_option name (Unsigned 0 most_time)
 abbrev pub scope_rule : Rule
 scope_rule = option (codes "scope")
 
+abbrev pub map_rule : Rule
+map_rule = option (codes "map")
+
 abbrev pub from_rule : Rule
 from_rule = with_default (time_option (codes "from")) (codes "0")
 
@@ -115,7 +118,7 @@ nets_shape = shape (codes "nets") (settings_rule ∷ explain_rule ∷ bench_rule
 
 abbrev pub compare_shape : Shape
 compare_shape = shape (codes "compare")
-    (scope_rule ∷ from_rule ∷ to_rule ∷ offset_rule ∷ within_rule ∷ at_rule ∷ any_for_x_rule ∷ list_rule ∷ explain_rule ∷ expected_rule ∷ actual_rule ∷ [])
+    (scope_rule ∷ map_rule ∷ from_rule ∷ to_rule ∷ offset_rule ∷ within_rule ∷ at_rule ∷ any_for_x_rule ∷ list_rule ∷ explain_rule ∷ expected_rule ∷ actual_rule ∷ [])
 
 -- the program, which does nothing without a command
 unfoldable pub program_app : App

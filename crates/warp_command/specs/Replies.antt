@@ -165,22 +165,33 @@ Lists gives listing =
     Then (Fetches gives listing.bench.now) (λ bench.
     Ends (IsNetsReply listing.explains bench.items settings.items)))
 
--- Two dumps are compared: a text where all bits agree, or that tells where they differ; or why they aren't. The line
--- is incomplete where compared times don't go on.
-abbrev pub IsCompared : Comparing → ℕ → (expected actual : List ℕ) → Reply → Type 0
-IsCompared options most expected actual (Ok text) =
-    (c : Compared) × IsText options most expected actual (Ok c) × (c.agrees ≡ true) × (text.items ≡ c.text.items)
-IsCompared options most expected actual (Err (failures.Differ text)) =
-    (c : Compared) × IsText options most expected actual (Ok c) × (c.agrees ≡ false) × (text.items ≡ c.text.items)
-IsCompared options most expected actual (Err (failures.NotCompared fault)) = IsText options most expected actual (Err fault)
-IsCompared options most expected actual (Err failures.Incomplete) = ¬ Moves options
-IsCompared options most expected actual (Err _) = ⊥
+-- Two dumps are compared, by a map if there is one: a text where all bits agree, or that tells where they differ; or why
+-- they aren't. The line is incomplete where compared times don't go on.
+abbrev pub IsCompared : Comparing → ℕ → (expected actual : List ℕ) → Option (List ℕ) → Reply → Type 0
+IsCompared options most expected actual map (Ok text) =
+    (c : Compared) × IsText options most expected actual map (Ok c) × (c.agrees ≡ true) × (text.items ≡ c.text.items)
+IsCompared options most expected actual map (Err (failures.Differ text)) =
+    (c : Compared) × IsText options most expected actual map (Ok c) × (c.agrees ≡ false) × (text.items ≡ c.text.items)
+IsCompared options most expected actual map (Err (failures.NotCompared fault)) = IsText options most expected actual map (Err fault)
+IsCompared options most expected actual map (Err failures.Incomplete) = ¬ Moves options
+IsCompared options most expected actual map (Err _) = ⊥
+
+-- the map of this name is read last
+abbrev pub ComparesWith : {T : Type 0} → Fetching T → List ℕ → Comparison → (expected actual : List ℕ) → Step T
+ComparesWith gives name comparison expected actual =
+    Then (Fetches gives name) (λ map.
+    Ends (IsCompared comparison.options comparison.most expected actual (Some map.items)))
+
+-- so where the line names one
+abbrev pub ComparesBy : {T : Type 0} → Fetching T → Option (Bor (List ℕ)) → Comparison → (expected actual : List ℕ) → Step T
+ComparesBy gives None comparison expected actual = Ends (IsCompared comparison.options comparison.most expected actual None)
+ComparesBy gives (Some name) comparison expected actual = ComparesWith gives name.now comparison expected actual
 
 abbrev pub Compares : {T : Type 0} → Fetching T → Comparison → Step T
 Compares gives comparison =
     Then (Fetches gives comparison.expected.now) (λ expected.
     Then (Fetches gives comparison.actual.now) (λ actual.
-    Ends (IsCompared comparison.options comparison.most expected.items actual.items)))
+    ComparesBy gives comparison.map comparison expected.items actual.items))
 
 -- what a request is answered
 abbrev pub Replies : {T : Type 0} → Fetching T → Request → Step T

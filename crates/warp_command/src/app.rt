@@ -1,6 +1,6 @@
 //! The program's commands, options and arguments, of which `clap` makes help and refusals.
-ghost use Rattle.std.specs.Prelude.{IfOk};
-ghost use Rattle.clap.specs.Words.{new_rule};
+ghost use Rattle.std.specs.Prelude.{IfOk, codes};
+ghost use Rattle.clap.specs.Words.{new_app, new_rule};
 ghost use Rattle.warp_command.specs.App.{
   required,
   until_rule,
@@ -17,6 +17,7 @@ ghost use Rattle.warp_command.specs.App.{
   check_shape,
   nets_shape,
   scope_rule,
+  map_rule,
   from_rule,
   to_rule,
   offset_rule,
@@ -295,12 +296,31 @@ fn actual_argument<'a>(alloc: Global) -> Arg<'a>
     )
 }
 
+fn map_option<'a>(alloc: Global) -> Arg<'a>
+    ensures { HasRule map_rule result }
+{
+    Arg::new(alloc, "map")
+        .long("map")
+        .value_name("FILE")
+        .action(ArgAction::Set)
+        .help(
+            "Pairs of bits that are compared, the two names of one a line; else those of one name",
+        )
+}
+
+/// The command that compares, as yet without options.
+fn begun_comparison<'a>(alloc: Global) -> Command<'a>
+    ensures { HasApp (new_app (codes "compare")) result }
+{
+    Command::new(alloc, "compare").about("Says where two value change dumps differ, bit by bit")
+}
+
 fn compare_command<'a>(alloc: Global) -> Result<Command<'a>, AllocError>
     ensures { IfOk result (HasShape compare_shape) }
 {
-    Command::new(alloc, "compare")
-        .about("Says where two value change dumps differ, bit by bit")
+    begun_comparison(alloc)
         .arg(scope_option(alloc))?
+        .arg(map_option(alloc))?
         .arg(from_option(alloc))?
         .arg(to_option(alloc))?
         .arg(offset_option(alloc))?

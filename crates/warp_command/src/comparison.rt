@@ -165,6 +165,7 @@ pub(crate) fn comparison_of<'a>(found: &ArgMatches<'a>) -> Result<Comparison<'a>
     ensures { IsRead (IsComparison (rows_in found.now)) result }
 {
     let options = comparing_of(found)?;
+    let map = text_of(found, "map");
     let most = given_number_of(found, "list")?;
     let expected = given_text_of(found, "EXPECTED")?;
     let actual = given_text_of(found, "ACTUAL")?;
@@ -173,6 +174,7 @@ pub(crate) fn comparison_of<'a>(found: &ArgMatches<'a>) -> Result<Comparison<'a>
     }
     Ok(Comparison {
         options,
+        map,
         most,
         expected,
         actual,

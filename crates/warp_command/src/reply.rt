@@ -1,5 +1,5 @@
 //! What a request is answered.
-ghost use Rattle.std.specs.Prelude.{◌≡◌, ◌≤◌, codes, true, false};
+ghost use Rattle.std.specs.Prelude.{◌≡◌, ◌≤◌, codes, true, false, option_map};
 ghost use Rattle.vcd_compare.specs.Times.{Moves};
 ghost use Rattle.warp_command.specs.Replies.{
   Fetches,
@@ -20,6 +20,8 @@ ghost use Rattle.warp_command.specs.Replies.{
   IsNetsReply,
   Lists,
   IsCompared,
+  ComparesWith,
+  ComparesBy,
   Compares,
   Replies,
 };
@@ -387,14 +389,16 @@ fn compared<'a>(
     comparison: &Comparison<'_>,
     expected: &[u8],
     actual: &[u8],
+    map: Option<&[u8]>,
 ) -> Result<Vec<u8>, Failure<'a>>
-    ensures { IsCompared comparison.now.options comparison.now.most expected.now actual.now result }
+    ensures { IsCompared comparison.now.options comparison.now.most expected.now actual.now (option_map (λ m. m.now) map.entry) result }
 {
     let options = &comparison.options;
     if !moves(options) {
         return Err(Failure::Incomplete);
     }
-    match compare_text(alloc, options, comparison.most as usize, expected, actual) {
+    let most = comparison.most as usize;
+    match compare_text(alloc, options, most, expected, actual, map) {
         Ok(compared) => {
             if compared.agrees {
                 Ok(compared.text)
@@ -403,6 +407,37 @@ fn compared<'a>(
             }
         }
         Err(fault) => Err(Failure::NotCompared(fault)),
+    }
+}
+
+/// What a comparison is answered whose dumps are had, by the map of this name.
+fn compared_with<'a, T: Texts>(
+    alloc: Global,
+    name: &'a str,
+    comparison: &Comparison<'_>,
+    expected: &[u8],
+    actual: &[u8],
+    texts: &mut T,
+) -> Result<Vec<u8>, Failure<'a>>
+    ensures { ComparesWith T.gives name.entry.now comparison.now expected.now actual.now texts.old result texts.new }
+{
+    let map = fetch(alloc, name, texts)?;
+    compared(alloc, comparison, expected, actual, Some(map.as_slice()))
+}
+
+/// What a comparison is answered whose dumps are had.
+fn compared_by<'a, T: Texts>(
+    alloc: Global,
+    comparison: &Comparison<'a>,
+    expected: &[u8],
+    actual: &[u8],
+    texts: &mut T,
+) -> Result<Vec<u8>, Failure<'a>>
+    ensures { ComparesBy T.gives comparison.now.map comparison.now expected.now actual.now texts.old result texts.new }
+{
+    match comparison.map {
+        None => compared(alloc, comparison, expected, actual, None),
+        Some(name) => compared_with(alloc, name, comparison, expected, actual, texts),
     }
 }
 
@@ -415,11 +450,18 @@ fn reply_to_compare<'a, T: Texts>(
 {
     let expected = fetch(alloc, comparison.expected, texts)?;
     let actual = fetch(alloc, comparison.actual, texts)?;
-    compared(alloc, &comparison, expected.as_slice(), actual.as_slice())
+    compared_by(
+        alloc,
+        &comparison,
+        expected.as_slice(),
+        actual.as_slice(),
+        texts,
+    )
 }
 
 /// What a request is answered: the text to show, or why there is none. The texts that it names
-/// are fetched first, the settings before the bench before the stimulus before the schedule before the names of nets.
+/// are fetched first, the settings before the bench before the stimulus before the schedule before the names of nets;
+/// of a comparison the dump that is expected before the other one before the map.
 pub fn reply_to<'a, R: Threads + Wait + Sync, T: Texts>(
     rt: &R,
     alloc: Global,

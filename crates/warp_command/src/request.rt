@@ -70,10 +70,12 @@ pub struct Listing<'a> {
     pub bench: &'a str,
 }
 
-/// To be shown where two dumps differ: of at most so many bits (of all at 0) a line each.
+/// To be shown where two dumps differ, whose bits are paired by their names or as a text says: of at most so many bits (of
+/// all at 0) a line each.
 #[derive(Clone, Copy, Debug)]
 pub struct Comparison<'a> {
     pub options: Comparing<'a>,
+    pub map: Option<&'a str>,
     pub most: u32,
     pub expected: &'a str,
     pub actual: &'a str,

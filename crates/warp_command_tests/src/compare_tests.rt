@@ -4,8 +4,9 @@ use crate::told::{Answer, assert_told};
 use std::test::Fail;
 
 /// `Y = NOT(A)` with a delay of 1, where A rises at 5; the same with a delay of 2; the first one in another unit of
-/// time, and under two scopes; one without Y; and one with a change of no code.
-static TEXTS: [(&str, &[u8]); 6] = [
+/// time, and under two scopes; one without Y; and one with a change of no code. Then maps: the output alone, a line of three
+/// names, a name that is unknown, and a bit that is named twice.
+static TEXTS: [(&str, &[u8]); 10] = [
     (
         "e",
         b"$timescale 1 ns $end $scope module top $end $var wire 1 ! A $end $var wire 1 \" Y $end $upscope $end $enddefinitions $end #0 $dumpvars 0! x\" $end #1 1\" #5 1! #6 0\" #10",
@@ -27,10 +28,14 @@ static TEXTS: [(&str, &[u8]); 6] = [
         b"$timescale 1 ns $end $var wire 1 ! A $end $enddefinitions $end #0 0! #5 1!",
     ),
     ("b", b"$var wire 1 ! A $end $enddefinitions $end #0 0%"),
+    ("m", b"# the output\nY Y\n"),
+    ("w", b"Y Y\nA Y A\n"),
+    ("u", b"Y Y\n\nA B\n"),
+    ("t", b"Y Y\nA A\nY A\n"),
 ];
 
 /// Lines, their status, and what is written on standard output and on standard error.
-static LINES: [(&str, u8, &str, &str); 16] = [
+static LINES: [(&str, u8, &str, &str); 22] = [
     (
         "warp_sim compare e e",
         0,
@@ -122,6 +127,37 @@ static LINES: [(&str, u8, &str, &str); 16] = [
         "",
         "nothing to compare\n",
     ),
+    (
+        "warp_sim compare --map m e a",
+        5,
+        "1 Y: expected 1, found x\n1 of 1 bits differ from 0 to 10 (1 ns)\n",
+        "",
+    ),
+    (
+        "warp_sim compare --map w e a",
+        1,
+        "",
+        "map line 2: BadLine\n",
+    ),
+    (
+        "warp_sim compare --map u e a",
+        1,
+        "",
+        "map line 3: UnknownName\n",
+    ),
+    (
+        "warp_sim compare --map t e a",
+        1,
+        "",
+        "map line 3: NamedTwice\n",
+    ),
+    (
+        "warp_sim compare --map w e b",
+        1,
+        "",
+        "actual at 45: UnknownCode\n",
+    ),
+    ("warp_sim compare --map no e a", 4, "", "cannot read no\n"),
 ];
 
 #[test]

@@ -27,6 +27,17 @@ events_of d = events_from (has_code (variables d.variables.items)) 0 (items noth
 abbrev pub IsBehind : Result (List Event) StimFault → StimFault → CompareFault → Type 0
 IsBehind reading fault answer = ((es : List Event) × (reading ≡ Ok es) × (answer ≡ actual_by fault fault.cause)) ⊎ ((own : StimFault) × Fails own reading × (answer ≡ expected_by own own.cause))
 
+-- the same where the changes of the first dump are read
+abbrev pub IsBeforeOther : Result (List Event) StimFault → CompareFault → CompareFault → Type 0
+IsBeforeOther actual fault answer =
+    ((own : StimFault) × Fails own actual × (answer ≡ actual_by own own.cause)) ⊎ ((es : List Event) × (actual ≡ Ok es) × (answer ≡ fault))
+
+-- a fault of the map, or that of the changes of either dump, which come before it
+abbrev pub IsBefore : (expected actual : Result (List Event) StimFault) → CompareFault → CompareFault → Type 0
+IsBefore expected actual fault answer =
+    ((own : StimFault) × Fails own expected × (answer ≡ expected_by own own.cause))
+    ⊎ ((es : List Event) × (expected ≡ Ok es) × (IsBeforeOther actual fault answer))
+
 -- no pair, or no time
 abbrev pub HasNothing : Sight → List ℕ → Type 0
 HasNothing s numbers = (numbers ≡ []) ⊎ ((t : ℕ) → ¬ IsCompared s.times t)
