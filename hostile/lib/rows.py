@@ -128,8 +128,23 @@ def replay_rows():
     ]
 
 
+def compare_rows():
+    dumps = {"expected": example("inverter.dump.vcd"), "actual": example("inverter.dump.vcd").replace(b"#1\n", b"#2\n").replace(b"#6", b"#7")}
+
+    def row(name, options="", pairs=None, **answer):
+        line = f"compare {options} {'--map {map} ' if pairs else ''}{{expected}} {{actual}}"
+        return Row(name, line, dumps | ({"map": pairs} if pairs else {}), **answer)
+    return [
+        row("an inverter and a slower one", status=5, out=b"1 Y: expected 1, found x\n1 of 2 bits differ from 0 to 10 (1 ns)\n"),
+        row("an inverter and one that is slower by 1", "--within 1", out=b"2 bits agree from 0 to 10 (1 ns)\n"),
+        row("an inverter's input by a map", pairs=b"# the input\nA A\n", out=b"1 bits agree from 0 to 10 (1 ns)\n"),
+        row("a map of three names", pairs=b"A A\nY A Y\n", status=1, err=b"map line 2: BadLine\n"),
+        row("no time to compare", "--from 11", status=1, err=b"nothing to compare\n"),
+    ]
+
+
 def rows(has_replay):
-    return run_rows() + bench_rows() + settings_rows() + (replay_rows() if has_replay else [])
+    return run_rows() + bench_rows() + settings_rows() + (replay_rows() if has_replay else []) + compare_rows()
 
 
 # The tests that take memory, by what they call of their crate. Each passes, which a call that always answers Memory does not let it.
