@@ -1,3 +1,3 @@
 -- How marks are spaced (`Spacing`), and how times are put behind others and taken off (`Cutting`).
-mod Spacing
+pub mod Spacing
 mod Cutting
