@@ -1,5 +1,5 @@
 -- How calls keep what is true of a run.
-use Rattle.std.proofs.Common.{◌≡◌, ◌∙◌, ℕ, zero, suc, ◌+◌, ◌-◌, ◌<◌, ◌≤◌, inl, inr, List, [], ◌∷◌, Result, Ok, Err, length, refl, ap, sym, subst, arith}
+use Rattle.std.proofs.Common.{◌≡◌, ◌∙◌, ℕ, zero, suc, ◌+◌, ◌-◌, ◌<◌, ◌≤◌, inl, inr, List, [], ◌∷◌, ◌++◌, map, Result, Ok, Err, length, refl, ap, sym, subst, arith}
 use Rattle.std.specs.List.{All, flat_map}
 use Rattle.std.proofs.lemmas.Bool.{cases_lt}
 use Rattle.std.proofs.lemmas.List.Elements.{All-from_recursion, All-nil, All-cons, All-head, All-tail}
@@ -20,7 +20,7 @@ use Rattle.place_moves.specs.Journals.{Journal, IsPlayed, IsSetBy}
 use Rattle.place_moves.specs.Logs.{log_of, AreLogs}
 use Rattle.place_moves.proofs.Places.{every-within}
 use Rattle.place_moves.proofs.Stepping.{outside_past}
-use Rattle.place_moves.proofs.Telling.{outside_told, up_to, changes_are}
+use Rattle.place_moves.proofs.Telling.{outside_told, up_to, changes_are, changes_grow}
 use Rattle.place_moves.proofs.Logging.{logs_grow, logs_shorten, log-driven, log-outside}
 use Rattle.place_moves.proofs.Moving.{moves-agree}
 use Rattle.place_moves.proofs.Coming.{value-later, value-first, value-none}
@@ -29,7 +29,8 @@ use Rattle.place_moves.proofs.Backing.{back_plays}
 use Rattle.place_moves.proofs.Regiving.{given_plays, made-agree}
 use Rattle.place_moves.proofs.Beginning.{forgotten_plays}
 use Rattle.warp_journal.specs.Books.{Book, Played, MayPlay, HasPlayed, HasStayed, MayGoBack, HasGoneBack, HasLostBelow, journal_of}
-use Rattle.warp_engine.specs.Runs.{Run, Ran, MayRun, HasRun, HasRested, HasTold, makings, MayReturn, HasReturned, HasGivenUp, HasDropped}
+use Rattle.warp_engine.proofs.Making.{makings_later}
+use Rattle.warp_engine.specs.Runs.{Run, Ran, AreLater, MayRun, HasRun, HasRested, HasTold, IsRun, makings, MayReturn, HasReturned, HasGivenUp, HasDropped}
 
 -- the logs of as many places
 logs_of : (source : ℕ → Source) (given : ℕ → ℕ → Logic) (horizon mark : ℕ) (old new : List Cell) (lists : List (List Change)) → new ≡ old → AreLogs source given horizon mark (length old) lists → AreLogs source given horizon mark (length new) lists
@@ -88,10 +89,11 @@ makings_within run ran time words low e =
     (subst (λ (n : ℕ). All (λ (d : Dated Move). d.1.place < n) (makings time run)) (sym ran.is.logs.same)
     (told_within ran.source ran.given ran.floor time run.horizon (journal_of run.book) ran.is.played low))
 
-pub has_told : (run : Run) (batch : List (Dated Move)) (lists : List (List Change)) → batch ≡ makings run.told run → AreLonger batch run.lists lists → HasTold run (record run { lists = lists; told = run.book.mark }) batch
-has_told run batch lists words longer =
+pub has_told : (run : Run) → Ran run → (batch : List (Dated Move)) (lists : List (List Change)) → batch ≡ makings run.told run → AreLonger batch run.lists lists → HasTold run (record run { lists = lists; told = run.book.mark }) batch
+has_told run ran batch lists words longer =
     record {
       words = words;
+      later = subst (AreLater run.told run) (sym words) (makings_later run run.told ran);
       longer = longer;
       told = refl;
       book = refl;
@@ -159,20 +161,59 @@ module _ (source : ℕ → Source) (given given' : ℕ → ℕ → Logic) (mark 
   logs_same : (horizon : ℕ) (cells : List Cell) (lists : List (List Change)) → ((place : ℕ) → IsSetBy (cell_at cells place) (source place)) → AreLogs source given horizon mark (length cells) lists → AreLogs source given' horizon mark (length cells) lists
   logs_same horizon cells lists set logs = record { same = logs.same; each = λ place. logs.each place ∙ log_same horizon place (cell_at cells place) (set place) }
 
+-- a place's log is longer by what is told of it
+module _ (source : ℕ → Source) (given : ℕ → ℕ → Logic) (floor : ℕ) (j : Journal) (played : IsPlayed source given floor j) (time horizon : ℕ) (low : floor ≤ time) (high : time ≤ j.mark) where
+  log_longer : (place : ℕ) → log_of (source place) j.mark (changes (value source given place) (horizon + 1))
+      ≡ log_of (source place) time (changes (value source given place) (horizon + 1)) ++ changes_at place (flat_map (told_since time horizon) j.queues)
+  log_longer place =
+      let all : List Change = changes (value source given place) (horizon + 1) in
+      let told : List (Dated Move) = flat_map (told_since time horizon) j.queues in
+      elim (driven_or_not (cell_at j.gates.cells place) (source place) (played.gates.sources place)) [
+        | inl out ↦
+            log-outside (source place) j.mark all out
+            ∙ sym (ap (λ (cs : List Change). cs ++ changes_at place told) (log-outside (source place) time all out)
+            ∙ ap (map (λ (d : Dated Move). record { time = d.0; value = d.1.after })) (outside_told source given floor j played place time horizon low out))
+        | inr driven ↦
+            log-driven (source place) j.mark all driven ∙ changes_grow source given floor j played place time horizon low high driven
+            ∙ ap (λ (cs : List Change). cs ++ changes_at place told) (sym (log-driven (source place) time all driven))
+      ]
+
+  -- lists up to the mark are longer than lists up to the time
+  lists_longer : (old new : List (List Change)) → AreLogs source given horizon j.mark (length j.gates.cells) old → AreLogs source given horizon time (length j.gates.cells) new → AreLonger (flat_map (told_since time horizon) j.queues) new old
+  lists_longer old new before after = record {
+    same = before.same ∙ sym after.same;
+    each = λ place l. before.each place ∙ log_longer place ∙ ap (λ (cs : List Change). cs ++ changes_at place (flat_map (told_since time horizon) j.queues)) (sym (after.each place));
+  }
+
+-- the lists that are left
+lists_left : (time : ℕ) (run : Run) (batch : List (Dated Move)) (lists : List (List Change)) (source : ℕ → Source) (given : ℕ → ℕ → Logic) (floor : ℕ) → MayReturn time batch run → IsRun source given floor run → floor ≤ time
+    → AreShorter (undated batch) run.lists lists → AreLogs source given run.horizon time (length run.book.gates.cells) lists
+lists_left time run batch lists source given floor may is low shorter =
+    let high : time ≤ run.book.mark = omega (arith, may.high, may.all) in
+    let logs : AreLogs source given run.horizon run.book.mark (length run.book.gates.cells) run.lists = subst (λ (m : ℕ). AreLogs source given run.horizon m (length run.book.gates.cells) run.lists) may.all is.logs in
+    let short : AreShorter (undated (makings time run)) run.lists lists = subst (λ (ds : List (Dated Move)). AreShorter (undated ds) run.lists lists) may.words shorter in
+    logs_shorten source given floor (journal_of run.book) is.played time run.horizon low high run.lists lists logs short
+
+returned_longer : (time : ℕ) (run : Run) (batch : List (Dated Move)) (lists : List (List Change)) → MayReturn time batch run → AreShorter (undated batch) run.lists lists → AreLonger (makings time run) lists run.lists
+returned_longer time run batch lists may shorter =
+    let is : IsRun may.of.source may.of.given may.of.floor run = may.of.is in
+    lists_longer may.of.source may.of.given may.of.floor (journal_of run.book) is.played time run.horizon may.low (omega (arith, may.high, may.all)) run.lists lists
+    (subst (λ (m : ℕ). AreLogs may.of.source may.of.given run.horizon m (length run.book.gates.cells) run.lists) may.all is.logs)
+    (lists_left time run batch lists may.of.source may.of.given may.of.floor may is may.low shorter)
+
 pub has_returned : (time : ℕ) (run : Run) (batch : List (Dated Move)) (book : Book) (lists : List (List Change)) → MayReturn time batch run → HasGoneBack time run.book book → AreShorter (undated batch) run.lists lists
     → HasReturned time run (record run { book = book; lists = lists; told = time })
 has_returned time run batch book lists may back shorter =
     record {
       mark = back.back.mark;
       told = refl;
+      longer = returned_longer time run batch lists may shorter;
       like = record { alike = back.alike; horizon = refl };
       anew = λ source given given' floor is low agree past.
           let high : time ≤ run.book.mark = omega (arith, may.high, may.all) in
           let cells : book.gates.cells ≡ run.book.gates.cells = back.alike.cells in
           let played : IsPlayed source given floor (journal_of book) = back_plays source given floor (journal_of run.book) is.played time low high (journal_of book) back.back in
-          let logs : AreLogs source given run.horizon run.book.mark (length run.book.gates.cells) run.lists = subst (λ (m : ℕ). AreLogs source given run.horizon m (length run.book.gates.cells) run.lists) may.all is.logs in
-          let short : AreShorter (undated (makings time run)) run.lists lists = subst (λ (ds : List (Dated Move)). AreShorter (undated ds) run.lists lists) may.words shorter in
-          let left : AreLogs source given run.horizon time (length run.book.gates.cells) lists = logs_shorten source given floor (journal_of run.book) is.played time run.horizon low high run.lists lists logs short in
+          let left : AreLogs source given run.horizon time (length run.book.gates.cells) lists = lists_left time run batch lists source given floor may is low shorter in
           record {
             played = given_plays source given given' floor (journal_of book) played (λ t p l. agree t p (omega (arith, back.back.mark))) (λ p t l. past p t (subst (λ (cs : List Cell). length cs ≤ p) cells l));
             low = low;

@@ -1,10 +1,10 @@
 -- What an engine holds, what is true of it, and what its calls do.
-use Rattle.std.specs.Prelude.{◌≡◌, ℕ, suc, ◌<◌, ◌≤◌, List, length}
-use Rattle.std.specs.List.{flat_map}
+use Rattle.std.specs.Prelude.{◌≡◌, ℕ, suc, ◌+◌, ◌<◌, ◌≤◌, List, length}
+use Rattle.std.specs.List.{All, flat_map}
 use Rattle.gate_values.specs.declared.logic.Logic.{Logic}
 use Rattle.gate_values.specs.declared.logic.Logic.TheVariants.{X}
 use Rattle.gate_values.specs.declared.logic.Change.{Change}
-use Rattle.gate_values.specs.Behaviour.{Source}
+use Rattle.gate_values.specs.Behaviour.{Source, source_delay}
 use Rattle.warp_stores.specs.Words.{Move}
 use Rattle.warp_stores.specs.Dated.{Dated}
 use Rattle.warp_stores.specs.Delays.{told_since}
@@ -37,6 +37,15 @@ pub record Ran (run : Run) : Type 0 where
 -- what is made from a step on, at the times at which it comes true
 abbrev pub makings : ℕ → Run → List (Dated Move)
 makings step run = flat_map (told_since step run.horizon) (all_of run.book.queues)
+
+-- words of places that there are, that come true later than a step, up to the horizon
+abbrev pub AreLater : ℕ → Run → List (Dated Move) → Type 0
+AreLater step run words = All (λ d. (d.1.place < length run.book.gates.cells) × (step < d.0) × (d.0 ≤ run.horizon)) words
+
+-- words that sources made at a step or later, before the mark, each at the time at which it comes true: a delay after its step
+abbrev pub AreMadeBy : (ℕ → Source) → ℕ → Run → List (Dated Move) → Type 0
+AreMadeBy source step run words =
+    All (λ d. (0 < source_delay (source d.1.place)) × (step + source_delay (source d.1.place) ≤ d.0) × (d.0 < run.book.mark + source_delay (source d.1.place))) words
 
 -- up to a time nothing is brought to what a run has played, and then these words are
 pub record MayRun (time : ℕ) (outside : List Move) (run : Run) : Type 0 where
@@ -77,6 +86,7 @@ Keeps old new = (source : ℕ → Source) (given : ℕ → ℕ → Logic) (floor
 -- all that was made is told, in the lists and in a batch
 pub record HasTold (old new : Run) (batch : List (Dated Move)) : Type 0 where
   pub words : batch ≡ makings old.told old
+  pub later : AreLater old.told old batch
   pub longer : AreLonger batch old.lists new.lists
   pub told : new.told ≡ old.book.mark
   pub book : new.book ≡ old.book
@@ -92,10 +102,12 @@ pub record MayReturn (time : ℕ) (batch : List (Dated Move)) (run : Run) : Type
   pub all : run.told ≡ run.book.mark
   pub words : batch ≡ makings time run
 
--- All from a time on is taken back. What is given from then on may be something else.
+-- All from a time on is taken back, and what was made from then on stands behind the lists no more. What is given from then on
+-- may be something else.
 pub record HasReturned (time : ℕ) (old new : Run) : Type 0 where
   pub mark : new.book.mark ≡ time
   pub told : new.told ≡ time
+  pub longer : AreLonger (makings time old) new.lists old.lists
   pub like : IsLike old new
   pub anew : (source : ℕ → Source) (given given' : ℕ → ℕ → Logic) (floor : ℕ) → IsRun source given floor old → floor ≤ time
       → ((t place : ℕ) → t < time → given t place ≡ given' t place) → ((place t : ℕ) → length old.book.gates.cells ≤ place → given' t place ≡ X) → IsRun source given' floor new

@@ -83,6 +83,13 @@ impl Engine {
         self.journal.mark()
     }
 
+    /// The first time from which on nothing that was made is told.
+    pub fn told(&self) -> u64
+        ensures { result ≡ self.now.told }
+    {
+        self.told
+    }
+
     /// The last time up to which changes are listed.
     pub fn horizon(&self) -> u64
         ensures { result ≡ self.now.horizon }

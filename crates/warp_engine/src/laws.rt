@@ -8,7 +8,7 @@ ghost use Rattle.warp_stores.specs.Delays.{least_due};
 ghost use Rattle.warp_gates.specs.Cells.{Cell, AreGates, value_at};
 ghost use Rattle.place_moves.specs.Journals.{IsPlayed};
 ghost use Rattle.warp_journal.specs.Books.{Book, journal_of};
-ghost use Rattle.warp_engine.specs.Runs.{Run, IsRun};
+ghost use Rattle.warp_engine.specs.Runs.{Run, IsRun, Ran, makings, AreLater, AreMadeBy};
 ghost use Rattle.warp_engine.specs.Opening.{IsOpened, DoSuit};
 ghost use Rattle.warp_engine.specs.States.{values_before, contents_before};
 ghost use Rattle.warp_engine.specs.Nexts.{AreParted, IsLeftAlone, IsStill, IsUsed};
@@ -41,4 +41,10 @@ pub fn moves_next()
     ensures moves { (source : ℕ → Source) (given : ℕ → ℕ → Logic) (floor : ℕ) (book : Book) → IsPlayed source given floor (journal_of book) → AreParted source book
         → least_due book.queues.read < NEVER → (place : ℕ) × IsUsed book.gates.cells place × (0 < source_delay (source place)) × (least_due book.queues.read < book.mark + source_delay (source place)) × (IsStill source given place (least_due book.queues.read) → ⊥) }
     ensures ahead { (source : ℕ → Source) (given : ℕ → ℕ → Logic) (floor : ℕ) (book : Book) → IsPlayed source given floor (journal_of book) → book.mark ≤ NEVER → book.mark ≤ least_due book.queues.read }
+{}
+
+/// What is made from a step on comes true later, a delay after the step that made it, at places that are there.
+pub fn makings_are_later()
+    ensures later { (run : Run) (step : ℕ) → Ran run → AreLater step run (makings step run) }
+    ensures made { (run : Run) (step : ℕ) (ran : Ran run) → AreMadeBy ran.source step run (makings step run) }
 {}
