@@ -1,0 +1,12 @@
+-- Places of nets (`Slots`, `PartPlaces`), the part of a circuit (`PartLists`, `PartBuilding`, `PartReaders`, `PartWhole`, `PartHeld`), equal parts
+-- (`PartEquality`), and what places are to their nets (`Placing`, `Wired`).
+pub mod Slots
+pub mod PartPlaces
+pub mod PartHeld
+pub mod PartLists
+pub mod PartBuilding
+pub mod PartReaders
+pub mod PartWhole
+pub mod PartEquality
+pub mod Placing
+pub mod Wired

@@ -1,0 +1,5 @@
+-- What only the proofs of this crate need: no contract of a public call speaks of it.
+pub mod Building
+pub mod HeldPart
+pub mod SamePart
+pub mod Wired
