@@ -1,0 +1,36 @@
+-- Queues of entries (`Rising`, `QueueOrder`, `QueueEdits`, `QueueOpening`, `Copying`, `Settled`, `Unsettled`), what is heard (`Hearing`, `Putting`,
+-- `Listing`, `Opened`, `Finding`, `Settling`, `Committing`), logs of runs and what they show (`Running`, `LogOrder`, `Views`, `Rows`, `Quiet`, `Next`,
+-- `Playing`), busy times and saved states (`SavingTimes`, `SavingBusy`, `SavingStates`, `SavingStep`, `SavingAdvance`, `Going`), what is sent (`Told`,
+-- `Sends`), and calls (`Receiving`, `Committed`, `Laws`).
+pub mod Committed
+pub mod Committing
+pub mod Copying
+pub mod Finding
+pub mod Going
+pub mod Hearing
+pub mod Laws
+pub mod Listing
+pub mod LogOrder
+pub mod Next
+pub mod Opened
+pub mod Playing
+pub mod Putting
+pub mod QueueEdits
+pub mod QueueOpening
+pub mod QueueOrder
+pub mod Quiet
+pub mod Receiving
+pub mod Rising
+pub mod Rows
+pub mod Running
+pub mod SavingAdvance
+pub mod SavingBusy
+pub mod SavingStates
+pub mod SavingStep
+pub mod SavingTimes
+pub mod Sends
+pub mod Settled
+pub mod Settling
+pub mod Told
+pub mod Unsettled
+pub mod Views

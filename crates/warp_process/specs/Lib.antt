@@ -1,0 +1,14 @@
+pub mod Entries
+pub mod Faults
+pub mod Limits
+pub mod View
+pub mod Lawful
+pub mod Heard
+pub mod Played
+pub mod Sends
+pub mod Opening
+pub mod Receive
+pub mod Advance
+pub mod Commit
+pub mod Shown
+pub mod Inner
