@@ -1,0 +1,86 @@
+//! What is brought to a part's engine.
+ghost use Rattle.std.specs.Prelude.{◌≡◌, ◌≤◌, ◌<◌, ◌++◌, ℕ, false, OnOk, length};
+ghost use Rattle.std.specs.List.{All, flat_map};
+ghost use Rattle.warp_journal.specs.Books.{IsBrought};
+ghost use Rattle.warp_part.specs.Placing.{place_source, place_given};
+ghost use Rattle.warp_process.specs.Played.{played_view};
+ghost use Rattle.warp_process.specs.View.{given_by, is_busy};
+ghost use Rattle.part_engine.specs.Runs.{IsEngine};
+ghost use Rattle.part_engine.specs.Inner.Bringing.{heard_move};
+
+use crate::moves;
+use std::alloc::AllocError;
+use warp_engine::Engine;
+use warp_process::Heard;
+use warp_stores::Word;
+
+/// Puts into a list, in place of what it had, the words that are brought to an engine at a time by what a block has received:
+/// the values that nets of other blocks and inputs take, and at time 0 what flip-flops begin with. Before that time nothing
+/// happens from the engine's mark on, and time 0 isn't passed over. An error is a refused growth.
+pub fn bring(
+    heard: &Heard,
+    engine: &Engine,
+    time: u64,
+    words: &mut Vec<Word>,
+) -> Result<(), AllocError>
+    requires engine { IsEngine heard.now engine.now }
+    requires ahead { engine.now.book.mark ≤ time }
+    requires floor { heard.now.floor ≤ time }
+    requires within { time ≤ heard.now.horizon }
+    requires quiet { (t : ℕ) → engine.now.book.mark ≤ t → t < time → is_busy (played_view heard.now engine.now.book.mark) t ≡ false }
+    requires start { engine.now.book.mark ≡ 0 → time ≡ 0 }
+    ensures { OnOk result (IsBrought (place_source heard.now.part) (place_given heard.now.part (given_by heard.now)) engine.now.book.mark time words.new.items) }
+{
+    moves::begin(heard.part(), time, words)?;
+    let places = heard.places(time)?;
+    push_heard(heard, engine, places.as_slice(), time, words)
+}
+
+/// The same for time 0, where nothing happens at it: what flip-flops begin with that no gate reads. An error is a refused growth.
+pub fn bring_first(heard: &Heard, engine: &Engine, words: &mut Vec<Word>) -> Result<(), AllocError>
+    requires engine { IsEngine heard.now engine.now }
+    requires mark { engine.now.book.mark ≡ 0 }
+    requires quiet { is_busy (played_view heard.now 0) 0 ≡ false }
+    ensures { OnOk result (IsBrought (place_source heard.now.part) (place_given heard.now.part (given_by heard.now)) engine.now.book.mark 0 words.new.items) }
+{
+    let _ = engine;
+    moves::begin(heard.part(), 0, words)
+}
+
+/// Puts behind words what each of some places takes at a time, where that is another value than it has.
+fn push_heard(
+    heard: &Heard,
+    engine: &Engine,
+    places: &[u32],
+    time: u64,
+    words: &mut Vec<Word>,
+) -> Result<(), AllocError>
+    requires engine { IsEngine heard.now engine.now }
+    requires within { All (λ i. i < length heard.now.part.nets) places.now }
+    ensures { OnOk result (words.new.items ≡ words.old.items ++ flat_map (heard_move heard.now engine.now.book.gates.values time) places.now) }
+{
+    for place in places {
+        push_place(heard, engine, *place, time, words)?;
+    }
+    Ok(())
+}
+
+/// Puts behind words what a place takes at a time, where that is another value than it has.
+fn push_place(
+    heard: &Heard,
+    engine: &Engine,
+    place: u32,
+    time: u64,
+    words: &mut Vec<Word>,
+) -> Result<(), AllocError>
+    requires engine { IsEngine heard.now engine.now }
+    requires within { place < length heard.now.part.nets }
+    ensures { OnOk result (words.new.items ≡ words.old.items ++ heard_move heard.now engine.now.book.gates.values time place) }
+{
+    heard.law();
+    let value = engine.value(place);
+    match heard.effective(place as usize, time) {
+        Some(next) => moves::push_move(words, place, value, next),
+        None => Ok(()),
+    }
+}

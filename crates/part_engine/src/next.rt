@@ -1,0 +1,39 @@
+//! When something happens next.
+ghost use Rattle.std.specs.Prelude.{◌≡◌, ◌≤◌, ◌<◌, ℕ, false};
+ghost use Rattle.warp_process.specs.Played.{played_view};
+ghost use Rattle.warp_process.specs.View.{IsLeast, IsEventTime, is_busy};
+ghost use Rattle.part_engine.specs.Runs.{IsEngine, begins_of};
+ghost use Rattle.part_engine.specs.Inner.Soonest.{sooner};
+
+use warp_engine::Engine;
+use warp_process::Heard;
+
+/// The least time from an engine's mark to the horizon at which something happens to a net that a gate reads. Nothing happens
+/// from the mark on and below the floor.
+pub fn next_time(heard: &Heard, engine: &Engine, begins: bool) -> Option<u64>
+    requires engine { IsEngine heard.now engine.now }
+    requires begins { begins ≡ begins_of heard.now.part }
+    requires quiet { (t : ℕ) → engine.now.book.mark ≤ t → t < heard.now.floor → is_busy (played_view heard.now engine.now.book.mark) t ≡ false }
+    ensures { IsLeast (IsEventTime (played_view heard.now engine.now.book.mark)) result }
+{
+    let mark = engine.mark();
+    if begins && mark == 0 {
+        return Some(0);
+    }
+    let next = sooner(heard.next(mark.max(heard.floor())), engine.next());
+    if next <= heard.horizon() {
+        Some(next)
+    } else {
+        None
+    }
+}
+
+/// The sooner of a time that may be there, and another.
+fn sooner(first: Option<u64>, second: u64) -> u64
+    ensures { result ≡ sooner first second }
+{
+    match first {
+        Some(time) => time.min(second),
+        None => second,
+    }
+}
