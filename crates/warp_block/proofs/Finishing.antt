@@ -1,168 +1,307 @@
--- Finishing an event time keeps what every block keeps.
-use Rattle.std.proofs.Common.{◌≡◌, ℕ, suc, ◌+◌, ◌<◌, ◌≤◌, ◌++◌, ◌⊎◌, Bool, true, false, cond, leb, List, [], ◌∷◌, map, length, get_or, inl, inr, refl, ap, sym, ◌∙◌, subst, arith, All, is_some}
-use Rattle.std.proofs.lemmas.Bool.{cond-true, cond-false, leb-true}
-use Rattle.std.proofs.lemmas.List.{append-nil, get_or-map, length-map, ext_get_or, get_or_default}
-use Rattle.gate_values.specs.declared.logic.Logic.{Logic}
+-- What a turn that is told has made of a block.
+use Rattle.std.proofs.Common.{◌≡◌, ℕ, zero, suc, Bool, true, false, cond, max, ◌+◌, ◌-◌, ◌<◌, ◌≤◌, ◌⊎◌, ◌++◌, ◌==◌, nat_lt, Option, Some, None, List, [], ◌∷◌, map, length, get_or, inl, inr, refl, ap, sym, ◌∙◌, subst, arith, All}
+use Rattle.std.specs.List.{filter}
+use Rattle.std.proofs.lemmas.Bool.{cases_lt, cases_Bool, true≢false, false_from_ne_true, cond-true, cond-false}
+use Rattle.std.proofs.lemmas.List.{get_or-map, length-append, length-map}
+use Rattle.std.proofs.lemmas.List.Elements.{All-nil, All-cons, filter-append}
+use Rattle.std.proofs.lemmas.Grind.{common_steps}
 use Rattle.gate_values.specs.declared.logic.Logic.TheVariants.{X}
 use Rattle.gate_values.specs.declared.logic.Change.{Change}
-use Rattle.gate_values.specs.Behaviour.{Source, Moment, output, source_delay}
-use Rattle.gate_values.specs.Changes.{last_value, same, before_time}
-use Rattle.warp_block.specs.declared.message.Message.{Message}
-use Rattle.warp_block.specs.declared.message.Sign.TheVariants.{Plus}
-use Rattle.warp_block.specs.Inner.Logs.{IsLog}
-use Rattle.warp_block.specs.Portion.{is_driven, source_of, slot_of}
-use Rattle.warp_block.specs.Inner.Moments.{moment_of, value_in}
-use Rattle.warp_block.specs.View.{View, Saved, effective_at, moment_before, block_value}
-use Rattle.warp_block.specs.Lawful.{IsLawful, IsSaved, lawful_log}
-use Rattle.warp_block.specs.Sends.{SendsOnce}
-use Rattle.warp_block.specs.Inner.Advance.{IsQuiet}
-use Rattle.warp_block.specs.Inner.Step.{log_at, source_at, net_at, emitted, emitted_value, told, IsEmitted, IsPartlyEmitted, AreCut}
-use Rattle.warp_block.proofs.Slots.{slot_at}
-use Rattle.warp_block.proofs.LogOrder.{IsLog-run}
-use Rattle.warp_block.proofs.Running.{IsDriven, run_log, run_log-step, run_log-cut, added, delayed, driven_or_not}
-use Rattle.warp_block.proofs.Views.{IsUsed, timed, over_used}
-use Rattle.warp_block.proofs.Quiet.{quiet_log_to}
-use Rattle.warp_block.proofs.Stepping.{output_next, emitted_change, run_log-changes}
-use Rattle.warp_block.proofs.Rows.{source_here, log_is, logs_len}
-use Rattle.warp_block.proofs.Filling.{in_map}
-use Rattle.warp_block.proofs.Sending.{sends_grown}
+use Rattle.gate_values.specs.Behaviour.{Source, Outside, Gate, Flop, source_delay}
+use Rattle.gate_values.specs.Changes.{changes, before_time}
+use Rattle.event_times.specs.Marks.{Played}
+use Rattle.warp_stores.specs.Words.{Move}
+use Rattle.warp_stores.specs.Dated.{Dated}
+use Rattle.warp_stores.specs.Lists.{AreLonger, changes_at}
+use Rattle.warp_engine.specs.Runs.{Run, AreLater, AreMadeBy, makings}
+use Rattle.warp_engine.proofs.Making.{makings_later, makings_made}
+use Rattle.warp_part.specs.Portion.{source_of, owns, is_driven}
+use Rattle.warp_part.specs.Placing.{place_source, placed}
+use Rattle.warp_process.specs.Heard.{IsReceived}
+use Rattle.warp_process.specs.View.{View, is_busy, busy_times, effective_at, block_value, IsLeast, IsEventTime}
+use Rattle.warp_process.specs.Lawful.{IsLawful, lawful_log}
+use Rattle.warp_process.specs.Advance.{IsAdvanced, IsAfterEvent}
+use Rattle.warp_process.specs.Played.{played_view, was_busy}
+use Rattle.warp_process.specs.Inner.Advance.{IsQuiet}
+use Rattle.warp_process.proofs.Playing.{played_lawful}
+use Rattle.warp_process.proofs.Quiet.{quiet_log_to}
+use Rattle.warp_process.proofs.Going.{no_times}
+use Rattle.warp_part.proofs.Placing.{source_at}
+use Rattle.part_engine.proofs.Sources.{delay_placed}
+use Rattle.warp_block.proofs.Stepping.{ran}
+use Rattle.warp_process.proofs.SavingTimes.{times-split, times-none, times-agree}
+use Rattle.part_engine.specs.Runs.{IsEngineOf}
+use Rattle.part_engine.proofs.RunLogs.{lists_are, cells_are}
+use Rattle.warp_block.specs.Shown.Block.{mark_by, seen_by}
+use Rattle.warp_block.specs.Inner.Held.{IsAt, IsAtRest}
+use Rattle.warp_block.proofs.Resting.{busy_was, quiet_from, least_from, rest_lists, rest_lawful, rest_quiet, seen_was, event_up, event_down, least_up}
 
--- what is emitted is later than the time that it is emitted for, and not past the horizon
-emitted_value-later : (v : Logic) (log : List Change) (s t horizon : ℕ) → s < t → All (λ (c : Change). (s < c.time) × (c.time ≤ horizon)) (emitted_value v log t horizon)
-emitted_value-later v log s t horizon h = go (leb t horizon) (same v (last_value X log)) refl
+-- the first of some times that passes a test, or none does
+find_first : (f : ℕ → Bool) (from k : ℕ) → ((u : ℕ) × (from ≤ u) × (u < from + k) × (f u ≡ true) × ((t : ℕ) → from ≤ t → t < u → f t ≡ false)) ⊎ ((t : ℕ) → from ≤ t → t < from + k → f t ≡ false)
+find_first f from zero = inr (λ t a b. absurd (omega (arith, a, b)))
+find_first f from (suc k) = elim (cases_Bool (f from)) [
+  | inl yes_ ↦ inl (from, omega arith, omega arith, yes_, λ t a b. absurd (omega (arith, a, b)))
+  | inr not_now ↦ (elim (find_first f (suc from) k) [
+    | inl u ↦ (let low = u.1 in let high = u.2 in
+        inl (
+          u.0,
+          omega (arith, low),
+          omega (arith, high),
+          u.3,
+          λ t a b. elim (cases_lt from t) [
+            | inl later ↦ u.4 t later b
+            | inr first ↦ (let e : t ≡ from = omega (arith, a, first) in ap f e ∙ not_now)
+          ],
+        ))
+    | inr none ↦ inr (λ t a b. elim (cases_lt from t) [
+      | inl later ↦ none t later (omega (arith, b))
+      | inr first ↦ (let e : t ≡ from = omega (arith, a, first) in ap f e ∙ not_now)
+    ])
+  ])
+]
+
+yes_lt : (x y : ℕ) → x < y → nat_lt x y ≡ true
+yes_lt x y h = grind (arith, common_steps)
+
+no_lt : (x y : ℕ) → y ≤ x → nat_lt x y ≡ false
+no_lt x y h = grind (arith, common_steps)
+
+-- what stands below an end stands below it
+twice_below : (end : ℕ) (cs : List Change) → before_time end (before_time end cs) ≡ before_time end cs
+twice_below end [] = refl
+twice_below end (c ∷ cs) = go (twice_below end cs) (nat_lt c.time end) refl
   where
-    none : All (λ (c : Change). (s < c.time) × (c.time ≤ horizon)) []
-    none k d l = absurd (omega arith)
+    go : before_time end (before_time end cs) ≡ before_time end cs → (b : Bool) → nat_lt c.time end ≡ b → before_time end (cond b (c ∷ before_time end cs) (before_time end cs)) ≡ cond b (c ∷ before_time end cs) (before_time end cs)
+    go rest true l = rw l (ap (λ (ds : List Change). c ∷ ds) rest)
+    go rest false l = rest
 
-    go : (b e : Bool) → leb t horizon ≡ b → All (λ (c : Change). (s < c.time) × (c.time ≤ horizon)) (cond b (cond e [] (record { time = t; value = v } ∷ [])) [])
-    go false e i = none
-    go true true i = none
-    go true false i = λ k d l. (let z : k ≡ 0 = omega arith in
-        subst (λ (j : ℕ). (s < (get_or (record { time = t; value = v } ∷ []) j d).time) × ((get_or (record { time = t; value = v } ∷ []) j d).time ≤ horizon)) (sym z) (h, leb-true t horizon i))
+none_behind : (xs ys : List Change) → xs ≡ xs ++ ys → ys ≡ []
+none_behind xs [] h = refl
+none_behind xs (y ∷ ys) h = absurd (let len : length xs ≡ length xs + length (y ∷ ys) = ap length h ∙ length-append xs (y ∷ ys) in omega (arith, len))
 
-module _ (v : View) (is : IsLawful v) (state : Saved) (saved : IsSaved v state) (s : ℕ) (now : state.mark ≡ s + 1)
-    (from : v.mark ≤ s) (until : s ≤ v.horizon) (quiet : IsQuiet v s) where
-  abbrev m : Moment
-  m = moment_of v.part.nets state.values state.contents
+-- of a list that is what stands below an end in a longer one, nothing else of the longer one stands below the end
+none_below : (end : ℕ) (old added : List Change) → old ≡ before_time end (old ++ added) → before_time end added ≡ []
+none_below end old added e =
+    let both : before_time end (old ++ added) ≡ before_time end old ++ before_time end added = filter-append (λ (c : Change). nat_lt c.time end) old added in
+    let idle : before_time end old ≡ old = ap (before_time end) e ∙ twice_below end (old ++ added) ∙ sym e in
+    let all : old ≡ old ++ before_time end added = e ∙ both ∙ ap (λ (cs : List Change). cs ++ before_time end added) idle in
+    none_behind old (before_time end added) all
 
-  abbrev source : ℕ → Source
-  source = source_of v.part
+-- a change that stands below an end isn't left out
+some_below : (end : ℕ) (cs : List Change) (k : ℕ) (d : Change) → k < length cs → (get_or cs k d).time < end → before_time end cs ≡ [] → ⊥
+some_below end [] k d l below e = absurd (omega (arith, l))
+some_below end (c ∷ cs) zero d l below e = absurd (let len : suc (length (before_time end cs)) ≡ 0 = ap length (rw (yes_lt c.time end below) at e) in omega (arith, len))
+some_below end (c ∷ cs) (suc k) d l below e = go (λ rest. some_below end cs k d (omega (arith, l)) below rest) (nat_lt c.time end) e
+  where
+    go : (before_time end cs ≡ [] → ⊥) → (b : Bool) → cond b (c ∷ before_time end cs) (before_time end cs) ≡ [] → ⊥
+    go rest true f = absurd (let len : suc (length (before_time end cs)) ≡ 0 = ap length f in omega (arith, len))
+    go rest false f = rest f
 
-  abbrev at_net : ℕ → ℕ
-  at_net i = get_or v.part.nets i 0
+-- a change of the time of a word, in its place
+abbrev pub Says : List (Dated Move) → ℕ → ℕ → Change → Type 0
+Says words place time c = (j : ℕ) × (j < length (changes_at place words)) × ((get_or (changes_at place words) j c).time ≡ time)
 
-  later_mark : state.mark ≡ suc s
-  later_mark = omega (arith, now)
+same_place : (a b : ℕ) → a ≡ b → (a == b) ≡ true
+same_place a b h = grind (arith, common_steps)
 
-  values_now : (i : ℕ) → is_some (slot_of v.part.nets i) ≡ true → m.value i ≡ (moment_before v (suc s)).value i
-  values_now i h =
-      ap (λ (vs : List Logic). value_in v.part.nets vs i) saved.values
-      ∙ (in_map v.part.nets (moment_before v state.mark).value X i h ∙ ap (λ t. (moment_before v t).value i) later_mark)
+says_at : (ws : List (Dated Move)) (k : ℕ) (d : Dated Move) (c : Change) → k < length ws → (place : ℕ) → (get_or ws k d).1.place ≡ place → Says ws place (get_or ws k d).0 c
+says_at [] k d c l place e = absurd (omega (arith, l))
+says_at (w ∷ ws) zero d c l place e = rw (same_place w.1.place place e) (0, omega arith, refl)
+says_at (w ∷ ws) (suc k) d c l place e = go (says_at ws k d c (omega (arith, l)) place e) (w.1.place == place)
+  where
+    go : Says ws place (get_or ws k d).0 c → (b : Bool) →
+        (j : ℕ) × (j < length {A = Change} (map (λ (v : Dated Move). record { time = v.0; value = v.1.after }) (cond b (w ∷ filter (λ v. v.1.place == place) ws) (filter (λ v. v.1.place == place) ws))))
+        × ((get_or {A = Change} (map (λ (v : Dated Move). record { time = v.0; value = v.1.after }) (cond b (w ∷ filter (λ v. v.1.place == place) ws) (filter (λ v. v.1.place == place) ws))) j c).time ≡ (get_or ws k d).0)
+    go rest true = (suc rest.0, (let l = rest.1 in omega (arith, l)), rest.2)
+    go rest false = rest
 
-  contents_now : (i : ℕ) → is_some (slot_of v.part.nets i) ≡ true → m.content i ≡ (moment_before v (suc s)).content i
-  contents_now i h =
-      ap (λ (vs : List Logic). value_in v.part.nets vs i) saved.contents
-      ∙ (in_map v.part.nets (moment_before v state.mark).content X i h ∙ ap (λ t. (moment_before v t).content i) later_mark)
+-- a word of a place says a change of it
+says_change : (words : List (Dated Move)) (k : ℕ) (d : Dated Move) → k < length words → (c : Change) → Says words (get_or words k d).1.place (get_or words k d).0 c
+says_change words k d l c = says_at words k d c l (get_or words k d).1.place refl
 
-  -- the logs are still those at the time
-  pub kept_log : (i : ℕ) → i < length v.part.nets → log_at v.logs i ≡ run_log source (effective_at v) s v.horizon (at_net i)
-  kept_log i h = log_is v is i h ∙ sym (quiet_log_to v is s (at_net i) from (omega arith) quiet)
+before_inner : (a b : ℕ) (cs : List Change) → a ≤ b → before_time a (before_time b cs) ≡ before_time a cs
+before_inner a b [] l = refl
+before_inner a b (c ∷ cs) l = elim (cases_lt c.time b) [
+  | inl low ↦ rw (yes_lt c.time b low) (ap (λ (ds : List Change). cond (nat_lt c.time a) (c ∷ ds) ds) (before_inner a b cs l))
+  | inr high ↦ rw (no_lt c.time b high, no_lt c.time a (omega (arith, high, l))) (before_inner a b cs l)
+]
 
-  pub emitted-driven : (i : ℕ) → i < length v.part.nets → IsDriven (source_at v.part i) → emitted v.part m i (log_at v.logs i) s v.horizon ≡ added (block_value v (at_net i)) (s + source_delay (source (at_net i))) v.horizon
-  emitted-driven i h d =
-      let n : ℕ = at_net i in
-      let here = source_here v is i h in
-      let driven : IsDriven (source (at_net i)) = ap is_driven here ∙ d in
-      let over = over_used v.part is.part (at_net i) driven in
-      let there = ap is_some (slot_at v.part.nets i is.part.ascending h) in
-      cond-true (is_driven (source_at v.part i)) (emitted_value (output (source_at v.part i) m (net_at v.part i)) (log_at v.logs i) (s + source_delay (source_at v.part i)) v.horizon) [] d
-      ∙ (ap (λ (k : Source). emitted_value (output k m (at_net i)) (log_at v.logs i) (s + source_delay k) v.horizon) (sym here)
-      ∙ emitted_change (block_value v (at_net i)) (output (source (at_net i)) m (at_net i)) (log_at v.logs i) (s + source_delay (source (at_net i))) v.horizon
-      (output_next source (timed v.part is.part) (effective_at v) (IsUsed v.part) s (at_net i) (source (at_net i)) refl driven over m (λ k used. values_now k used.1) (contents_now (at_net i) there))
-      (λ l. kept_log i h ∙ run_log-changes source (effective_at v) s v.horizon (at_net i) driven l))
+-- a turn: what was at rest has played on, and then all is told
+module _ (v : View) (start : Run) (begun : Played) (rest : IsAtRest v start begun) (run : Run) (played : Played) (at : IsAt v run played) (told : run.told ≡ start.book.mark)
+    (new : Run) (after : Played) (end : IsAtRest v new after) (mark : new.book.mark ≡ run.book.mark) (longer : AreLonger (makings run.told run) run.lists new.lists) where
+  abbrev words : List (Dated Move)
+  words = makings run.told run
 
-  -- with what is emitted they are those at the next mark
-  pub emitted_log : (i : ℕ) → i < length v.part.nets → log_at v.logs i ++ emitted v.part m i (log_at v.logs i) s v.horizon ≡ run_log source (effective_at v) (suc s) v.horizon (at_net i)
-  emitted_log i h = elim (driven_or_not (source_at v.part i)) [
-    | inl d ↦ (let driven : IsDriven (source (at_net i)) = ap is_driven (source_here v is i h) ∙ d in
-        ap (λ (e : List Change). log_at v.logs i ++ e) (emitted-driven i h d)
-        ∙ (ap (λ (log : List Change). log ++ added (block_value v (at_net i)) (s + source_delay (source (at_net i))) v.horizon) (kept_log i h)
-        ∙ sym (run_log-step source (timed v.part is.part) (effective_at v) s v.horizon (at_net i) driven)))
-    | inr o ↦ (let out : is_driven (source (at_net i)) ≡ false = ap is_driven (source_here v is i h ∙ o) in
-        ap (λ (e : List Change). log_at v.logs i ++ e) (cond-false (is_driven (source_at v.part i)) (emitted_value (output (source_at v.part i) m (net_at v.part i)) (log_at v.logs i) (s + source_delay (source_at v.part i)) v.horizon) [] (ap is_driven o))
-        ∙ (append-nil (log_at v.logs i)
-        ∙ (kept_log i h ∙ (rw out refl))))
-  ]
+  received : IsReceived v
+  received = at.engine.received
 
-  -- what is emitted is later than the time
-  emitted_later : (i : ℕ) → i < length v.part.nets → All (λ (c : Change). (s < c.time) × (c.time ≤ v.horizon)) (emitted v.part m i (log_at v.logs i) s v.horizon)
-  emitted_later i h = elim (driven_or_not (source_at v.part i)) [
-    | inl d ↦ (let driven : IsDriven (source (at_net i)) = ap is_driven (source_here v is i h) ∙ d in
-        let pos = delayed (source (at_net i)) (timed v.part is.part (at_net i)) driven in
-        let same_delay : source_delay (source_at v.part i) ≡ source_delay (source (at_net i)) = ap source_delay (sym (source_here v is i h)) in
-        subst (λ (cs : List Change). All (λ (c : Change). (s < c.time) × (c.time ≤ v.horizon)) cs)
-        (sym (cond-true (is_driven (source_at v.part i)) (emitted_value (output (source_at v.part i) m (net_at v.part i)) (log_at v.logs i) (s + source_delay (source_at v.part i)) v.horizon) [] d))
-        (emitted_value-later (output (source_at v.part i) m (net_at v.part i)) (log_at v.logs i) s (s + source_delay (source_at v.part i)) v.horizon (omega (arith, pos, same_delay))))
-    | inr o ↦ subst (λ (cs : List Change). All (λ (c : Change). (s < c.time) × (c.time ≤ v.horizon)) cs)
-        (sym (cond-false (is_driven (source_at v.part i)) (emitted_value (output (source_at v.part i) m (net_at v.part i)) (log_at v.logs i) (s + source_delay (source_at v.part i)) v.horizon) [] (ap is_driven o)))
-        (λ k d l. absurd (omega arith))
-  ]
+  later : AreLater run.told run (makings run.told run)
+  later = makings_later run run.told (ran v run played at)
 
-  module _ (logs : List (List Change)) (len : length logs ≡ length v.part.nets) where
-    -- the block after the time
-    abbrev after : View
-    after = record { part = v.part; horizon = v.horizon; mark = s + 1; floor = v.floor; queues = v.queues; logs = logs }
+  made : AreMadeBy (place_source v.part) run.told run (makings run.told run)
+  made = makings_made run run.told (ran v run played at)
 
-    grown_log : IsEmitted v.part m s v.horizon (length v.part.nets) v.logs logs → (i : ℕ) → i < length v.part.nets → log_at logs i ≡ run_log source (effective_at v) (suc s) v.horizon (at_net i)
-    grown_log e i h = e.below i h ∙ emitted_log i h
+  abbrev log : ℕ → ℕ → List Change
+  log i k = lawful_log (record v { mark = k }) (get_or v.part.nets i 0)
 
-    pub finish_lawful : IsEmitted v.part m s v.horizon (length v.part.nets) v.logs logs → IsLawful after
-    finish_lawful e = record {
-      part = is.part;
-      horizon = is.horizon;
-      queues = is.queues;
-      ordered = is.ordered;
-      own = is.own;
-      logs = ext_get_or [] logs (map (lawful_log after) v.part.nets) (len ∙ sym (length-map v.part.nets (lawful_log after)))
-          (λ i l. (let h : i < length v.part.nets = omega (arith, len) in
-          grown_log e i h ∙ (ap (λ t. run_log source (effective_at v) t v.horizon (at_net i)) (let k : suc s ≡ s + 1 = omega arith in k)
-          ∙ sym (get_or-map (lawful_log after) v.part.nets i 0 [] h))));
-      floor = (let below = is.floor in omega (arith, below, from));
-      settled = is.settled;
-      within = is.within;
-    }
+  old_is : (i : ℕ) → i < length v.part.nets → get_or run.lists i [] ≡ log i start.book.mark
+  old_is i l =
+      ap (λ (ls : List (List Change)). get_or ls i []) (lists_are v run played.first at.engine)
+      ∙ get_or-map (lawful_log (record v { mark = run.told })) v.part.nets i 0 [] l
+      ∙ ap (log i) told
 
-    pub finish_sends : (before out : List Message) → IsEmitted v.part m s v.horizon (length v.part.nets) v.logs logs →
-        out ≡ before ++ told Plus v.part (λ i. emitted v.part m i (log_at v.logs i) s v.horizon) (length v.part.nets) → SendsOnce v after Plus (λ t. s < t) before out
-    finish_sends before out e told_is =
-        sends_grown v after (λ t. s < t) before out (λ i. emitted v.part m i (log_at v.logs i) s v.horizon) is.part refl emitted_later
-        (λ i h. e.below i h)
-        (λ i h. subst IsLog (sym (grown_log e i h)) (IsLog-run source (effective_at v) (suc s) v.horizon (at_net i)))
-        told_is
+  new_is : (i : ℕ) → i < length v.part.nets → get_or new.lists i [] ≡ log i run.book.mark
+  new_is i l =
+      ap (λ (ls : List (List Change)). get_or ls i []) (lists_are v new after.first end.at.engine)
+      ∙ get_or-map (lawful_log (record v { mark = new.told })) v.part.nets i 0 [] l
+      ∙ ap (log i) (end.told ∙ mark)
 
-    -- each log is that at the time, or that at the next mark
-    partly_log : IsPartlyEmitted v.part m s v.horizon v.logs logs → (i : ℕ) → i < length v.part.nets →
-        (log_at logs i ≡ run_log source (effective_at v) s v.horizon (at_net i)) ⊎ (log_at logs i ≡ run_log source (effective_at v) (suc s) v.horizon (at_net i))
-    partly_log p i h = elim (p i) [ inl same ↦ inl (same ∙ kept_log i h) | inr more ↦ inr (more ∙ emitted_log i h) ]
+  many : length run.lists ≡ length v.part.nets
+  many = ap length (lists_are v run played.first at.engine) ∙ length-map v.part.nets (lawful_log (record v { mark = run.told }))
 
-    pub partly_rises : IsPartlyEmitted v.part m s v.horizon v.logs logs → All IsLog logs
-    partly_rises p k d l =
-        let h : k < length v.part.nets = omega (arith, len) in
-        subst IsLog (let e : get_or logs k [] ≡ get_or logs k d = same_default k d l in e)
-        (elim (partly_log p k h) [ inl one ↦ subst IsLog (sym one) (IsLog-run source (effective_at v) s v.horizon (at_net k)) | inr two ↦ subst IsLog (sym two) (IsLog-run source (effective_at v) (suc s) v.horizon (at_net k)) ])
+  -- where nothing happens up to a step, it makes nothing
+  module _ (k : ℕ) (d : Dated Move) (l : k < length (makings run.told run)) where
+    abbrev word : Dated Move
+    word = get_or (makings run.told run) k d
+
+    abbrev i : ℕ
+    i = (get_or (makings run.told run) k d).1.place
+
+    abbrev n : ℕ
+    n = get_or v.part.nets (get_or (makings run.told run) k d).1.place 0
+
+    abbrev delay : ℕ
+    delay = source_delay (source_of v.part (get_or v.part.nets (get_or (makings run.told run) k d).1.place 0))
+
+    there : i < length v.part.nets
+    there = (let h = (later k d l).0 in let e = cells_are v played.first run at.engine in omega (arith, h, e))
+
+    same_delay : source_delay (place_source v.part i) ≡ source_delay (source_of v.part n)
+    same_delay = delay_placed v.part.nets (get_or v.part.sources i Outside) ∙ ap source_delay (sym (source_at v.part received.part i there))
+
+    driven : owns v.part n ≡ true
+    driven = go (source_of v.part n) (let h = (made k d l).0 in omega (arith, h, same_delay))
       where
-        same_default : (i : ℕ) (d : List Change) → i < length logs → get_or logs i [] ≡ get_or logs i d
-        same_default i d l = get_or_default logs i [] d l
+        go : (s : Source) → 0 < source_delay s → is_driven s ≡ true
+        go Outside h = absurd (omega (arith, h))
+        go (Gate kind delay inputs) h = refl
+        go (Flop delay d clock initial) h = refl
 
-    -- a cut takes back what was added
-    pub cut_back : (cut : List (List Change)) → length cut ≡ length v.part.nets → IsPartlyEmitted v.part m s v.horizon v.logs logs → AreCut v.part s (length v.part.nets) logs cut → cut ≡ v.logs
-    cut_back cut cut_len p c =
-        ext_get_or [] cut v.logs (cut_len ∙ sym (logs_len v is)) (λ i l. (let h : i < length v.part.nets = omega (arith, cut_len) in
-        let back : (t : ℕ) → s ≤ t → before_time (s + source_delay (source_at v.part i)) (run_log source (effective_at v) t v.horizon (at_net i)) ≡ run_log source (effective_at v) s v.horizon (at_net i) =
-        λ t k. ap (λ (x : Source). before_time (s + source_delay x) (run_log source (effective_at v) t v.horizon (at_net i))) (sym (source_here v is i h))
-        ∙ run_log-cut source (timed v.part is.part) (effective_at v) (effective_at v) t s v.horizon (at_net i) k (λ n u below. refl) in
-        c.below i h ∙ (elim (partly_log p i h) [
-          | inl one ↦ ap (before_time (s + source_delay (source_at v.part i))) one ∙ back s (omega arith)
-          | inr two ↦ ap (before_time (s + source_delay (source_at v.part i))) two ∙ back (suc s) (omega arith)
+    abbrev step : ℕ
+    step = (get_or (makings run.told run) k d).0 - source_delay (source_of v.part (get_or v.part.nets (get_or (makings run.told run) k d).1.place 0))
+
+    low : start.book.mark ≤ step
+    low = (let h = (made k d l).1 in omega (arith, h, same_delay, told))
+
+    high : step < run.book.mark
+    high = (let h = (made k d l).2 in let g = (made k d l).1 in omega (arith, h, g, same_delay))
+
+    time_is : word.0 ≡ step + delay
+    time_is = (let h = (made k d l).1 in omega (arith, h, same_delay))
+
+    within : word.0 ≤ v.horizon
+    within = (let h = (later k d l).2 in let e = at.engine.run.horizon in omega (arith, h, e))
+
+    some_delay : 0 < delay
+    some_delay = (let h = (made k d l).0 in omega (arith, h, same_delay))
+
+    abbrev all : List Change
+    all = changes (block_value v n) (v.horizon + 1)
+
+    log_at : (m : ℕ) → log i m ≡ before_time (m + delay) all
+    log_at m = cond-true (owns v.part n) (before_time (m + delay) all) [] driven
+
+    -- where nothing happens up to the step, it makes nothing
+    not_quiet : ((t : ℕ) → start.book.mark ≤ t → t < suc step → was_busy v t ≡ false) → ⊥
+    not_quiet none =
+        let quiet : IsQuiet (played_view v start.book.mark) (suc step) = λ t a b busy. true≢false (sym busy ∙ quiet_from v received start.book.mark (suc step) none t a b) in
+        let same : log i (suc step) ≡ log i start.book.mark =
+        quiet_log_to (played_view v start.book.mark) (played_lawful v start.book.mark received) (suc step) n (omega (arith, low)) (omega (arith, time_is, within)) quiet in
+        let added : List Change = changes_at i (makings run.told run) in
+        let whole : get_or new.lists i [] ≡ get_or run.lists i [] ++ changes_at i (makings run.told run) = longer.each i (omega (arith, there, many)) in
+        let below : before_time (suc step + delay) (get_or new.lists i []) ≡ get_or run.lists i [] =
+        ap (before_time (suc step + delay)) (new_is i there ∙ log_at run.book.mark) ∙ before_inner (suc step + delay) (run.book.mark + delay) all (omega (arith, high))
+        ∙ sym (log_at (suc step)) ∙ same ∙ sym (old_is i there) in
+        let none_added : before_time (suc step + delay) (changes_at i (makings run.told run)) ≡ [] =
+        none_below (suc step + delay) (get_or run.lists i []) (changes_at i (makings run.told run)) (sym below ∙ ap (before_time (suc step + delay)) whole) in
+        let c : Change = record { time = 0; value = X } in
+        let said = says_change (makings run.told run) k d l c in
+        some_below (suc step + delay) (changes_at i (makings run.told run)) said.0 c said.1 (let e = said.2 in omega (arith, e, time_is)) none_added
+
+    after_event : IsAfterEvent (seen_by v start) word.0
+    after_event = elim (find_first (was_busy v) start.book.mark (suc step - start.book.mark)) [
+      | inl u ↦ (let from = u.1 in let until = u.2 in
+          let least : IsLeast (IsEventTime (played_view v start.book.mark)) (Some u.0) = least_from v received start.book.mark u.0 from (omega (arith, until, time_is, within, low)) u.4 u.3 in
+          (u.0, event_up v start begun rest u.0 least.0, omega (arith, until, time_is, some_delay, low)))
+      | inr none ↦ absurd (not_quiet (λ t a b. none t a (omega (arith, b, low))))
+    ]
+
+  -- each word comes true after an event time
+  pub words_later : All (λ (d : Dated Move). IsAfterEvent (seen_by v start) d.0) (makings run.told run)
+  words_later k d l = after_event k d l
+
+  pub words_until : All (λ (d : Dated Move). d.0 ≤ v.horizon) (makings run.told run)
+  words_until k d l = within k d l
+
+  -- so many event times are finished
+  module _ (count : ℕ) (advanced : IsAdvanced (played_view v start.book.mark) (played_view v run.book.mark) count) where
+    same_mark : count ≡ 0 → run.book.mark ≡ start.book.mark
+    same_mark none = advanced.stays none
+
+    busy_new : (t : ℕ) → t < new.book.mark → is_busy (played_view v run.book.mark) t ≡ is_busy (seen_by v new) t
+    busy_new t l =
+        busy_was v (played_view v run.book.mark) received (played_lawful v run.book.mark received) refl refl refl t (omega (arith, l, mark))
+        ∙ sym (seen_was v new after end t (omega (arith, l)))
+
+    -- the last is past the floor
+    past_floor : 0 < count → v.floor < run.book.mark
+    past_floor some =
+        let on = advanced.moves some in
+        let up = on.0 in
+        let last : was_busy v (run.book.mark - 1) ≡ true =
+        sym (busy_was v (played_view v run.book.mark) received (played_lawful v run.book.mark received) refl refl refl (run.book.mark - 1) (omega (arith, up))) ∙ on.2 in
+        elim (cases_lt v.floor run.book.mark) [
+          | inl below ↦ below
+          | inr above ↦ absurd (true≢false (sym last ∙ rest_quiet v start begun rest (run.book.mark - 1) (omega (arith, up)) (omega (arith, above, up))))
         ]
-        ∙ sym (kept_log i h))))
+
+    counted : 0 < count → count ≡ busy_times (seen_by v new) (mark_by v start) (mark_by v new)
+    counted some =
+        let up = (advanced.moves some).0 in
+        let past : v.floor < run.book.mark = past_floor some in
+        let top : mark_by v new ≡ run.book.mark = omega (arith, mark, past) in
+        let first : mark_by v start ≤ run.book.mark = omega (arith, up, past) in
+        let split : busy_times (seen_by v new) start.book.mark run.book.mark ≡ busy_times (seen_by v new) start.book.mark (mark_by v start) + busy_times (seen_by v new) (mark_by v start) run.book.mark =
+        times-split (is_busy (seen_by v new)) start.book.mark (mark_by v start) run.book.mark (omega arith) first in
+        let none : busy_times (seen_by v new) start.book.mark (mark_by v start) ≡ 0 =
+        times-none (is_busy (seen_by v new)) start.book.mark (mark_by v start)
+        (λ t a b busy. true≢false (sym busy ∙ seen_was v new after end t (omega (arith, b, first, top)) ∙ rest_quiet v start begun rest t a (omega (arith, a, b)))) in
+        let same : busy_times (played_view v run.book.mark) start.book.mark run.book.mark ≡ busy_times (seen_by v new) start.book.mark run.book.mark =
+        times-agree (is_busy (played_view v run.book.mark)) (is_busy (seen_by v new)) start.book.mark run.book.mark (λ t a b. busy_new t (omega (arith, b, mark))) in
+        let all : count ≡ busy_times (played_view v run.book.mark) start.book.mark run.book.mark = advanced.finished in
+        subst (λ k. count ≡ busy_times (seen_by v new) (mark_by v start) k) (sym top) (omega (arith, all, same, split, none))
+
+    none_counted : count ≡ 0 → count ≡ busy_times (seen_by v new) (mark_by v start) (mark_by v new)
+    none_counted none =
+        let same : mark_by v new ≡ mark_by v start = ap (λ m. max m v.floor) (mark ∙ same_mark none) in
+        subst (λ k. count ≡ busy_times (seen_by v new) (mark_by v start) k) (sym same) (none ∙ sym (no_times (seen_by v new) (mark_by v start)))
+
+    pub turn_advanced : IsAdvanced (seen_by v start) (seen_by v new) count
+    turn_advanced = record {
+      part = refl;
+      horizon = refl;
+      floor = refl;
+      queues = refl;
+      finished = elim (cases_lt 0 count) [ inl some ↦ counted some | inr none ↦ none_counted (omega (arith, none)) ];
+      stays = λ none. ap (λ m. max m v.floor) (mark ∙ same_mark none);
+      moves = λ some.
+          (let on = advanced.moves some in
+          let up = on.0 in
+          let until = on.1 in
+          let past : v.floor < run.book.mark = past_floor some in
+          let top : mark_by v new ≡ run.book.mark = omega (arith, mark, past) in (
+            omega (arith, up, past, top),
+            omega (arith, until, top),
+            ap (λ k. is_busy (seen_by v new) (k - 1)) top ∙ sym (busy_new (run.book.mark - 1) (omega (arith, up, mark))) ∙ on.2,
+          ));
+    }

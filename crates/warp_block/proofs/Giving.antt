@@ -1,30 +1,28 @@
 -- The logs of own nets move to the places of the nets' lists.
-use Rattle.std.proofs.Common.{◌≡◌, ◌≢◌, ℕ, ◌+◌, ◌<◌, false, inl, inr, Option, Some, None, List, [], length, set, refl, ap, sym, ◌∙◌, subst, IsTrue, arith}
+use Rattle.std.proofs.Common.{◌≡◌, ◌≢◌, ℕ, ◌+◌, ◌<◌, false, inl, inr, Option, Some, None, List, [], length, set, refl, ap, sym, ◌∙◌, subst, IsTrue, arith, get_or-set_same, get_or-set_other}
 use Rattle.std.specs.declared.vec.Vec.{Vec}
 use Rattle.std.specs.declared.alloc.Global.{Global}
 use Rattle.std.specs.List.Sorted.{IsStrictlyIncreasing}
 use Rattle.std.proofs.lemmas.Bool.{cases_lt, true≢false}
 use Rattle.gate_values.specs.declared.logic.Change.{Change}
 use Rattle.gate_values.specs.Behaviour.{Outside}
-use Rattle.gate_vcd.specs.Waves.{wave_of}
-use Rattle.warp_block.specs.Portion.{Portion, is_driven, owns, slot_of, at_slot}
-use Rattle.warp_block.specs.View.{View, log_of}
-use Rattle.warp_block.specs.Shown.Look.{lists_in}
-use Rattle.warp_block.specs.Inner.Step.{net_at, log_at}
+use Rattle.gate_vcd.specs.Waves.{lists_in, wave_of}
+use Rattle.warp_part.specs.Portion.{Portion, is_driven, owns, slot_of, at_slot}
+use Rattle.warp_process.specs.View.{View, log_of}
+use Rattle.warp_process.specs.Inner.Step.{net_at, log_at}
 use Rattle.warp_block.specs.Inner.Give.{IsOwnAt, AreGiven}
-use Rattle.warp_block.proofs.Slots.{slot_is, slot_at}
+use Rattle.warp_part.proofs.Slots.{slot_is, slot_at}
 use Rattle.std.proofs.lemmas.List.Kept.{AllPairs-from_increasing}
 use Rattle.std.proofs.lemmas.List.{map-set, length-map}
-use Rattle.warp_block.proofs.Emitting.{set_here, set_other}
 
 module _ (lists : List (Vec Change Global)) (n : ℕ) (list : Vec Change Global) where
   put_here : n < length lists → wave_of (lists_in (set lists n list)) n ≡ list.items
   put_here h =
       let short : n < length (lists_in lists) = rw length-map h in
-      ap (λ (ls : List (List Change)). wave_of ls n) (map-set (λ (v : Vec Change Global). v.items) lists n list) ∙ set_here (lists_in lists) n list.items short
+      ap (λ (ls : List (List Change)). wave_of ls n) (map-set (λ (v : Vec Change Global). v.items) lists n list) ∙ get_or-set_same (lists_in lists) n list.items [] short
 
-  put_other : (k : ℕ) → k ≢ n → wave_of (lists_in (set lists n list)) k ≡ wave_of (lists_in lists) k
-  put_other k ne = ap (λ (ls : List (List Change)). wave_of ls k) (map-set (λ (v : Vec Change Global). v.items) lists n list) ∙ set_other (lists_in lists) n list.items k ne
+  pub put_other : (k : ℕ) → k ≢ n → wave_of (lists_in (set lists n list)) k ≡ wave_of (lists_in lists) k
+  put_other k ne = ap (λ (ls : List (List Change)). wave_of ls k) (map-set (λ (v : Vec Change Global). v.items) lists n list) ∙ get_or-set_other (lists_in lists) n k list.items [] ne
 
 module _ (p : Portion) (up : IsStrictlyIncreasing p.nets) (logs old : List (List Change)) where
   -- one own place more is given

@@ -1,112 +1,132 @@
--- What holds of a block's states, whatever is done with them.
-use Rattle.std.proofs.Common.{◌≡◌, ◌≢◌, ℕ, Some, true, ◌+◌, ◌<◌, ◌≤◌, ◌++◌, List, [], ◌∷◌, take, length, get_or, ap, sym, ◌∙◌, subst, arith}
-use Rattle.std.specs.List.Sorted.{IsNonDecreasingBy, IsPartitionPoint}
-use Rattle.warp_block.specs.declared.states.States.{States}
-use Rattle.warp_block.specs.declared.state.TheConstants.{SAVE_EVERY}
-use Rattle.warp_block.specs.View.{View, Saved, is_busy, IsLeast, IsEventTime}
-use Rattle.warp_block.specs.Lawful.{IsLawful, IsSaved, AreSpaced, AreSaved, IsLawfulProcess}
-use Rattle.warp_block.specs.Inner.Advance.{IsCaughtUp}
-use Rattle.warp_block.specs.Shown.States.{now_of, saved_by}
-use Rattle.warp_block.specs.Inner.StateLists.{FitTogether}
-use Rattle.warp_block.specs.Inner.Present.{newest, newest_of, oldest_of, IsPresent, AreStates}
-use Rattle.warp_block.proofs.Newest.{newest_of_push}
-use Rattle.warp_block.proofs.SavingStep.{one_saved, one_unsaved, one_present}
-use Rattle.warp_block.proofs.Receiving.{saved_rise}
-use Rattle.warp_block.proofs.Going.{present_newest, present_more, few_present, first_saved, all_taken}
+-- What a commit leaves of a block.
+use Rattle.std.proofs.Common.{◌≡◌, ◌∙◌, ℕ, zero, suc, Bool, true, false, max, ◌+◌, ◌-◌, ◌*◌, ◌<◌, ◌≤◌, nat_le, List, [], ◌∷◌, map, drop, length, get_or, inl, inr, refl, ap, sym, subst, arith, All}
+use Rattle.std.specs.List.{count_by}
+use Rattle.std.proofs.lemmas.Bool.{cases_lt, true≢false, false_from_ne_true}
+use Rattle.std.proofs.lemmas.List.Elements.{All-nil, All-cons, All-head, All-tail}
+use Rattle.gate_values.specs.declared.logic.Change.{Change}
+use Rattle.event_times.specs.Marks.{Played, AreTimes, IsKept, mark_after, later_marks, marks_of}
+use Rattle.event_times.specs.declared.times.TheConstants.{SAVE_EVERY}
+use Rattle.warp_engine.specs.Runs.{Run, IsRun, HasDropped}
+use Rattle.warp_journal.specs.Books.{Book}
+use Rattle.warp_part.specs.Placing.{place_source, place_given}
+use Rattle.warp_process.specs.Heard.{IsReceived}
+use Rattle.warp_process.specs.View.{View, Saved, log_of, is_busy, given_by, IsEventTime}
+use Rattle.warp_process.specs.Commit.{IsCommittable, IsCommitted}
+use Rattle.warp_process.specs.Played.{played_view, was_busy}
+use Rattle.warp_process.specs.Inner.Advance.{IsQuiet}
+use Rattle.warp_process.proofs.Committed.{one_until}
+use Rattle.part_engine.specs.Runs.{IsRunOf, IsEngineOf, state_of}
+use Rattle.warp_block.specs.Shown.Block.{mark_by, seen_by, saved_by, process_by}
+use Rattle.warp_block.specs.Inner.Held.{IsAt, IsAtRest}
+use Rattle.warp_block.proofs.Times.{after, times_end, times_drop, after_low, later_late, mark_is}
+use Rattle.warp_block.proofs.Resting.{next_was, past_not, rest_shown, busy_same}
+use Rattle.warp_block.proofs.Stepping.{parted_like}
 
--- So many states are left, the first ones, up to a time.
-abbrev pub AreKept : List Saved → List Saved → ℕ → Type 0
-AreKept old new time =
-    (k : ℕ) × (0 < k) × (k ≤ length old) × (new ≡ take k old) × IsPartitionPoint (λ (s : Saved). s.mark ≤ time) (λ (s : Saved). time < s.mark) old k
+late_states : (book : Book) (floor : ℕ) (ms : List ℕ) → All (λ k. floor < k) ms → All (λ (s : Saved). floor < s.mark) (map (state_of book) ms)
+late_states book floor [] h = All-nil (λ (s : Saved). floor < s.mark)
+late_states book floor (k ∷ ms) h =
+    All-cons (λ (s : Saved). floor < s.mark) (state_of book k) (map (state_of book) ms) (All-head (λ j. floor < j) k ms h) (late_states book floor ms (All-tail (λ j. floor < j) k ms h))
 
--- the saved states rise, where they are those of a block
-pub rising : (v : View) (old mid : States) → AreStates v old → saved_by mid ≡ saved_by old → IsNonDecreasingBy (λ (s : Saved). s.mark) (saved_by mid)
-rising v old mid h same = subst (λ (ss : List Saved). IsNonDecreasingBy (λ (s : Saved). s.mark) ss) (sym same) (saved_rise v (saved_by old) h.law.saved)
+module _ (v : View) (run : Run) (played : Played) (rest : IsAtRest v run played) (floor : ℕ) (can : IsCommittable (seen_by v run) floor) where
+  abbrev m : ℕ
+  m = run.book.mark
 
--- the first of them isn't past the mark
-pub first_of : (v : View) (old mid : States) → AreStates v old → saved_by mid ≡ saved_by old → (d : Saved) → (0 < length (saved_by mid)) × ((get_or (saved_by mid) 0 d).mark ≤ v.mark)
-first_of v old mid h same d = subst (λ (ss : List Saved). (0 < length ss) × ((get_or ss 0 d).mark ≤ v.mark)) (sym same) (first_saved v (saved_by old) d h.law.saved)
+  abbrev w : View
+  w = record v { floor = floor }
 
--- nor past the floor
-pub first_floor : (v : View) (s : States) → AreStates v s → (d : Saved) → (0 < length (saved_by s)) × ((get_or (saved_by s) 0 d).mark ≤ v.floor)
-first_floor v s h d = go (saved_by s) h.law.saved
-  where
-    go : (ss : List Saved) → AreSaved v ss → (0 < length ss) × ((get_or ss 0 d).mark ≤ v.floor)
-    go [] saved = absurd saved
-    go (x ∷ ss) saved = (omega arith, saved.0)
+  received : IsReceived v
+  received = rest.at.engine.received
 
--- the newest saved state is the present one
-pub at_newest : (v : View) (new : States) → IsLawfulProcess (record { seen = v; saved = saved_by new }) → now_of new ≡ newest_of (saved_by new) → new.since ≡ 0 → FitTogether new → AreStates v new
-at_newest v new law now since fit = record {
-  law = law;
-  fit = fit;
-  present = subst (λ (x : Saved). IsPresent v (saved_by new) x new.since) (sym now)
-      (subst (λ (k : ℕ). IsPresent v (saved_by new) (newest_of (saved_by new)) k) (sym since) (present_newest v (saved_by new) law.saved law.states));
-}
+  -- nothing happens from the mark on and below the new floor
+  shown_quiet : (t : ℕ) → run.book.mark ≤ t → t < floor → is_busy (played_view v run.book.mark) t ≡ false
+  shown_quiet t a b = elim (cases_lt t v.floor) [
+    | inl below ↦ rest_shown v run played rest t a below
+    | inr since ↦ (elim (cases_lt v.horizon t) [
+      | inl past ↦ past_not v received run.book.mark t past
+      | inr within ↦ false_from_ne_true (is_busy (played_view v run.book.mark) t) (λ busy. can.processed t (b, (omega (arith, a, since), within, busy_same v run played rest t ∙ busy)))
+    ])
+  ]
 
--- no state was dropped by going back up to the mark
-pub none_dropped : (v : View) (old mid new : States) → AreStates v old → saved_by mid ≡ saved_by old → AreKept (saved_by mid) (saved_by new) v.mark → saved_by new ≡ saved_by old
-none_dropped v old mid new h same kept =
-    let Q : List Saved → Type 0 = λ ss. AreKept ss (saved_by new) v.mark in
-    let k = subst Q same kept in
-    k.3 ∙ all_taken v (saved_by old) k.0 h.law.saved k.2 k.4
+  was_quiet : (t : ℕ) → run.book.mark ≤ t → t < floor → was_busy v t ≡ false
+  was_quiet t a b = elim (cases_lt v.horizon t) [
+    | inl past ↦ past_not v received (suc t) t past
+    | inr within ↦ sym (next_was v received run.book.mark t a within (λ u f g busy. true≢false (sym busy ∙ shown_quiet u f (omega (arith, g, b))))) ∙ shown_quiet t a b
+  ]
 
--- after going back up to the mark
-pub back_again : (v : View) (old mid new : States) → AreStates v old → saved_by mid ≡ saved_by old → AreKept (saved_by mid) (saved_by new) v.mark → now_of new ≡ newest_of (saved_by new) → new.since ≡ 0 → FitTogether new →
-    AreStates v new
-back_again v old mid new h same kept now since fit =
-    at_newest v new (subst (λ (ss : List Saved). IsLawfulProcess (record { seen = v; saved = ss })) (sym (none_dropped v old mid new h same kept)) h.law) now since fit
+  module _ (kept_times : Played) (kept : IsKept floor played kept_times) (new : Run) (dropped : HasDropped kept_times.first run new) (rw' : IsReceived (record v { floor = floor })) where
+    abbrev count : ℕ
+    count = kept.states * SAVE_EVERY
 
--- few busy times lie between the newest saved state and the present one
-pub few_since_saved : (v : View) (s : States) → AreStates v s → s.since < SAVE_EVERY
-few_since_saved v s h = few_present v (saved_by s) (now_of s) s.since h.law.saved h.present
+    first_is : kept_times.first ≡ after played.first played.times (kept.states * SAVE_EVERY)
+    first_is = kept.first ∙ mark_is played kept.states kept.there
 
--- one busy time more, below the mark
-pub gone_on : (v : View) (old new : States) (time : ℕ) → AreStates v old → saved_by new ≡ saved_by old → FitTogether new → new.since ≡ old.since + 1 → IsSaved v (now_of new) → (now_of new).mark ≡ time + 1 →
-    (now_of old).mark ≤ time → time < v.mark → is_busy v time ≡ true → ((t : ℕ) → (now_of old).mark ≤ t → t < time → ¬ (is_busy v t ≡ true)) → AreStates v new
-gone_on v old new time h same fit since holds at from below busy quiet = record {
-  law = subst (λ (ss : List Saved). IsLawfulProcess (record { seen = v; saved = ss })) (sym same) h.law;
-  fit = fit;
-  present = subst (λ (ss : List Saved). IsPresent v ss (now_of new) new.since) (sym same)
-      (subst (λ (k : ℕ). IsPresent v (saved_by old) (now_of new) k) (sym since)
-      (present_more v (newest_of (saved_by old)) (now_of old) old.since time (now_of new) h.present from below busy quiet holds at));
-}
+    times_are : AreTimes (was_busy v) kept_times.first run.book.mark kept_times.times
+    times_are =
+        subst (λ k. AreTimes (was_busy v) k run.book.mark kept_times.times) (sym first_is)
+        (subst (λ (ts : List ℕ). AreTimes (was_busy v) (after played.first played.times (kept.states * SAVE_EVERY)) run.book.mark ts) (sym kept.times)
+        (times_drop (was_busy v) played.first run.book.mark (kept.states * SAVE_EVERY) played.times rest.at.times kept.there))
 
--- after an event time
-module _ (v w : View) (old mid : States) (h : AreStates v old) (isw : IsLawful w) (part : w.part ≡ v.part) (horizon : w.horizon ≡ v.horizon) (floor : w.floor ≡ v.floor) (queues : w.queues ≡ v.queues)
-    (time : ℕ) (mark : w.mark ≡ time + 1) (least : IsLeast (IsEventTime v) (Some time)) (caught : IsCaughtUp v (now_of old).mark)
-    (same : saved_by mid ≡ saved_by old) (holds : IsSaved v (now_of mid)) (at : (now_of mid).mark ≡ time + 1) (since : mid.since ≡ old.since + 1) where
-  -- the state is not to be saved
-  pub stepped : FitTogether mid → mid.since ≢ SAVE_EVERY → AreStates w mid
-  stepped fit other =
-      let few = few_since_saved v old h in
-      let early : old.since + 1 < SAVE_EVERY = omega (arith, few, other, since) in
-      record {
-        law = subst (λ (ss : List Saved). IsLawfulProcess (record { seen = w; saved = ss })) (sym same)
-            (one_unsaved v w h.law.seen isw part horizon floor queues time mark least (saved_by old) h.law (now_of old) old.since h.present caught (now_of mid) at holds early);
-        fit = fit;
-        present = subst (λ (ss : List Saved). IsPresent w ss (now_of mid) mid.since) (sym same)
-            (subst (λ (k : ℕ). IsPresent w (saved_by old) (now_of mid) k) (sym since)
-            (one_present v w h.law.seen isw part horizon floor queues time mark least (saved_by old) h.law (now_of old) old.since h.present caught (now_of mid) at holds));
-      }
+    first_high : kept_times.first ≤ run.book.mark
+    first_high = times_end (was_busy v) kept_times.first run.book.mark kept_times.times times_are
 
-  -- it was saved
-  pub saved_too : (new : States) → mid.since ≡ SAVE_EVERY → now_of new ≡ now_of mid → saved_by new ≡ saved_by mid ++ now_of mid ∷ [] → new.since ≡ 0 → FitTogether new → AreStates w new
-  saved_too new due now more none fit =
-      let all : saved_by new ≡ saved_by old ++ now_of mid ∷ [] = more ∙ ap (λ (ss : List Saved). ss ++ now_of mid ∷ []) same in
-      at_newest w new
-      (subst (λ (ss : List Saved). IsLawfulProcess (record { seen = w; saved = ss })) (sym all)
-      (one_saved v w h.law.seen isw part horizon floor queues time mark least (saved_by old) h.law (now_of old) old.since h.present caught (now_of mid) at holds (sym since ∙ due)))
-      (now ∙ sym (ap newest_of all ∙ newest_of_push (saved_by old) (now_of mid))) none fit
+    first_low : played.first ≤ kept_times.first
+    first_low = (let low = after_low (was_busy v) played.first run.book.mark (kept.states * SAVE_EVERY) played.times rest.at.times in omega (arith, low, first_is))
 
-newest_high : (v : View) (s : Saved) (ss : List Saved) → AreSpaced v s.mark ss → s.mark ≤ (newest s ss).mark
-newest_high v s [] h = omega arith
-newest_high v s (r ∷ ss) h = (let up = h.0 in let rest = newest_high v r ss h.3 in omega (arith, up, rest))
+    first_floor : kept_times.first ≤ floor
+    first_floor = elim (cases_lt 0 kept.states) [
+      | inl some ↦ kept.low some
+      | inr none ↦ (let zero_states : kept.states ≡ 0 = omega (arith, none) in
+          let same : kept_times.first ≡ played.first = kept.first ∙ ap (λ n. mark_after n played) zero_states in
+          let low = rest.at.low in
+          let forward = can.forward in
+          omega (arith, same, low, forward))
+    ]
 
--- the present state isn't before the oldest saved one
-pub oldest_low : (v : View) (s : States) → AreStates v s → oldest_of (saved_by s) ≤ (now_of s).mark
-oldest_low v s h = go (saved_by s) h.law.saved h.present.from
-  where
-    go : (ss : List Saved) → AreSaved v ss → (newest_of ss).mark ≤ (now_of s).mark → oldest_of ss ≤ (now_of s).mark
-    go [] saved from = absurd saved
-    go (x ∷ ss) saved from = (let up = newest_high v x ss saved.1 in omega (arith, up, from))
+    runs : IsRun (place_source v.part) (place_given v.part (given_by v)) kept_times.first new
+    runs = dropped.keeps (place_source v.part) (place_given v.part (given_by v)) played.first rest.at.engine.run.is first_low (let high = first_high in let told = rest.told in omega (arith, high, told))
+
+    -- what is left is at rest
+    pub kept_rest : IsAtRest (record v { floor = floor }) new kept_times
+    kept_rest = record {
+      at = record {
+        engine = record {
+          received = rw';
+          run = record {
+            is = runs;
+            horizon = dropped.like.horizon ∙ rest.at.engine.run.horizon;
+            cells = dropped.like.alike.cells ∙ rest.at.engine.run.cells;
+            parted = parted_like v.part run new dropped.like rest.at.engine.run.parted;
+          };
+        };
+        low = first_floor;
+        within = (let within = rest.at.within in let mark = dropped.mark in omega (arith, within, mark));
+        times = subst (λ k. AreTimes (was_busy v) kept_times.first k kept_times.times) (sym dropped.mark) times_are;
+        quiet = λ t a b. was_quiet t (let told = rest.told in let same = dropped.told in omega (arith, a, told, same)) b;
+      };
+      told = dropped.told ∙ rest.told ∙ sym dropped.mark;
+    }
+
+    busy_kept : (t : ℕ) → is_busy (seen_by (record v { floor = floor }) new) t ≡ is_busy (seen_by v run) t
+    busy_kept t = ap (λ (logs : List (List Change)). is_busy (record v { floor = floor; mark = mark_by (record v { floor = floor }) new; logs = logs }) t) dropped.lists
+
+    -- and what is below the floor is committed
+    pub kept_committed : IsCommitted (process_by v run played) (process_by (record v { floor = floor }) new kept_times) floor
+    kept_committed = record {
+      part = refl;
+      horizon = refl;
+      floor = refl;
+      mark = (let mark = dropped.mark in let forward = can.forward in omega (arith, mark, forward));
+      entries = λ n t. refl;
+      logs = λ n. ap (λ (logs : List (List Change)). log_of (record v { floor = floor; mark = mark_by (record v { floor = floor }) new; logs = logs }) n) dropped.lists;
+      events = λ t. (
+        (λ e. ((let from = e.0 in let mark = dropped.mark in let forward = can.forward in omega (arith, from, mark, forward)), e.1, sym (busy_kept t) ∙ e.2)),
+        (λ e. (
+          (elim (cases_lt t floor) [ inl below ↦ absurd (can.processed t (below, e)) | inr since ↦ (let from = e.0 in let mark = dropped.mark in omega (arith, since, from, mark)) ]),
+          e.1,
+          busy_kept t ∙ e.2,
+        )),
+      );
+      few = one_until floor (state_of new.book kept_times.first) (map (state_of new.book) (later_marks (SAVE_EVERY - 1) kept_times.times))
+          (late_states new.book floor (later_marks (SAVE_EVERY - 1) kept_times.times)
+          (later_late (was_busy v) kept_times.first run.book.mark floor (SAVE_EVERY - 1) kept_times.times times_are (λ l. kept.newest (omega (arith, l)))));
+    }

@@ -1,34 +1,45 @@
--- A new block is lawful.
-use Rattle.std.proofs.Common.{◌≡◌, ◌≢◌, ℕ, zero, suc, ◌+◌, ◌<◌, ◌≤◌, ◌++◌, Bool, true, false, cond, min, pred, List, [], ◌∷◌, map, length, get_or, take, add-one, inl, inr, refl, ap, sym, ◌∙◌, subst, arith, All}
-use Rattle.std.proofs.lemmas.Bool.{cond-false, true≢false, cases_lt, lt-ltb, le-ltb, ne_eqb}
+-- What a new block shows, and what it tells.
+use Rattle.std.proofs.Common.{◌≡◌, ◌≢◌, ℕ, zero, suc, ◌+◌, ◌<◌, ◌≤◌, ◌++◌, Bool, true, false, cond, max, min, pred, List, [], ◌∷◌, map, length, get_or, refl, ap, sym, ◌∙◌, subst, arith, All}
+use Rattle.std.proofs.lemmas.Bool.{true≢false, ne_eqb, eq-eqb}
 use Rattle.std.specs.List.{flat_map}
-use Rattle.std.proofs.lemmas.Grind.{flat_map-append}
-use Rattle.std.proofs.lemmas.List.{append-nil, get_or-map, length-map, take_more, take_all}
-use Rattle.std.proofs.lemmas.List.Concat.{flat_map-cons}
-use Rattle.std.proofs.lemmas.List.Elements.{All-nil, All-cons}
+use Rattle.std.proofs.lemmas.List.{get_or-map, length-map}
+use Rattle.std.proofs.lemmas.List.Elements.{All-nil, All-cons, All-append}
+use Rattle.std.proofs.lemmas.List.Sorted.{IsPermutation-refl}
 use Rattle.gate_values.specs.declared.logic.Logic.{Logic}
 use Rattle.gate_values.specs.declared.logic.Logic.TheVariants.{X}
+use Rattle.gate_values.specs.declared.logic.Change.{Change}
 use Rattle.gate_values.specs.Behaviour.{Source, Outside, Gate, Flop, value, source_delay, initial_of, IsWellFormed}
 use Rattle.gate_values.specs.Changes.{changes, before_time, same}
 use Rattle.gate_values.proofs.ChangeLists.{before_time-changes, changes-agree, changes-quiet}
 use Rattle.gate_values.proofs.Beginning.{initial_before}
-use Rattle.gate_values.specs.declared.logic.Change.{Change}
-use Rattle.gate_vcd.specs.Given.{Given, changes_of}
-use Rattle.warp_block.specs.Entries.{Received, no_messages, entry_in, IsQueue}
-use Rattle.warp_block.specs.Limits.{most_horizon}
-use Rattle.warp_block.specs.Portion.{Portion, at_slot, IsPortion, is_driven, is_input, owns, source_of, readers_of}
-use Rattle.warp_block.specs.View.{View, entry_of, effective_at}
-use Rattle.warp_block.specs.Lawful.{IsLawful, lawful_log}
-use Rattle.warp_block.specs.declared.message.Message.{Message}
-use Rattle.warp_block.specs.declared.message.Sign.TheVariants.{Plus}
-use Rattle.warp_block.specs.Sends.{SendsOnce}
-use Rattle.warp_block.specs.Inner.Step.{log_at, sent, told}
-use Rattle.warp_block.specs.Opening.{message_of, silent_view, opening_view, opening_queue, initial_log, first_messages, opening_messages}
-use Rattle.warp_block.proofs.Slots.{of_net-at, of_net-map}
-use Rattle.warp_block.proofs.Running.{given, delayed}
-use Rattle.warp_block.proofs.Views.{well_formed, timed}
-use Rattle.warp_block.proofs.Rows.{log_rises}
-use Rattle.warp_block.proofs.Sending.{sends_grown}
+use Rattle.gate_vcd.specs.Given.{Given}
+use Rattle.event_times.specs.Marks.{Played, AreTimes}
+use Rattle.warp_stores.specs.Words.{Move}
+use Rattle.warp_stores.specs.Dated.{Dated}
+use Rattle.warp_stores.specs.Lists.{AreLonger, changes_at}
+use Rattle.warp_engine.specs.Runs.{Run}
+use Rattle.warp_part.specs.Portion.{Portion, IsPortion, is_driven, owns, source_of, readers_of}
+use Rattle.warp_part.proofs.Slots.{of_net-at}
+use Rattle.warp_process.specs.Heard.{IsReceived}
+use Rattle.warp_process.specs.View.{View, effective_at, given_by}
+use Rattle.warp_process.specs.Lawful.{lawful_log}
+use Rattle.warp_process.specs.Played.{was_busy}
+use Rattle.warp_process.specs.declared.message.Message.{Message}
+use Rattle.warp_process.specs.declared.message.Sign.TheVariants.{Plus}
+use Rattle.warp_process.specs.Sends.{SendsOnce}
+use Rattle.warp_process.specs.Inner.Step.{sent}
+use Rattle.warp_process.specs.Opening.{silent_view, opening_view, initial_log, first_messages, opening_messages}
+use Rattle.warp_process.proofs.Running.{given, delayed}
+use Rattle.warp_process.proofs.Views.{well_formed, timed}
+use Rattle.part_engine.specs.Runs.{IsOpeningRun}
+use Rattle.part_engine.proofs.RunLogs.{lists_are}
+use Rattle.warp_sends.specs.Told.{told_of}
+use Rattle.warp_sends.proofs.Sending.{tells_longer}
+use Rattle.warp_block.specs.Shown.Block.{seen_by}
+use Rattle.warp_block.specs.Inner.Held.{IsAtRest}
+use Rattle.warp_block.proofs.Resting.{rest_lawful}
+
+-- ---- what is logged at mark 0
 
 -- what stays as it begins changes at 0 at most
 changes-constant : (v : Logic) (t : ℕ) → changes (λ _. v) (suc t) ≡ initial_log v
@@ -40,7 +51,6 @@ changes-constant v (suc t) = changes-quiet (λ _. v) (suc t) refl ∙ changes-co
 first_changes : (source : ℕ → Source) (g : ℕ → ℕ → Logic) (n end : ℕ) → IsWellFormed (source n) → 0 < source_delay (source n) → 0 < end →
     before_time (0 + source_delay (source n)) (changes (value source g n) end) ≡ initial_log (initial_of (source n))
 first_changes source g n end w late some =
-    let until : ℕ = min (0 + source_delay (source n)) end in
     let more : min (0 + source_delay (source n)) end ≡ suc (pred (min (0 + source_delay (source n)) end)) = omega arith in
     before_time-changes (value source g n) (0 + source_delay (source n)) end
     ∙ (changes-agree (value source g n) (λ _. initial_of (source n)) (min (0 + source_delay (source n)) end) (λ t below. initial_before source g n t w (omega arith))
@@ -52,127 +62,173 @@ undriven_initial Outside e = refl
 undriven_initial (Gate kind delay inputs) e = refl
 undriven_initial (Flop delay d c initial) e = absurd (true≢false e)
 
--- changes before an end leave no entry from it on
-none_past : (end t : ℕ) (cs : List Change) → end ≤ t → entry_in (map message_of (before_time end cs)) t ≡ no_messages
-none_past end t [] h = refl
-none_past end t (c ∷ cs) h = elim (cases_lt c.time end) [
-  | inl before ↦ rw (lt-ltb c.time end before) (rw (ne_eqb c.time t (let ne : c.time ≢ t = omega arith in ne)) (none_past end t cs h))
-  | inr since ↦ rw (le-ltb c.time end since) (none_past end t cs h)
-]
+-- ---- words for what flip-flops begin with
 
-module _ (p : Portion) (is : IsPortion p) (stimulus : Given) (horizon : ℕ) where
+-- at time 0 a place takes a value
+abbrev first_word : ℕ → Logic → Dated Move
+first_word i v = (0, record { place = i; before = X; after = v })
+
+abbrev words_for : ℕ → Logic → List (Dated Move)
+words_for i v = cond (same v X) [] (first_word i v ∷ [])
+
+-- those of some nets, the first of which stands at a place
+abbrev words_from : Portion → ℕ → List ℕ → List (Dated Move)
+words_from p i [] = []
+words_from p i (n ∷ ns) = words_for i (initial_of (source_of p n)) ++ words_from p (suc i) ns
+
+-- a word of another place
+other_word : (j i : ℕ) (v : Logic) (rest : List (Dated Move)) → i ≢ j → changes_at j (words_for i v ++ rest) ≡ changes_at j rest
+other_word j i v rest ne = go (same v X)
+  where
+    go : (b : Bool) → changes_at j (cond b [] (first_word i v ∷ []) ++ rest) ≡ changes_at j rest
+    go true = refl
+    go false = rw (ne_eqb i j ne) refl
+
+-- the word of the place
+own_word : (i : ℕ) (v : Logic) (rest : List (Dated Move)) → changes_at i rest ≡ [] → changes_at i (words_for i v ++ rest) ≡ initial_log v
+own_word i v rest none = go (same v X)
+  where
+    go : (b : Bool) → changes_at i (cond b [] (first_word i v ∷ []) ++ rest) ≡ cond b [] (record { time = 0; value = v } ∷ [])
+    go true = none
+    go false = rw (eq-eqb i i refl) (ap (λ (cs : List Change). record { time = 0; value = v } ∷ cs) none)
+
+-- none of a place before them
+none_below : (p : Portion) (ns : List ℕ) (i j : ℕ) → j < i → changes_at j (words_from p i ns) ≡ []
+none_below p [] i j l = refl
+none_below p (n ∷ ns) i j l =
+    other_word j i (initial_of (source_of p n)) (words_from p (suc i) ns) (λ e. absurd (omega (arith, l, e))) ∙ none_below p ns (suc i) j (omega (arith, l))
+
+-- one place after the other
+changes_from : (p : Portion) (ns : List ℕ) (i k j : ℕ) → k < length ns → j ≡ i + k → changes_at j (words_from p i ns) ≡ initial_log (initial_of (source_of p (get_or ns k 0)))
+changes_from p [] i k j l e = absurd (omega arith)
+changes_from p (n ∷ ns) i zero j l e =
+    subst (λ (m : ℕ). changes_at m (words_from p i (n ∷ ns)) ≡ initial_log (initial_of (source_of p n))) (let same : i ≡ j = omega (arith, e) in same)
+    (own_word i (initial_of (source_of p n)) (words_from p (suc i) ns) (none_below p ns (suc i) i (omega arith)))
+changes_from p (n ∷ ns) i (suc k) j l e =
+    other_word j i (initial_of (source_of p n)) (words_from p (suc i) ns) (λ f. absurd (omega (arith, e, f))) ∙ changes_from p ns (suc i) k j (omega (arith, l)) (omega (arith, e))
+
+first_at : (P : ℕ → Type 0) → P 0 → (i : ℕ) (v : Logic) (b : Bool) → All (λ (d : Dated Move). P d.0) (cond b [] (first_word i v ∷ []))
+first_at P h i v true = All-nil (λ (d : Dated Move). P d.0)
+first_at P h i v false = All-cons (λ (d : Dated Move). P d.0) (first_word i v) [] h (All-nil (λ (d : Dated Move). P d.0))
+
+-- all of them come true at 0
+all_first : (P : ℕ → Type 0) → P 0 → (p : Portion) (ns : List ℕ) (i : ℕ) → All (λ (d : Dated Move). P d.0) (words_from p i ns)
+all_first P h p [] i = All-nil (λ (d : Dated Move). P d.0)
+all_first P h p (n ∷ ns) i =
+    let v : Logic = initial_of (source_of p n) in
+    All-append (λ (d : Dated Move). P d.0) (words_for i v) (words_from p (suc i) ns) (first_at P h i v (same v X)) (all_first P h p ns (suc i))
+
+-- what is told of a word
+word_told : (p : Portion) (is : IsPortion p) (i n : ℕ) (v : Logic) (rest : List (Dated Move)) → i < length p.nets → n ≡ get_or p.nets i 0
+    → flat_map (told_of Plus p) (words_for i v ++ rest) ≡ first_messages n v (readers_of p n) ++ flat_map (told_of Plus p) rest
+word_told p is i n v rest l e = go (same v X)
+  where
+    readers : get_or p.readers i [] ≡ readers_of p n
+    readers = sym (of_net-at p.nets p.readers [] i is.ascending l) ∙ ap (readers_of p) (sym e)
+
+    go : (b : Bool) → flat_map (told_of Plus p) (cond b [] (first_word i v ∷ []) ++ rest)
+        ≡ cond b [] (map (λ r. record { time = 0; block = r; net = n; value = v; sign = Plus }) (readers_of p n)) ++ flat_map (told_of Plus p) rest
+    go true = refl
+    go false =
+        ap (λ (m : ℕ). sent Plus m (get_or p.readers i []) (record { time = 0; value = v }) ++ flat_map (told_of Plus p) rest) (sym e)
+        ∙ ap (λ (rs : List ℕ). sent Plus n rs (record { time = 0; value = v }) ++ flat_map (told_of Plus p) rest) readers
+
+-- net by net
+words_told : (p : Portion) → IsPortion p → (ns : List ℕ) (i : ℕ) → i + length ns ≤ length p.nets → ((k : ℕ) → k < length ns → get_or ns k 0 ≡ get_or p.nets (i + k) 0)
+    → flat_map (told_of Plus p) (words_from p i ns) ≡ flat_map (λ n. first_messages n (initial_of (source_of p n)) (readers_of p n)) ns
+words_told p is [] i l at = refl
+words_told p is (n ∷ ns) i l at =
+    let zero_more : i + 0 ≡ i = omega arith in
+    word_told p is i n (initial_of (source_of p n)) (words_from p (suc i) ns) (omega (arith, l)) (at 0 (omega arith) ∙ ap (λ (j : ℕ). get_or p.nets j 0) zero_more)
+    ∙ ap (λ (ms : List Message). first_messages n (initial_of (source_of p n)) (readers_of p n) ++ ms)
+    (words_told p is ns (suc i) (omega (arith, l))
+    (λ k below. at (suc k) (omega (arith, below)) ∙ ap (λ (j : ℕ). get_or p.nets j 0) (let on : i + suc k ≡ suc i + k = omega arith in on)))
+
+-- ---- a new block
+
+abbrev no_log : ℕ → List Change
+no_log n = []
+
+module _ (p : Portion) (stimulus : Given) (horizon : ℕ) (received : IsReceived (silent_view p stimulus horizon)) where
   -- at mark 0 there are the initial contents alone
-  pub first_log : (n : ℕ) → lawful_log (opening_view p stimulus horizon) n ≡ initial_log (initial_of (source_of p n))
+  first_log : (n : ℕ) → lawful_log (silent_view p stimulus horizon) n ≡ initial_log (initial_of (source_of p n))
   first_log n = go (owns p n) refl
     where
       go : (b : Bool) → owns p n ≡ b →
-          cond b (before_time (0 + source_delay (source_of p n)) (changes (value (source_of p) (given (effective_at (opening_view p stimulus horizon))) n) (horizon + 1))) []
+          cond b (before_time (0 + source_delay (source_of p n)) (changes (value (source_of p) (given (effective_at (silent_view p stimulus horizon))) n) (horizon + 1))) []
           ≡ initial_log (initial_of (source_of p n))
       go false e = ap initial_log (sym (undriven_initial (source_of p n) e))
-      go true e = first_changes (source_of p) (given (effective_at (opening_view p stimulus horizon))) n (horizon + 1) (well_formed p is n e) (delayed (source_of p n) (timed p is n) e) (omega arith)
+      go true e = first_changes (source_of p) (given (effective_at (silent_view p stimulus horizon))) n (horizon + 1) (well_formed p received.part n e) (delayed (source_of p n) (timed p received.part n) e) (omega arith)
 
-  -- an own net is no input
-  own_none : (i : ℕ) → i < length p.nets → owns p (get_or p.nets i 0) ≡ true → opening_queue p stimulus horizon (get_or p.nets i 0) ≡ []
-  own_none i h own = go (is_input p (get_or p.nets i 0)) refl
-    where
-      go : (b : Bool) → is_input p (get_or p.nets i 0) ≡ b → opening_queue p stimulus horizon (get_or p.nets i 0) ≡ []
-      go false e = cond-false (is_input p (get_or p.nets i 0)) _ [] e
-      go true e =
-          let outside = is.input i h (sym (of_net-at p.nets p.inputs false i is.ascending h) ∙ e) in
-          absurd (true≢false (sym own ∙ (ap is_driven (of_net-at p.nets p.sources Outside i is.ascending h) ∙ ap is_driven outside)))
+  first_logs : (nets : List ℕ) → map (lawful_log (silent_view p stimulus horizon)) nets ≡ map (λ n. initial_log (initial_of (source_of p n))) nets
+  first_logs [] = refl
+  first_logs (n ∷ nets) = let here = first_log n in let rest = first_logs nets in cc
 
-  -- nothing is past the horizon
-  none_late : (n t : ℕ) → horizon < t → entry_of (opening_view p stimulus horizon) n t ≡ no_messages
-  none_late n t h =
-      ap (λ (q : List Received). entry_in q t) (of_net-map p.nets (opening_queue p stimulus horizon) [] n (λ none. cond-false (is_input p n) _ [] (ap (at_slot p.inputs false) none)))
-      ∙ go (is_input p n)
-    where
-      go : (b : Bool) → entry_in (cond b (map message_of (before_time (horizon + 1) (changes_of stimulus n))) []) t ≡ no_messages
-      go false = refl
-      go true = none_past (horizon + 1) t (changes_of stimulus n) (omega arith)
-
-  pub opening_lawful : horizon ≤ most_horizon → All IsQueue (map (opening_queue p stimulus horizon) p.nets) → IsLawful (opening_view p stimulus horizon)
-  opening_lawful end queues = record {
-    part = is;
-    horizon = end;
-    queues = length-map p.nets (opening_queue p stimulus horizon);
-    ordered = queues;
-    own = λ i h own. get_or-map (opening_queue p stimulus horizon) p.nets i 0 [] h ∙ own_none i h own;
-    logs = same p.nets;
-    floor = omega arith;
-    settled = λ n t l. absurd (omega arith);
-    within = none_late;
+  -- words stand behind no logs
+  opening_longer : AreLonger (words_from p 0 p.nets) (silent_view p stimulus horizon).logs (opening_view p stimulus horizon).logs
+  opening_longer = record {
+    same = length-map p.nets (λ n. initial_log (initial_of (source_of p n))) ∙ sym (length-map p.nets no_log);
+    each = λ i l.
+        (let many : length (map no_log p.nets) ≡ length p.nets = length-map p.nets no_log in
+        let here : i < length p.nets = omega (arith, many, l) in
+        get_or-map (λ n. initial_log (initial_of (source_of p n))) p.nets i 0 [] here
+        ∙ sym (changes_from p p.nets 0 i i here (omega arith))
+        ∙ ap (λ (cs : List Change). cs ++ changes_at i (words_from p 0 p.nets)) (sym (get_or-map no_log p.nets i 0 [] here)));
   }
-    where
-      same : (nets : List ℕ) → map (λ n. initial_log (initial_of (source_of p n))) nets ≡ map (lawful_log (opening_view p stimulus horizon)) nets
-      same [] = refl
-      same (n ∷ nets) = let here = first_log n in let rest = same nets in cc
 
-  -- the changes of each log are at 0
-  at_start : (v : Logic) → All (λ (c : Change). (c.time ≡ 0) × (c.time ≤ horizon)) (initial_log v)
-  at_start v = go (same v X)
-    where
-      go : (b : Bool) → All (λ (c : Change). (c.time ≡ 0) × (c.time ≤ horizon)) (cond b [] (record { time = 0; value = v } ∷ []))
-      go true = All-nil (λ (c : Change). (c.time ≡ 0) × (c.time ≤ horizon))
-      go false = All-cons (λ (c : Change). (c.time ≡ 0) × (c.time ≤ horizon)) (record { time = 0; value = v }) [] (refl, omega arith) (All-nil (λ (c : Change). (c.time ≡ 0) × (c.time ≤ horizon)))
+  module _ (engine : Run) (opening : IsOpeningRun p horizon engine) (times : Played) (none : times ≡ record { first = 0; times = [] }) where
+    -- nothing is played, and nothing untold
+    new_rest : IsAtRest (silent_view p stimulus horizon) engine times
+    new_rest = subst (λ (played : Played). IsAtRest (silent_view p stimulus horizon) engine played) (sym none) (record {
+      at = record {
+        engine = record { received = received; run = opening.runs (given_by (silent_view p stimulus horizon)) };
+        low = omega arith;
+        within = (let mark = opening.mark in omega (arith, mark));
+        times = subst (λ (m : ℕ). AreTimes (was_busy (silent_view p stimulus horizon)) 0 m []) (sym opening.mark) (omega arith, λ t a b. absurd (omega (arith, b)));
+        quiet = λ t a b. absurd (omega (arith, b));
+      };
+      told = opening.told ∙ sym opening.mark;
+    })
 
-  log_opens : (i : ℕ) → i < length p.nets → log_at (opening_view p stimulus horizon).logs i ≡ initial_log (initial_of (source_of p (get_or p.nets i 0)))
-  log_opens i h = get_or-map (λ n. initial_log (initial_of (source_of p n))) p.nets i 0 [] h
+    new_lists : engine.lists ≡ (opening_view p stimulus horizon).logs
+    new_lists =
+        lists_are (silent_view p stimulus horizon) engine 0 (record { received = received; run = opening.runs (given_by (silent_view p stimulus horizon)) })
+        ∙ ap (λ (k : ℕ). map (lawful_log (record (silent_view p stimulus horizon) { mark = k })) p.nets) opening.told
+        ∙ first_logs p.nets
 
-  log_silent : (i : ℕ) → i < length p.nets → log_at (silent_view p stimulus horizon).logs i ≡ []
-  log_silent i h = get_or-map (λ (n : ℕ). []) p.nets i 0 [] h
+    new_seen : seen_by (silent_view p stimulus horizon) engine ≡ opening_view p stimulus horizon
+    new_seen =
+        ap (λ (m : ℕ). record (silent_view p stimulus horizon) { mark = max m 0; logs = engine.lists }) opening.mark
+        ∙ ap (λ (logs : List (List Change)). record (silent_view p stimulus horizon) { logs = logs }) new_lists
 
-  opening_sends : IsLawful (opening_view p stimulus horizon) → (before out : List Message) →
-      out ≡ before ++ told Plus p (log_at (opening_view p stimulus horizon).logs) (length p.nets) →
-      SendsOnce (silent_view p stimulus horizon) (opening_view p stimulus horizon) Plus (λ t. t ≡ 0) before out
-  opening_sends lawful before out told_is =
-      sends_grown (silent_view p stimulus horizon) (opening_view p stimulus horizon) (λ t. t ≡ 0) before out (log_at (opening_view p stimulus horizon).logs) is refl
-      (λ i h. subst (All (λ (c : Change). (c.time ≡ 0) × (c.time ≤ horizon))) (sym (log_opens i h)) (at_start (initial_of (source_of p (get_or p.nets i 0)))))
-      (λ i h. ap (λ (cs : List Change). cs ++ log_at (opening_view p stimulus horizon).logs i) (sym (log_silent i h)))
-      (λ i h. log_rises (opening_view p stimulus horizon) lawful i h) told_is
+    -- what is told is what is logged
+    new_sends : (before out : List Message) → out ≡ before ++ opening_messages p
+        → SendsOnce (silent_view p stimulus horizon) (seen_by (silent_view p stimulus horizon) engine) Plus (λ t. t ≡ 0) before out
+    new_sends before out told =
+        let each : flat_map (told_of Plus p) (words_from p 0 p.nets) ≡ opening_messages p
+        = words_told p received.part p.nets 0 (omega arith) (λ k l. ap (λ (j : ℕ). get_or p.nets j 0) (let on : k ≡ 0 + k = omega arith in on)) in
+        tells_longer (silent_view p stimulus horizon) (seen_by (silent_view p stimulus horizon) engine) (λ t. t ≡ 0) (words_from p 0 p.nets) before out
+        (rest_lawful (silent_view p stimulus horizon) engine times new_rest) refl
+        (subst (λ (logs : List (List Change)). AreLonger (words_from p 0 p.nets) (silent_view p stimulus horizon).logs logs) (sym new_lists) opening_longer)
+        (all_first (λ t. t ≡ 0) refl p p.nets 0)
+        (all_first (λ t. t ≤ horizon) (omega arith) p p.nets 0)
+        (record { ordered = words_from p 0 p.nets; same = IsPermutation-refl (words_from p 0 p.nets); told = told ∙ ap (λ (ms : List Message). before ++ ms) (sym each) })
 
-  -- what a new block tells, where it tells what is logged
-  pub opening_told : (v : View) → v ≡ opening_view p stimulus horizon → IsLawful v → (before out : List Message) →
-      out ≡ before ++ told Plus v.part (log_at v.logs) (length v.part.nets) → SendsOnce (silent_view p stimulus horizon) v Plus (λ t. t ≡ 0) before out
-  opening_told v e =
-      subst (λ (w : View). IsLawful w → (before out : List Message) → out ≡ before ++ told Plus w.part (log_at w.logs) (length w.part.nets) →
-      SendsOnce (silent_view p stimulus horizon) w Plus (λ t. t ≡ 0) before out) (sym e) opening_sends
+-- the same of what is heard
+module _ (p : Portion) (stimulus : Given) (horizon : ℕ) (v : View) (is : v ≡ silent_view p stimulus horizon) (received : IsReceived v)
+    (engine : Run) (opening : IsOpeningRun v.part horizon engine) (times : Played) (none : times ≡ record { first = 0; times = [] }) where
+  pub opened_rest : IsAtRest v engine times
+  opened_rest =
+      subst (λ (w : View). IsReceived w → IsOpeningRun w.part horizon engine → IsAtRest w engine times) (sym is)
+      (λ r o. new_rest p stimulus horizon r engine o times none) received opening
 
-  -- a first value is told to each reader
-  told_one : (n : ℕ) (v : Logic) (readers : List ℕ) → flat_map (sent Plus n readers) (initial_log v) ≡ first_messages n v readers
-  told_one n v readers = go (same v X)
-    where
-      go : (b : Bool) → flat_map (sent Plus n readers) (cond b [] (record { time = 0; value = v } ∷ [])) ≡ cond b [] (sent Plus n readers (record { time = 0; value = v }))
-      go true = refl
-      go false = flat_map-cons (sent Plus n readers) (record { time = 0; value = v }) [] ∙ append-nil (sent Plus n readers (record { time = 0; value = v }))
+  pub opened_seen : seen_by v engine ≡ opening_view p stimulus horizon
+  opened_seen =
+      subst (λ (w : View). IsReceived w → IsOpeningRun w.part horizon engine → seen_by w engine ≡ opening_view p stimulus horizon) (sym is)
+      (λ r o. new_seen p stimulus horizon r engine o times none) received opening
 
-  abbrev first : ℕ → List Message
-  first n = first_messages n (initial_of (source_of p n)) (readers_of p n)
-
-  told_at : (i : ℕ) → i < length p.nets → flat_map (sent Plus (get_or p.nets i 0) (get_or p.readers i [])) (log_at (opening_view p stimulus horizon).logs i) ≡ first (get_or p.nets i 0)
-  told_at i h =
-      ap (flat_map (sent Plus (get_or p.nets i 0) (get_or p.readers i []))) (log_opens i h)
-      ∙ (told_one (get_or p.nets i 0) (initial_of (source_of p (get_or p.nets i 0))) (get_or p.readers i [])
-      ∙ ap (first_messages (get_or p.nets i 0) (initial_of (source_of p (get_or p.nets i 0)))) (sym (of_net-at p.nets p.readers [] i is.ascending h)))
-
-  -- net by net
-  told_first : (i : ℕ) → i ≤ length p.nets → told Plus p (log_at (opening_view p stimulus horizon).logs) i ≡ flat_map first (take i p.nets)
-  told_first zero h = refl
-  told_first (suc i) h =
-      let below : i < length p.nets = omega (arith, h) in
-      let before = told_first i (omega (arith, h)) in
-      let more : take (suc i) p.nets ≡ take i p.nets ++ get_or p.nets i 0 ∷ [] = (rw add-one at (take_more p.nets i 0 below)) in
-      let here = told_at i below in
-      let last : flat_map first (get_or p.nets i 0 ∷ []) ≡ first (get_or p.nets i 0) = flat_map-cons first (get_or p.nets i 0) [] ∙ append-nil (first (get_or p.nets i 0)) in
-      let both : flat_map first (take (suc i) p.nets) ≡ flat_map first (take i p.nets) ++ first (get_or p.nets i 0) = ap (flat_map first) more ∙ (flat_map-append first (take i p.nets) (get_or p.nets i 0 ∷ []) ∙ ap (λ (ms : List Message). flat_map first (take i p.nets) ++ ms) last) in
-      cc
-
-  opening_first : (before out : List Message) → out ≡ before ++ told Plus p (log_at (opening_view p stimulus horizon).logs) (length p.nets) → out ≡ before ++ opening_messages p
-  opening_first before out e =
-      e ∙ ap (λ (ms : List Message). before ++ ms) (told_first (length p.nets) (omega arith) ∙ ap (flat_map first) (take_all (length p.nets) p.nets (omega arith)))
-
-  -- what a new block tells, by net and reader
-  pub opening_sent : (v : View) → v ≡ opening_view p stimulus horizon → (before out : List Message) →
-      out ≡ before ++ told Plus v.part (log_at v.logs) (length v.part.nets) → out ≡ before ++ opening_messages p
-  opening_sent v e =
-      subst (λ (w : View). (before out : List Message) → out ≡ before ++ told Plus w.part (log_at w.logs) (length w.part.nets) → out ≡ before ++ opening_messages p) (sym e) opening_first
+  pub opened_sends : (before out : List Message) → out ≡ before ++ opening_messages v.part → SendsOnce (silent_view p stimulus horizon) (seen_by v engine) Plus (λ t. t ≡ 0) before out
+  opened_sends before out told =
+      subst (λ (w : View). IsReceived w → IsOpeningRun w.part horizon engine → out ≡ before ++ opening_messages w.part
+      → SendsOnce (silent_view p stimulus horizon) (seen_by w engine) Plus (λ t. t ≡ 0) before out) (sym is)
+      (λ r o. new_sends p stimulus horizon r engine o times none before out) received opening told

@@ -1,54 +1,205 @@
--- One event time of a block: what the next state is, and what is emitted.
-use Rattle.std.proofs.Common.{◌≡◌, ℕ, suc, ◌+◌, ◌-◌, ◌≤◌, min, Option, List, inl, inr, refl, ap, sym, ◌∙◌, arith}
-use Rattle.std.proofs.lemmas.Bool.{le-leb, lt-leb}
-use Rattle.gate_values.specs.declared.logic.Logic.{Logic}
-use Rattle.gate_values.specs.declared.logic.Change.{Change}
-use Rattle.gate_values.specs.Tables.{table_of}
-use Rattle.gate_values.specs.Behaviour.{Source, Outside, Gate, Flop, Moment, before, value, source_delay, history, next_content, output}
-use Rattle.gate_values.specs.Inner.Behaviour.{IsOver}
-use Rattle.gate_values.specs.Changes.{changes}
-use Rattle.gate_values.proofs.Behaving.{content_is, value_is, map_agree}
-use Rattle.gate_values.proofs.ChangeLists.{last_value-changes, before_time-changes}
-use Rattle.warp_block.specs.Inner.Step.{emitted_value}
-use Rattle.warp_block.proofs.Running.{IsTimed, IsDriven, given, run_log, added, le_cases}
+-- What an engine under way is after a step.
+use Rattle.std.proofs.Common.{◌≡◌, ℕ, zero, suc, Bool, true, false, ◌+◌, ◌<◌, ◌≤◌, ◌++◌, nat_lt, Some, List, [], ◌∷◌, length, inl, inr, refl, ap, sym, ◌∙◌, subst, arith, All}
+use Rattle.std.proofs.lemmas.Bool.{cases_lt, true≢false}
+use Rattle.event_times.specs.Marks.{Played, AreTimes}
+use Rattle.warp_stores.specs.Words.{Move}
+use Rattle.std.specs.List.{filter, flat_map}
+use Rattle.warp_stores.specs.Dated.{Dated}
+use Rattle.warp_stores.specs.Delays.{told_since}
+use Rattle.warp_journal.specs.Books.{Book, AreAlike, IsBrought, all_of}
+use Rattle.warp_engine.specs.Runs.{Run, IsRun, Ran, IsLike, makings}
+use Rattle.warp_engine.specs.Nexts.{AreParted}
+use Rattle.warp_engine.proofs.Making.{makings_later}
+use Rattle.part_engine.proofs.RunLogs.{cells_are}
+use Rattle.warp_part.specs.Portion.{Portion}
+use Rattle.warp_part.specs.Placing.{place_source, place_given, place_cells}
+use Rattle.warp_process.specs.Heard.{IsReceived}
+use Rattle.warp_process.specs.View.{View, IsLeast, IsEventTime, given_by, is_busy}
+use Rattle.warp_process.specs.Played.{played_view, was_busy}
+use Rattle.part_engine.specs.Runs.{IsRunOf, IsEngineOf}
+use Rattle.warp_block.specs.Inner.Held.{IsAt, IsAtRest, IsUntold}
+use Rattle.warp_block.proofs.Times.{times_end, times_below, times_on, times_push, times_cut, push_cut}
+use Rattle.warp_block.proofs.Resting.{least_none, least_now, least_from, quiet_from, next_was}
 
-module _ (source : ℕ → Source) (timed : (n : ℕ) → IsTimed (source n)) (at : ℕ → ℕ → Option Logic) (N : ℕ → Type 0) (s : ℕ) where
-  -- the content after a time, from a moment that is as just before it, and values that are as at it
-  pub content_next : (n : ℕ) (src : Source) → source n ≡ src → (IsDriven src → IsOver N src) → (last : Moment) (now : ℕ → Logic) →
-      ((i : ℕ) → N i → now i ≡ value source (given at) i s) → ((i : ℕ) → N i → last.value i ≡ (before source (given at) s).value i) →
-      ((delay d c : ℕ) (i : Logic) → src ≡ Flop delay d c i → N c → last.content n ≡ (before source (given at) s).content n) →
-      next_content src now last n ≡ (before source (given at) (suc s)).content n
-  unfolding history
-  content_next n Outside e over last now h k c = rw e refl
-  content_next n (Gate kind delay inputs) e over last now h k c = rw e refl
-  content_next n (Flop delay d clk i) e over last now h k c =
-      let o = over refl in
-      rw (c delay d clk i refl o.2, k clk o.2, h clk o.2, k d o.1) (sym (content_is source (given at) n s delay d clk i e))
+-- queues of the same places
+pub parted_like : (p : Portion) (old new : Run) → IsLike old new → AreParted (place_source p) old.book → AreParted (place_source p) new.book
+parted_like p old new like h = record {
+  used = λ place used delay. rw (like.alike.numbers, like.alike.read) (h.used place (rw like.alike.cells at used) delay);
+  first = λ place delay below. rw like.alike.cells (h.first place delay (rw (like.alike.numbers, like.alike.read) at below));
+}
 
-  -- what a source makes of a moment that is as right after a time
-  pub output_next : (n : ℕ) (src : Source) → source n ≡ src → IsDriven src → IsOver N src → (m : Moment) →
-      ((i : ℕ) → N i → m.value i ≡ (before source (given at) (suc s)).value i) → m.content n ≡ (before source (given at) (suc s)).content n →
-      output src m n ≡ value source (given at) n (s + source_delay src)
-  output_next n Outside e d o m values contents = cc
-  output_next n (Gate kind delay inputs) e d o m values contents =
-      let back_there : suc (s + delay) - delay ≡ suc s = omega arith in
-      ap (table_of kind) (map_agree _ _ N inputs values o.1)
-      ∙ sym (value_is source (given at) n (s + delay) (Gate kind delay inputs) e o.0 ∙ rw back_there refl)
-  output_next n (Flop delay dn c i) e d o m values contents =
-      let back_there : suc (s + delay) - delay ≡ suc s = omega arith in
-      contents ∙ sym (value_is source (given at) n (s + delay) (Flop delay dn c i) e o.0 ∙ rw back_there refl)
+-- an engine that has gone on is the part's
+pub engine_on : (v : View) (floor : ℕ) (old new : Run) → IsEngineOf v floor old → IsLike old new → IsRun (place_source v.part) (place_given v.part (given_by v)) floor new → IsEngineOf v floor new
+engine_on v floor old new h like runs = record {
+  received = h.received;
+  run = record {
+    is = runs;
+    horizon = like.horizon ∙ h.run.horizon;
+    cells = like.alike.cells ∙ h.run.cells;
+    parted = parted_like v.part old new like h.run.parted;
+  };
+}
 
--- the change that a value makes after the log of a function is that of the function
-pub emitted_change : (f : ℕ → Logic) (v : Logic) (log : List Change) (t horizon : ℕ) → v ≡ f t → (t ≤ horizon → log ≡ changes f t) →
-    emitted_value v log t horizon ≡ added f t horizon
-emitted_change f v log t horizon v_is log_is = elim (le_cases t horizon) [
-  | inl l ↦ rw (le-leb t horizon l, v_is, log_is l, last_value-changes f t) refl
-  | inr g ↦ rw (lt-leb t horizon g) refl
-]
+-- what is brought to the places of a view's part
+abbrev pub IsBroughtTo : View → ℕ → ℕ → List Move → Type 0
+IsBroughtTo v mark time words = IsBrought (place_source v.part) (place_given v.part (given_by v)) mark time words
 
--- a log at a time, up to one delay past it
-pub run_log-changes : (source : ℕ → Source) (at : ℕ → ℕ → Option Logic) (s horizon n : ℕ) → IsDriven (source n) → s + source_delay (source n) ≤ horizon →
-    run_log source at s horizon n ≡ changes (value source (given at) n) (s + source_delay (source n))
-run_log-changes source at s horizon n d l =
-    let e : min (s + source_delay (source n)) (horizon + 1) ≡ s + source_delay (source n) = omega arith in
-    rw d (before_time-changes (value source (given at) n) (s + source_delay (source n)) (horizon + 1) ∙ ap (changes (value source (given at) n)) e)
+pub brought_as : (v : View) (mark time : ℕ) (items words : List Move) → words ≡ items → IsBroughtTo v mark time items → IsBroughtTo v mark time words
+brought_as v mark time items words e h = subst (IsBroughtTo v mark time) (sym e) h
+
+module _ (v : View) (run : Run) (played : Played) (at : IsAt v run played) where
+  abbrev m : ℕ
+  m = run.book.mark
+
+  received : IsReceived v
+  received = at.engine.received
+
+  -- what the engine has played
+  abbrev pub ran : Ran run
+  ran = record { source = place_source v.part; given = place_given v.part (given_by v); floor = played.first; is = at.engine.run.is }
+
+  pub told_low : played.first ≤ run.told
+  told_low = at.engine.run.is.low
+
+  pub told_high : run.told ≤ run.book.mark
+  told_high = at.engine.run.is.high
+
+  -- nothing happens from the mark on and below the floor
+  pub at_quiet : (t : ℕ) → run.book.mark ≤ t → t < v.floor → was_busy v t ≡ false
+  at_quiet t a b = at.quiet t (let high = told_high in omega (arith, a, high)) b
+
+  pub at_shown : (t : ℕ) → run.book.mark ≤ t → t < v.floor → is_busy (played_view v run.book.mark) t ≡ false
+  at_shown = quiet_from v received run.book.mark v.floor at_quiet
+
+  -- the event times are before the mark
+  pub at_below : (time : ℕ) → run.book.mark ≤ time → All (λ t. t < time) played.times
+  at_below time l k d h = (let below = times_below (was_busy v) played.first run.book.mark played.times at.times k d h in omega (arith, below, l))
+
+  -- the same engine with the same times
+  pub at_kept : (new : Run) → new.book.mark ≡ run.book.mark → new.told ≡ run.told → IsLike run new → IsRun (place_source v.part) (place_given v.part (given_by v)) played.first new → IsAt v new played
+  at_kept new mark told like runs = record {
+    engine = engine_on v played.first run new at.engine like runs;
+    low = at.low;
+    within = subst (λ k. k ≤ suc v.horizon) (sym mark) at.within;
+    times = subst (λ k. AreTimes (was_busy v) played.first k played.times) (sym mark) at.times;
+    quiet = λ t a b. at.quiet t (omega (arith, a, told)) b;
+  }
+
+  -- the next event time
+  module _ (time : ℕ) (least : IsLeast (IsEventTime (played_view v run.book.mark)) (Some time)) where
+    pub least_quiet : (t : ℕ) → run.book.mark ≤ t → t < time → is_busy (played_view v run.book.mark) t ≡ false
+    least_quiet = quiet_from v received run.book.mark time (least_none v received run.book.mark time least)
+
+    -- isn't below the floor
+    pub least_floor : v.floor ≤ time
+    least_floor = elim (cases_lt time v.floor) [
+      | inl below ↦ absurd (true≢false (sym (least_now v received run.book.mark time least) ∙ at_quiet time least.0.0 below))
+      | inr since ↦ since
+    ]
+
+    -- it is played
+    pub at_played : (new : Run) → new.book.mark ≡ suc time → new.told ≡ run.told → IsLike run new → IsRun (place_source v.part) (place_given v.part (given_by v)) played.first new
+        → IsAt v new (record played { times = played.times ++ time ∷ [] })
+    at_played new mark told like runs = record {
+      engine = engine_on v played.first run new at.engine like runs;
+      low = at.low;
+      within = (let end = least.0.1 in omega (arith, mark, end));
+      times = subst (λ k. AreTimes (was_busy v) played.first k (played.times ++ time ∷ [])) (sym mark)
+          (times_push (was_busy v) played.first run.book.mark time played.times at.times least.0.0 (least_none v received run.book.mark time least) (least_now v received run.book.mark time least));
+      quiet = λ t a b. at.quiet t (omega (arith, a, told)) b;
+    }
+
+    -- and isn't, after an error
+    pub at_unplayed : (new : Run) → new.book.mark ≡ run.book.mark → new.told ≡ run.told → IsLike run new → IsRun (place_source v.part) (place_given v.part (given_by v)) played.first new
+        → (after : Played) → after ≡ record played { times = filter (λ t. nat_lt t time) (played.times ++ time ∷ []) } → IsAt v new after
+    at_unplayed new mark told like runs after e =
+        let cut : record played { times = filter (λ t. nat_lt t time) (played.times ++ time ∷ []) } ≡ played = ap (λ (ts : List ℕ). record played { times = ts }) (push_cut time played.times (at_below time least.0.0)) in
+        subst (λ (p : Played). IsAt v new p) (sym (e ∙ cut)) (at_kept new mark told like runs)
+
+    -- where a quiet time is passed over, it is the next one still
+    pub least_on : (mark : ℕ) → run.book.mark ≤ mark → mark ≤ time → IsLeast (IsEventTime (played_view v mark)) (Some time)
+    least_on mark low high =
+        least_from v received mark time high least.0.1 (λ t a b. least_none v received run.book.mark time least t (omega (arith, a, low)) b) (least_now v received run.book.mark time least)
+
+  -- time 0, at which nothing happens, is played
+  pub at_begun : run.book.mark ≡ 0 → is_busy (played_view v 0) 0 ≡ false → (new : Run) → new.book.mark ≡ 1 → new.told ≡ run.told → IsLike run new → IsRun (place_source v.part) (place_given v.part (given_by v)) played.first new
+      → IsAt v new played
+  at_begun zero_mark still new mark told like runs = record {
+    engine = engine_on v played.first run new at.engine like runs;
+    low = at.low;
+    within = omega (arith, mark);
+    times = subst (λ k. AreTimes (was_busy v) played.first k played.times) (sym mark)
+        (times_on (was_busy v) played.first run.book.mark 1 played.times at.times (omega (arith, zero_mark))
+        (λ t a b. let first : t ≡ 0 = omega (arith, b) in ap (was_busy v) first ∙ sym (next_was v received 0 0 (omega arith) (omega arith) (λ u f g busy. absurd (omega (arith, g)))) ∙ still));
+    quiet = λ t a b. at.quiet t (omega (arith, a, told)) b;
+  }
+
+  -- what isn't told is taken back
+  pub at_given_up : (new : Run) → new.book.mark ≡ run.told → new.told ≡ run.told → IsLike run new → IsRun (place_source v.part) (place_given v.part (given_by v)) played.first new
+      → (after : Played) → after ≡ record played { times = filter (λ t. nat_lt t new.book.mark) played.times } → IsAtRest v new after
+  at_given_up new mark told like runs after e = subst (λ (p : Played). IsAtRest v new p) (sym e) (record {
+    at = record {
+      engine = engine_on v played.first run new at.engine like runs;
+      low = at.low;
+      within = (let high = told_high in let end = at.within in omega (arith, mark, high, end));
+      times = (let low = told_low in let high = told_high in
+          times_cut (was_busy v) played.first run.book.mark new.book.mark new.book.mark played.times at.times (omega (arith, mark, low)) (omega arith) (omega (arith, mark, high)) (λ t a b. absurd (omega (arith, a, b))));
+      quiet = λ t a b. at.quiet t (omega (arith, a, told)) b;
+    };
+    told = told ∙ sym mark;
+  })
+
+-- all is told
+pub at_told : (v : View) (run : Run) (played : Played) → IsAt v run played → (new : Run) → new.book ≡ run.book → new.told ≡ run.book.mark → new.horizon ≡ run.horizon
+    → IsRun (place_source v.part) (place_given v.part (given_by v)) played.first new → IsAtRest v new played
+at_told v run played at new book told horizon runs = record {
+  at = record {
+    engine = record {
+      received = at.engine.received;
+      run = record {
+        is = runs;
+        horizon = horizon ∙ at.engine.run.horizon;
+        cells = subst (λ (b : Book). b.gates.cells ≡ place_cells v.part) (sym book) at.engine.run.cells;
+        parted = subst (AreParted (place_source v.part)) (sym book) at.engine.run.parted;
+      };
+    };
+    low = at.low;
+    within = subst (λ (b : Book). b.mark ≤ suc v.horizon) (sym book) at.within;
+    times = subst (λ (b : Book). AreTimes (was_busy v) played.first b.mark played.times) (sym book) at.times;
+    quiet = λ t a b. at.quiet t (let high = at.engine.run.is.high in omega (arith, a, told, high)) b;
+  };
+  told = told ∙ ap (λ (b : Book). b.mark) (sym book);
+}
+
+-- what is like one of two runs over the same book
+pub like_book : (run told new : Run) → told.book ≡ run.book → told.horizon ≡ run.horizon → IsLike told new → IsLike run new
+like_book run told new book horizon like = record {
+  alike = subst (λ (b : Book). AreAlike b new.book) book like.alike;
+  horizon = like.horizon ∙ horizon;
+}
+
+-- what is made is that of the same book
+pub same_makings : (step : ℕ) (run told : Run) → told.book ≡ run.book → told.horizon ≡ run.horizon → makings step run ≡ makings step told
+same_makings step run told book horizon =
+    ap (λ (b : Book). flat_map (told_since step run.horizon) (all_of b.queues)) (sym book)
+    ∙ ap (λ h. flat_map (told_since step h) (all_of told.book.queues)) (sym horizon)
+
+-- what is made is of places that there are, later than the step, and up to the horizon
+module _ (v : View) (run : Run) (played : Played) (at : IsAt v run played) (step : ℕ) where
+  made_there : All (λ (d : Dated Move). d.1.place < length v.part.nets) (makings step run)
+  made_there k d l = (let h = (makings_later run step (ran v run played at) k d l).0 in let e = cells_are v played.first run at.engine in omega (arith, h, e))
+
+  made_later : All (λ (d : Dated Move). step < d.0) (makings step run)
+  made_later k d l = (makings_later run step (ran v run played at) k d l).1
+
+  made_until : All (λ (d : Dated Move). d.0 ≤ v.horizon) (makings step run)
+  made_until k d l = (let h = (makings_later run step (ran v run played at) k d l).2 in let e = at.engine.run.horizon in omega (arith, h, e))
+
+  pub batch_there : (batch : List (Dated Move)) → batch ≡ makings step run → All (λ (d : Dated Move). d.1.place < length v.part.nets) batch
+  batch_there batch e = subst (λ (ws : List (Dated Move)). All (λ (d : Dated Move). d.1.place < length v.part.nets) ws) (sym e) made_there
+
+  pub batch_later : (batch : List (Dated Move)) → batch ≡ makings step run → All (λ (d : Dated Move). step < d.0) batch
+  batch_later batch e = subst (λ (ws : List (Dated Move)). All (λ (d : Dated Move). step < d.0) ws) (sym e) made_later
+
+  pub batch_until : (batch : List (Dated Move)) → batch ≡ makings step run → All (λ (d : Dated Move). d.0 ≤ v.horizon) batch
+  batch_until batch e = subst (λ (ws : List (Dated Move)). All (λ (d : Dated Move). d.0 ≤ v.horizon) ws) (sym e) made_until

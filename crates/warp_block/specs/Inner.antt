@@ -1,25 +1,4 @@
 -- What only the proofs of this crate need: no contract of a public call speaks of it.
-pub mod Advance
-pub mod Agenda
-pub mod Building
-pub mod Contents
-pub mod Entries
-pub mod Fan
 pub mod Give
+pub mod Held
 pub mod HeldBlock
-pub mod HeldPart
-pub mod Index
-pub mod LastTwo
-pub mod Logs
-pub mod Marks
-pub mod Moments
-pub mod Near
-pub mod Placed
-pub mod Present
-pub mod Receive
-pub mod SamePart
-pub mod StateLists
-pub mod States
-pub mod Step
-pub mod View
-pub mod Woken

@@ -1,15 +1,2 @@
-pub mod Entries
-pub mod Faults
-pub mod Limits
-pub mod Portion
-pub mod View
-pub mod Lawful
-pub mod Sends
-pub mod PartOf
-pub mod SamePart
-pub mod Opening
-pub mod Receive
-pub mod Advance
-pub mod Commit
 pub mod Shown
 pub mod Inner

@@ -1,53 +1,55 @@
 ghost use Rattle.std.specs.Prelude.{◌≡◌, ◌≢◌, ◌+◌, ◌++◌, ◌-◌, ◌≤◌, ◌<◌, ◌↔◌, ◌⊎◌, ℕ, false, vec_len, IsTrue, IfOk, IfErr, OnOk, OnErr, Some, None};
 ghost use Rattle.std.specs.List.{All};
 ghost use Rattle.gate_vcd.specs.Waves.{lists_in, wave_of};
-ghost use Rattle.warp_block.specs.Limits.{most_horizon};
-ghost use Rattle.warp_block.specs.Portion.{owns};
-ghost use Rattle.warp_block.specs.declared.message.Sign.TheVariants.{Plus, Minus};
-ghost use Rattle.warp_block.specs.Entries.{no_messages};
-ghost use Rattle.warp_block.specs.View.{IsLeast, IsEventTime, IsDone, entry_of, log_of};
-ghost use Rattle.warp_block.specs.Lawful.{IsLawful, IsLawfulProcess};
-ghost use Rattle.warp_block.specs.Opening.{silent_view, opening_view, opening_messages};
-ghost use Rattle.warp_block.specs.Receive.{refusal_of, IsRefusal, IsTaken};
-ghost use Rattle.warp_block.specs.Advance.{IsAdvanced, IsAfterEvent};
-ghost use Rattle.warp_block.specs.Commit.{IsCommittable, IsCommitted, IsCommitRefusal};
-ghost use Rattle.warp_block.specs.Sends.{SendsOnce};
+ghost use Rattle.warp_part.specs.Portion.{owns};
+ghost use Rattle.warp_process.specs.Limits.{most_horizon};
+ghost use Rattle.warp_process.specs.declared.message.Sign.TheVariants.{Plus, Minus};
+ghost use Rattle.warp_process.specs.Entries.{no_messages};
+ghost use Rattle.warp_process.specs.View.{IsLeast, IsEventTime, IsDone, entry_of, log_of};
+ghost use Rattle.warp_process.specs.Lawful.{IsLawfulProcess};
+ghost use Rattle.warp_process.specs.Opening.{silent_view, opening_view, opening_messages};
+ghost use Rattle.warp_process.specs.Receive.{refusal_of, IsRefusal, IsTaken};
+ghost use Rattle.warp_process.specs.Advance.{IsAdvanced, IsAfterEvent};
+ghost use Rattle.warp_process.specs.Commit.{IsCommittable, IsCommitted, IsCommitRefusal};
+ghost use Rattle.warp_process.specs.Sends.{SendsOnce};
 
-use crate::agenda::Agenda;
-use crate::entry::Entry;
-use crate::fault::BlockFault;
-use crate::journal::Journal;
+use crate::give::give;
 use crate::look::Look;
-use crate::message::Message;
-use crate::part::{Fan, Part};
-use crate::states::States;
-use crate::woken::Woken;
+use crate::play::advance;
+use crate::rollback::{is_late, roll_back};
+use event_times::Times;
 use gate_values::Change;
 use gate_vcd::Stimulus;
+use part_engine::{begins, next_time, opening_engine};
 use std::alloc::{AllocError, Global};
 use std::marker::Model;
+use warp_engine::Engine;
+use warp_part::Part;
+use warp_process::{BlockFault, Entry, Heard, Message};
+use warp_sends::tell_first;
+use warp_stores::{Batch, Word};
 
-/// A logical process. Beside what it shows it holds which places may have news at which times, which logged something
-/// because of which times, who looks at each place, and the states; the gates are a place to work in.
+/// A logical process: what it has received, whether something happens at time 0 by what its flip-flops begin with, the engine
+/// that plays it, and the event times since its oldest saved state. The batch and the words are places to work in.
 #[derive(Debug, Drop)]
 pub struct Block {
-    look: Look,
-    agenda: Agenda,
-    journal: Journal,
-    fan: Fan,
-    states: States,
-    gates: Woken,
+    heard: Heard,
+    begins: bool,
+    engine: Engine,
+    times: Times,
+    batch: Batch<Word>,
+    words: Vec<Word>,
 }
 
 impl Model for Block {
-    ghost use Rattle.warp_block.specs.View.{Process};
+    ghost use Rattle.warp_process.specs.View.{Process};
 
     ghost Value = { Process };
 
-    ghost use Rattle.warp_block.specs.Shown.Block.{process_of};
+    ghost use Rattle.warp_block.specs.Shown.Block.{process_by};
     ghost use Rattle.warp_block.specs.Inner.HeldBlock.{IsHeldBlock};
 
-    ghost view = { process_of };
+    ghost view = { λ block. process_by block.heard block.engine block.times };
 
     ghost invariant = { IsHeldBlock };
 }
@@ -70,20 +72,17 @@ impl Block {
         ensures told { OnOk result (out.new.items ≡ out.old.items ++ opening_messages part) }
         ensures untold { OnErr result (out.new.items ≡ out.old.items) }
     {
-        let look = Look::new(alloc, part, stimulus, horizon)?;
-        look.law();
-        let agenda = look.opening_agenda()?;
-        let journal = Journal::new(alloc);
-        let fan = Fan::of(alloc, look.part())?;
-        let states = look.first_states()?;
-        look.tell_logged(out)?;
+        let heard = Heard::new(alloc, part, stimulus, horizon)?;
+        let begins = begins(heard.part());
+        let engine = opening_engine(alloc, heard.part(), horizon)?;
+        tell_first(heard.part(), out)?;
         Ok(Block {
-            look,
-            agenda,
-            journal,
-            fan,
-            states,
-            gates: Woken::new(alloc),
+            heard,
+            begins,
+            engine,
+            times: Times::new(alloc),
+            batch: Batch::new(alloc),
+            words: Vec::new(alloc),
         })
     }
 
@@ -92,7 +91,7 @@ impl Block {
     pub fn law(&self)
         ensures { IsLawfulProcess self.now }
     {
-        let _ = &self.states;
+        self.heard.law();
     }
 
     /// Takes one message, or antimessage: the number that it names goes up, or down, by one. Where this changes what
@@ -109,26 +108,22 @@ impl Block {
         ensures err { OnErr result (self.new ≡ self.old) }
         ensures untold { OnErr result (out.new.items ≡ out.old.items) }
     {
-        let (slot, entry) = match self.look.admit(message) {
-            Ok(admitted) => admitted,
-            Err(fault) => return Err(fault),
-        };
-        if self.look.is_straggler(slot, message.time, entry) {
-            self.look.receive_late(
+        let (slot, entry) = self.heard.admit(message)?;
+        if is_late(&self.heard, &self.engine, slot, message.time, entry) {
+            roll_back(
+                &mut self.heard,
+                &mut self.engine,
+                &mut self.times,
+                &mut self.batch,
                 slot,
                 message.time,
                 entry,
-                &mut self.agenda,
-                &mut self.journal,
                 out,
             )?;
-            self.look.law();
-            self.states.roll_back(message.time);
             return Ok(());
         }
-        self.look
-            .receive_in_time(slot, message.time, entry, &mut self.agenda)?;
-        self.look.law();
+        self.heard.put(slot, message.time, entry)?;
+        self.heard.law();
         Ok(())
     }
 
@@ -143,49 +138,20 @@ impl Block {
         ensures some { OnErr result ((count : ℕ) × (count < steps) × IsAdvanced self.old.seen self.new.seen count) }
         ensures sends { SendsOnce self.old.seen self.new.seen Plus (IsAfterEvent self.old.seen) out.old.items out.new.items }
     {
-        for finished in 0..steps {
-            self.law();
-            let Some(time) = self.next_time() else {
-                return Ok(finished);
-            };
-            self.step(time, out)?;
+        if steps == 0 {
+            return Ok(0);
         }
-        Ok(steps)
-    }
-
-    /// Finishes the next event time.
-    fn step(&mut self, time: u64, out: &mut Vec<Message>) -> Result<(), AllocError>
-        requires { IsLeast (IsEventTime self.old.seen) (Some time) }
-        ensures ok { OnOk result (IsAdvanced self.old.seen self.new.seen 1) }
-        ensures mark { OnOk result (self.new.seen.mark ≡ time + 1) }
-        ensures lawful { OnOk result (IsLawful self.new.seen) }
-        ensures sends { OnOk result (SendsOnce self.old.seen self.new.seen Plus (λ t. time < t) out.old.items out.new.items) }
-        ensures err { OnErr result (self.new ≡ self.old) }
-        ensures untold { OnErr result (out.new.items ≡ out.old.items) }
-    {
-        self.look
-            .coast(&self.agenda, &self.fan, &mut self.gates, &mut self.states)?;
-        match self.look.pass(
-            time,
-            &mut self.agenda,
-            &mut self.journal,
-            &self.fan,
-            &mut self.gates,
-            &mut self.states,
+        let finished = advance(
+            &self.heard,
+            self.begins,
+            &mut self.engine,
+            &mut self.times,
+            &mut self.words,
+            &mut self.batch,
+            steps,
             out,
-        ) {
-            Ok(()) => {}
-            Err(error) => {
-                self.states.roll_back(self.look.mark());
-                return Err(error);
-            }
-        }
-        self.look.law();
-        if self.states.is_due() {
-            self.states.save();
-            return Ok(());
-        }
-        Ok(())
+        )?;
+        Ok(finished)
     }
 
     /// Commits everything below a floor, which may be past the horizon: no message may come for it any more. Entries
@@ -200,54 +166,75 @@ impl Block {
         ensures refused { IfErr result (IsCommitRefusal self.old.seen floor) }
         ensures err { OnErr result (self.new ≡ self.old) }
     {
-        self.look.may_commit(&self.agenda, floor)?;
-        self.look.commit(floor);
-        self.states.keep_from(floor);
-        self.agenda.forget_below(self.states.oldest());
-        self.journal.forget_below(floor);
+        self.may_commit(floor)?;
+        self.heard.commit(floor);
+        self.heard.law();
+        self.times.keep_from(floor);
+        self.engine.forget_below(self.times.oldest());
         Ok(())
+    }
+
+    /// Whether what is below a floor can be committed; the first cause to refuse it.
+    fn may_commit(&self, floor: u64) -> Result<(), BlockFault>
+        ensures ok { OnOk result (IsCommittable self.now.seen floor) }
+        ensures err { IfErr result (IsCommitRefusal self.now.seen floor) }
+    {
+        if floor < self.heard.floor() {
+            return Err(BlockFault::FloorBack);
+        }
+        if is_before(self.next_time(), floor) {
+            return Err(BlockFault::Unprocessed);
+        }
+        match self.heard.first_unsettled(floor) {
+            Some((net, time)) => Err(BlockFault::Unsettled { net, time }),
+            None => Ok(()),
+        }
     }
 
     /// What it holds, its saved states aside.
     pub fn look(&self) -> Result<Look, AllocError>
         ensures { IfOk result (λ look. look ≡ self.now.seen) }
     {
-        self.look.copy()
+        let alloc = *self.words.allocator();
+        let lists = self.engine.copy_lists(alloc)?;
+        let heard = self.heard.copy(alloc)?;
+        self.law();
+        Ok(Look::new(heard, self.mark(), lists))
     }
 
     /// The part of the circuit.
     pub fn part(&self) -> &Part
         ensures { result.now ≡ self.now.seen.part }
     {
-        self.look.part()
+        self.heard.part()
     }
 
     /// The last time that counts.
     pub fn horizon(&self) -> u64
         ensures { result ≡ self.now.seen.horizon }
     {
-        self.look.horizon()
+        self.heard.horizon()
     }
 
     /// Everything below it is processed.
     pub fn mark(&self) -> u64
         ensures { result ≡ self.now.seen.mark }
     {
-        self.look.mark()
+        self.engine.mark().max(self.heard.floor())
     }
 
     /// Everything below it is committed: processed, and settled.
     pub fn floor(&self) -> u64
         ensures { result ≡ self.now.seen.floor }
     {
-        self.look.floor()
+        self.heard.floor()
     }
 
     /// The least event time.
     pub fn next_time(&self) -> Option<u64>
         ensures { IsLeast (IsEventTime self.now.seen) result }
     {
-        self.look.next_busy(&self.agenda, self.look.mark())
+        next_time(&self.heard, &self.engine, self.begins)
     }
 
     /// Whether no event time is left.
@@ -262,7 +249,10 @@ impl Block {
     pub fn log(&self, net: u32) -> &[Change]
         ensures { result.now ≡ log_of self.now.seen net }
     {
-        self.look.log(net)
+        match self.heard.part().slot(net) {
+            Some(slot) => self.engine.changes(slot),
+            None => &[],
+        }
     }
 
     /// Gives the log of each own net to its place among lists that have one for each net of the circuit, in place of what
@@ -273,21 +263,32 @@ impl Block {
         ensures own { (n : ℕ) → IsTrue (owns self.seen.part n) → wave_of (lists_in lists.new.items) n ≡ log_of self.seen n }
         ensures others { (n : ℕ) → owns self.seen.part n ≡ false → wave_of (lists_in lists.new.items) n ≡ wave_of (lists_in lists.old.items) n }
     {
-        let Block { look, .. } = self;
-        look.give_logs(lists);
+        let Block { heard, engine, .. } = self;
+        let part = heard.into_part();
+        give(&part, engine.into_lists().into_vec(), lists);
     }
 
     /// The entry of a net at a time; empty for a net that the block doesn't read, and for an own one.
     pub fn entry(&self, net: u32, time: u64) -> Entry
         ensures { result ≡ entry_of self.now.seen net time }
     {
-        self.look.entry(net, time)
+        self.heard.entry(net, time)
     }
 
     /// The least time from a time on at which the entry of a net isn't empty.
     pub fn next_entry(&self, net: u32, from: u64) -> Option<u64>
         ensures { IsLeast (λ t. (from ≤ t) × (entry_of self.now.seen net t ≢ no_messages)) result }
     {
-        self.look.next_entry(net, from)
+        self.heard.next_entry(net, from)
+    }
+}
+
+/// Whether a time, where there is one, is before another.
+fn is_before(time: Option<u64>, end: u64) -> bool
+    ensures { IsTrue result ↔ ((t : ℕ) × (time ≡ Some t) × (t < end)) }
+{
+    match time {
+        Some(time) => time < end,
+        None => false,
     }
 }

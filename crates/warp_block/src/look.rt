@@ -1,58 +1,36 @@
-ghost use Rattle.std.specs.Prelude.{◌≡◌, ◌≢◌, ◌≤◌, ◌<◌, ◌+◌, ◌↔◌, IsTrue, IfOk, IsSome, if◌then◌else◌, length, slice_index};
-ghost use Rattle.warp_block.specs.Limits.{most_horizon};
-ghost use Rattle.warp_block.specs.Entries.{no_messages, IsQueue};
-ghost use Rattle.warp_block.specs.Portion.{slot_of, is_used};
-ghost use Rattle.warp_block.specs.View.{IsLeast, IsEventTime, IsDone, entry_of, log_of, block_value, news_of};
-ghost use Rattle.warp_block.specs.Inner.View.{earlier_of};
-ghost use Rattle.warp_block.specs.Lawful.{IsLawful};
-ghost use Rattle.warp_block.specs.Inner.Advance.{IsQuiet, IsBusyFrom};
-ghost use Rattle.warp_block.specs.Opening.{opening_view, opening_queue};
-ghost use Rattle.warp_block.specs.Receive.{is_for};
+//! What a block holds at a moment.
+ghost use Rattle.std.specs.Prelude.{◌≡◌, ◌≢◌, ◌≤◌, ◌<◌, ◌↔◌, ℕ, IsTrue, IsSome, length, slice_index};
+ghost use Rattle.std.specs.List.Sorted.{IsPartitionPoint};
+ghost use Rattle.gate_values.specs.Changes.{pair_at};
+ghost use Rattle.warp_process.specs.Entries.{no_messages};
+ghost use Rattle.warp_process.specs.View.{IsLeast, IsEventTime, IsDone, entry_of, log_of, news_of};
+ghost use Rattle.warp_process.specs.Lawful.{IsLawful};
+ghost use Rattle.warp_process.specs.Inner.View.{earlier_of};
+ghost use Rattle.warp_process.specs.Inner.Advance.{IsBusyFrom};
+ghost use Rattle.warp_process.specs.Inner.Logs.{IsLog};
 
-mod admit;
-mod busy;
-mod commit;
-mod emit;
-mod give;
-mod late;
-mod listed;
-mod over;
-mod pass;
-mod start;
-
-use crate::entry::Entry;
-use crate::log::Log;
-use crate::message::Message;
-use crate::part::Part;
-use crate::timed::Timed;
-use crate::{log, queue};
-use gate_values::{Change, Logic};
-use gate_vcd::Stimulus;
-use std::alloc::{AllocError, Global};
+use gate_values::Change;
 use std::marker::Model;
-
-/// No horizon is later.
-pub const MOST_HORIZON: u64 = 1_000_000_000_000;
+use warp_part::Part;
+use warp_process::{Entry, Heard};
+use warp_stores::Lists;
 
 /// What a block holds, apart from its saved states: what it has received, what it has computed from that, and how
 /// far it has come. Times are in the stimulus's timescale.
 #[derive(Debug, Drop)]
 pub struct Look {
-    part: Part,
-    horizon: u64,
+    heard: Heard,
     mark: u64,
-    floor: u64,
-    queues: Vec<Vec<Timed>>,
-    logs: Vec<Log>,
+    lists: Lists,
 }
 
 impl Model for Look {
-    ghost use Rattle.warp_block.specs.View.{View};
+    ghost use Rattle.warp_process.specs.View.{View};
 
     ghost Value = { View };
 
     ghost use Rattle.warp_block.specs.Shown.Look.{view_of};
-    ghost use Rattle.warp_block.specs.Lawful.{IsLawful};
+    ghost use Rattle.warp_process.specs.Lawful.{IsLawful};
 
     ghost view = { view_of };
 
@@ -60,34 +38,12 @@ impl Model for Look {
 }
 
 impl Look {
-    /// A block that has received nothing but the stimulus, and has computed nothing: its logs hold the initial
-    /// contents of its flip-flops.
-    pub(crate) fn new(
-        alloc: Global,
-        part: Part,
-        stimulus: &Stimulus,
-        horizon: u64,
-    ) -> Result<Look, AllocError>
-        requires { horizon ≤ most_horizon }
-        ensures { IfOk result (λ look. look ≡ opening_view part stimulus.now horizon) }
+    /// What is received, a mark, and logs that are lawful.
+    pub(crate) fn new(heard: Heard, mark: u64, lists: Lists) -> Look
+        requires { IsLawful (record heard { mark = mark; logs = lists }) }
+        ensures { result ≡ record heard { mark = mark; logs = lists } }
     {
-        let mut queues = Vec::with_capacity(alloc, part.len())?;
-        let mut logs = Vec::with_capacity(alloc, part.len())?;
-        part.law();
-        for slot in 0..part.len() {
-            let queue = opening_queue(alloc, &part, stimulus, horizon, slot)?;
-            queues.push(queue)?;
-            let log = start::opening_log(alloc, part.initial(slot))?;
-            logs.push(log)?;
-        }
-        Ok(Look {
-            part,
-            horizon,
-            mark: 0,
-            floor: 0,
-            queues,
-            logs,
-        })
+        Look { heard, mark, lists }
     }
 
     /// What is true of every block, its saved states aside: entries and mark determine the logs.
@@ -101,14 +57,14 @@ impl Look {
     pub fn part(&self) -> &Part
         ensures { result.now ≡ self.now.part }
     {
-        &self.part
+        self.heard.part()
     }
 
     /// The last time that counts.
     pub fn horizon(&self) -> u64
         ensures { result ≡ self.now.horizon }
     {
-        self.horizon
+        self.heard.horizon()
     }
 
     /// Everything below it is processed.
@@ -122,7 +78,7 @@ impl Look {
     pub fn floor(&self) -> u64
         ensures { result ≡ self.now.floor }
     {
-        self.floor
+        self.heard.floor()
     }
 
     /// The least event time: from the mark to the horizon, one at which something happens to a net that a gate of
@@ -138,13 +94,13 @@ impl Look {
         ensures { IsLeast (IsBusyFrom self.now from) result }
     {
         let mut next = None;
-        for slot in 0..self.part.len() {
-            if self.part.is_used(slot) {
+        for slot in 0..self.part().len() {
+            if self.part().is_used(slot) {
                 next = earlier(next, self.next_news(slot, from));
             }
         }
         match next {
-            Some(time) if time <= self.horizon => Some(time),
+            Some(time) if time <= self.horizon() => Some(time),
             _ => None,
         }
     }
@@ -161,8 +117,8 @@ impl Look {
     pub fn log(&self, net: u32) -> &[Change]
         ensures { result.now ≡ log_of self.now net }
     {
-        match self.part.slot(net) {
-            Some(slot) => self.logs[slot].changes(),
+        match self.part().slot(net) {
+            Some(slot) => self.lists.changes(slot),
             None => &[],
         }
     }
@@ -171,38 +127,14 @@ impl Look {
     pub fn entry(&self, net: u32, time: u64) -> Entry
         ensures { result ≡ entry_of self.now net time }
     {
-        match self.part.slot(net) {
-            Some(slot) => queue::entry_at(&self.queues[slot], time),
-            None => Entry::EMPTY,
-        }
+        self.heard.entry(net, time)
     }
 
     /// The least time from a time on at which the entry of a net isn't empty.
     pub fn next_entry(&self, net: u32, from: u64) -> Option<u64>
         ensures { IsLeast (λ t. (from ≤ t) × (entry_of self.now net t ≢ no_messages)) result }
     {
-        match self.part.slot(net) {
-            Some(slot) => queue::next_kept(&self.queues[slot], from),
-            None => None,
-        }
-    }
-
-    /// The place of a net that a message to the block may name.
-    pub(crate) fn hearing(&self, message: Message) -> Option<usize>
-        ensures { result ≡ (if is_for self.now.part message then slot_of self.now.part.nets message.net else None) }
-    {
-        if message.block != self.part.block() {
-            return None;
-        }
-        self.part.hearing(message.net)
-    }
-
-    /// The entry at a place and time.
-    pub(crate) fn entry_at(&self, slot: usize, time: u64) -> Entry
-        requires { slot < length self.now.part.nets }
-        ensures { result ≡ entry_of self.now (slice_index self.now.part.nets slot) time }
-    {
-        queue::entry_at(&self.queues[slot], time)
+        self.heard.next_entry(net, from)
     }
 
     /// When something happens next to the net at a place, from a time on.
@@ -210,62 +142,29 @@ impl Look {
         requires { slot < length self.now.part.nets }
         ensures { IsLeast (λ t. (from ≤ t) × IsSome (news_of self.now (slice_index self.now.part.nets slot) t)) result }
     {
-        if self.part.is_own(slot) {
-            self.logs[slot].next_change(from)
+        if self.part().is_own(slot) {
+            next_change(self.lists.changes(slot), from)
         } else {
-            queue::next_effective(&self.queues[slot], from)
+            self.heard.next_effective(slot, from)
         }
-    }
-
-    /// The value of the net at a place, at a time up to which the logs reach.
-    fn value(&self, slot: usize, time: u64) -> Logic
-        requires slot { slot < length self.now.part.nets }
-        requires until { time ≤ self.now.horizon }
-        requires quiet { IsQuiet self.now time }
-        ensures { result ≡ block_value self.now (slice_index self.now.part.nets slot) time }
-    {
-        if self.part.is_own(slot) {
-            self.logs[slot].value_at(time)
-        } else {
-            queue::held_at(&self.queues[slot], time)
-        }
-    }
-
-    /// A copy.
-    pub(crate) fn copy(&self) -> Result<Look, AllocError>
-        ensures { IfOk result (λ look. look ≡ self.now) }
-    {
-        let alloc = *self.queues.allocator();
-        Ok(Look {
-            part: self.part.copy()?,
-            horizon: self.horizon,
-            mark: self.mark,
-            floor: self.floor,
-            queues: queue::copies(alloc, &self.queues)?,
-            logs: log::copies(alloc, &self.logs)?,
-        })
     }
 }
 
-/// What a block holds of the net at a place before any message: the changes of an input up to the horizon.
-fn opening_queue(
-    alloc: Global,
-    part: &Part,
-    stimulus: &Stimulus,
-    horizon: u64,
-    slot: usize,
-) -> Result<Vec<Timed>, AllocError>
-    requires { slot < length part.now.nets }
-    ensures changes { IfOk result (λ queue. queue.items ≡ opening_queue part.now stimulus.now horizon (slice_index part.now.nets slot)) }
-    ensures queue { IfOk result (λ queue. IsQueue queue.items) }
+/// The least time from a time on at which a log has a change.
+fn next_change(log: &[Change], from: u64) -> Option<u64>
+    requires { IsLog log.now }
+    ensures { IsLeast (λ t. (from ≤ t) × IsSome (pair_at log.now t)) result }
 {
-    part.law();
-    stimulus.law();
-    if !part.is_input(slot) {
-        return Ok(Vec::new(alloc));
-    }
-    let queue = queue::opening(alloc, stimulus.changes(part.net(slot)), horizon)?;
-    Ok(queue)
+    let change = log.get(count_before(log, from))?;
+    Some(change.time)
+}
+
+/// How many changes of a log are before a time.
+fn count_before(log: &[Change], time: u64) -> usize
+    requires { IsLog log.now }
+    ensures { IsPartitionPoint (λ c. c.time < time) (λ c. time ≤ c.time) log.now result }
+{
+    log.partition_point(|change| change.time < time)
 }
 
 /// The lesser of two times, where there is one.

@@ -5,7 +5,7 @@ use Rattle.clap.specs.Simple.{new_shape}
 use Rattle.clap.specs.declared.builder.action.ArgAction.TheVariants.{Set, SetTrue}
 use Rattle.clap.specs.declared.builder.value_parser.ValueParser.{ValueParser}
 use Rattle.clap.specs.declared.builder.value_parser.ValueParser.TheVariants.{Signed, Unsigned}
-use Rattle.warp_block.specs.Limits.{most_horizon}
+use Rattle.warp_process.specs.Limits.{most_horizon}
 use Rattle.warp_text.specs.declared.options.TheConstants.{MOST_BLOCKS, MOST_WORKERS, MOST_WINDOW}
 
 -- an option that is followed by its value

@@ -3,13 +3,13 @@ use Rattle.std.proofs.Common.{◌≡◌, ℕ, ◌<◌, ◌≤◌, ◌++◌, IsTr
 use Rattle.std.specs.List.{All}
 use Rattle.std.proofs.lemmas.Bool.{cases_eq}
 use Rattle.std.proofs.lemmas.List.Elements.{All-append, All-weaker, All-same}
-use Rattle.warp_block.specs.declared.message.Message.{Message}
-use Rattle.warp_block.specs.Lawful.{IsLawful}
-use Rattle.warp_block.specs.Opening.{opening_view}
-use Rattle.warp_block.specs.PartOf.{part_of}
-use Rattle.warp_block.specs.Portion.{is_input}
-use Rattle.warp_block.specs.Sends.{IsSendOf, Sends}
-use Rattle.warp_block.specs.View.{View, Process, entry_of, IsEventTime}
+use Rattle.warp_process.specs.declared.message.Message.{Message}
+use Rattle.warp_process.specs.Lawful.{IsLawful}
+use Rattle.warp_process.specs.Opening.{opening_view}
+use Rattle.warp_part.specs.PartOf.{part_of}
+use Rattle.warp_part.specs.Portion.{is_input}
+use Rattle.warp_process.specs.Sends.{IsSendOf, Sends}
+use Rattle.warp_process.specs.View.{View, Process, entry_of, IsEventTime}
 use Rattle.warp_core.specs.Matched.{seen_at, EachBlock, IsBlockOf}
 use Rattle.warp_core.specs.World.{Scene, number_at, AreAccounted, IsFlying, IsBefore, IsLawfulWorld}
 use Rattle.warp_core.specs.Play.{IsOtherwiseSame}

@@ -7,13 +7,13 @@ use Rattle.std.proofs.lemmas.List.Sums.{sum_by-append}
 use Rattle.std.proofs.lemmas.List.Elements.{All-weaker}
 use Rattle.gate_netlist.specs.Circuit.{Design, CutFits}
 use Rattle.gate_netlist.specs.Cut.{Ownership, owner_of}
-use Rattle.warp_block.specs.declared.message.Message.{Message}
-use Rattle.warp_block.specs.declared.message.Sign.{Sign}
-use Rattle.warp_block.specs.declared.message.Sign.TheVariants.{Plus, Minus}
-use Rattle.warp_block.specs.PartOf.{part_of}
-use Rattle.warp_block.specs.Portion.{Portion, readers_of}
-use Rattle.warp_block.specs.Sends.{Place, is_change, is_message, is_told, messages, antimessages, standing, IsSendOf, Sends}
-use Rattle.warp_block.specs.View.{View, Process, log_of}
+use Rattle.warp_process.specs.declared.message.Message.{Message}
+use Rattle.warp_process.specs.declared.message.Sign.{Sign}
+use Rattle.warp_process.specs.declared.message.Sign.TheVariants.{Plus, Minus}
+use Rattle.warp_part.specs.PartOf.{part_of}
+use Rattle.warp_part.specs.Portion.{Portion, readers_of}
+use Rattle.warp_process.specs.Sends.{Place, is_change, is_message, is_told, messages, antimessages, standing, IsSendOf, Sends}
+use Rattle.warp_process.specs.View.{View, Process, log_of}
 use Rattle.warp_core.specs.Matched.{no_process, seen_at}
 use Rattle.warp_core.specs.World.{IsHeard, logged, logged_by, AreAccounted, IsFlying}
 use Rattle.warp_core.specs.Play.{IsOtherwiseSame}

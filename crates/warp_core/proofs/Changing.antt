@@ -4,12 +4,12 @@ use Rattle.std.specs.List.{remove}
 use Rattle.std.proofs.lemmas.Bool.{cases_eq}
 use Rattle.std.proofs.lemmas.List.{length-set, get_or-set_same, get_or-set_other, get_or_default}
 use Rattle.std.proofs.lemmas.List.Edits.{remove-append_left}
-use Rattle.warp_block.specs.declared.message.Message.{Message}
-use Rattle.warp_block.specs.declared.message.Sign.{Sign}
-use Rattle.warp_block.specs.Commit.{IsCommitted}
-use Rattle.warp_block.specs.Lawful.{IsLawful}
-use Rattle.warp_block.specs.Sends.{SendsOnce}
-use Rattle.warp_block.specs.View.{View, Process}
+use Rattle.warp_process.specs.declared.message.Message.{Message}
+use Rattle.warp_process.specs.declared.message.Sign.{Sign}
+use Rattle.warp_process.specs.Commit.{IsCommitted}
+use Rattle.warp_process.specs.Lawful.{IsLawful}
+use Rattle.warp_process.specs.Sends.{SendsOnce}
+use Rattle.warp_process.specs.View.{View, Process}
 use Rattle.warp_core.specs.Matched.{no_process, seen_at}
 use Rattle.warp_core.specs.Play.{IsOtherwiseSame}
 use Rattle.warp_core.proofs.Sweeping.{seen_is}

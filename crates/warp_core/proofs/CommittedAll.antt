@@ -6,12 +6,12 @@ use Rattle.std.proofs.lemmas.Bool.{eqb-true}
 use Rattle.std.proofs.lemmas.List.Folds.{Any-from_list_any}
 use Rattle.gate_values.specs.declared.logic.Change.{Change}
 use Rattle.gate_netlist.specs.Cut.{Ownership, IsOwnership, owner_of}
-use Rattle.warp_block.specs.declared.message.Message.{Message}
-use Rattle.warp_block.specs.Commit.{IsCommittable, IsCommitted}
-use Rattle.warp_block.specs.Entries.{number_of}
-use Rattle.warp_block.specs.Lawful.{IsLawful}
-use Rattle.warp_block.specs.Sends.{Place, is_change}
-use Rattle.warp_block.specs.View.{Process}
+use Rattle.warp_process.specs.declared.message.Message.{Message}
+use Rattle.warp_process.specs.Commit.{IsCommittable, IsCommitted}
+use Rattle.warp_process.specs.Entries.{number_of}
+use Rattle.warp_process.specs.Lawful.{IsLawful}
+use Rattle.warp_process.specs.Sends.{Place, is_change}
+use Rattle.warp_process.specs.View.{Process}
 use Rattle.warp_core.specs.Matched.{no_process, seen_at, EachBlock}
 use Rattle.warp_core.specs.World.{Scene, number_at, logged, logged_by, AreAccounted, IsBefore, IsLeft, IsLeastTime, IsLawfulWorld}
 use Rattle.warp_core.proofs.Acted.{scene_with}

@@ -9,19 +9,19 @@ use Rattle.gate_values.specs.declared.logic.Logic.{Logic}
 use Rattle.gate_values.specs.declared.logic.Logic.TheVariants.{Zero, One, X, Z}
 use Rattle.gate_values.specs.Changes.{same}
 use Rattle.gate_netlist.specs.Cut.{owner_of}
-use Rattle.warp_block.specs.declared.entry.Entry.{Entry}
-use Rattle.warp_block.specs.declared.fault.BlockFault.TheVariants.{WrongNet, PastHorizon, BelowFloor, CountLimit}
-use Rattle.warp_block.specs.declared.message.Message.{Message}
-use Rattle.warp_block.specs.declared.message.Sign.{Sign}
-use Rattle.warp_block.specs.declared.message.Sign.TheVariants.{Plus, Minus}
-use Rattle.warp_block.specs.Entries.{number_of, weight_of, most, is_within, bump_of, with_number}
-use Rattle.warp_block.specs.Lawful.{IsLawful}
-use Rattle.warp_block.specs.PartOf.{part_of}
-use Rattle.warp_block.specs.Portion.{Portion, hears, reads, is_input}
-use Rattle.warp_block.specs.Receive.{refusal_of, is_for, does_tell, IsTaken}
-use Rattle.warp_block.specs.Sends.{Place, is_message, same_sign, messages, antimessages, Sends}
-use Rattle.warp_block.specs.View.{View, Process, entry_of}
-use Rattle.warp_block.proofs.Laws.{next_after_receive}
+use Rattle.warp_process.specs.declared.entry.Entry.{Entry}
+use Rattle.warp_process.specs.declared.fault.BlockFault.TheVariants.{WrongNet, PastHorizon, BelowFloor, CountLimit}
+use Rattle.warp_process.specs.declared.message.Message.{Message}
+use Rattle.warp_process.specs.declared.message.Sign.{Sign}
+use Rattle.warp_process.specs.declared.message.Sign.TheVariants.{Plus, Minus}
+use Rattle.warp_process.specs.Entries.{number_of, weight_of, most, is_within, bump_of, with_number}
+use Rattle.warp_process.specs.Lawful.{IsLawful}
+use Rattle.warp_part.specs.PartOf.{part_of}
+use Rattle.warp_part.specs.Portion.{Portion, hears, reads, is_input}
+use Rattle.warp_process.specs.Receive.{refusal_of, is_for, does_tell, IsTaken}
+use Rattle.warp_process.specs.Sends.{Place, is_message, same_sign, messages, antimessages, Sends}
+use Rattle.warp_process.specs.View.{View, Process, entry_of}
+use Rattle.warp_process.proofs.Laws.{next_after_receive}
 use Rattle.warp_core.specs.Matched.{seen_at}
 use Rattle.warp_core.specs.World.{Scene, number_at, logged, logged_by, AreAccounted, IsFlying, IsLawfulWorld}
 use Rattle.warp_core.specs.Play.{IsOtherwiseSame}

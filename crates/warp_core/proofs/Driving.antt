@@ -6,11 +6,11 @@ use Rattle.std.proofs.lemmas.List.Folds.{Any-from_list_any}
 use Rattle.std.proofs.lemmas.List.Sums.{sum_by-cons}
 use Rattle.std.proofs.lemmas.List.{get_or_default}
 use Rattle.std.proofs.lemmas.List.Elements.{All-append, All-weaker, All-same, All-get_or}
-use Rattle.warp_block.specs.declared.message.Message.{Message}
-use Rattle.warp_block.specs.Advance.{IsAfterEvent}
-use Rattle.warp_block.specs.Sends.{IsSendOf}
-use Rattle.warp_block.specs.View.{View, IsEventTime, IsDone}
-use Rattle.warp_block.proofs.Laws.{next_after_receive, next_after_advance, none_before_advance}
+use Rattle.warp_process.specs.declared.message.Message.{Message}
+use Rattle.warp_process.specs.Advance.{IsAfterEvent}
+use Rattle.warp_process.specs.Sends.{IsSendOf}
+use Rattle.warp_process.specs.View.{View, IsEventTime, IsDone}
+use Rattle.warp_process.proofs.Laws.{next_after_receive, next_after_advance, none_before_advance}
 use Rattle.warp_core.specs.declared.event.Event.TheVariants.{Advance}
 use Rattle.warp_core.specs.declared.event.PlayFault.{PlayFault}
 use Rattle.warp_core.specs.declared.event.PlayFault.TheVariants.{NoSuchBlock, NoSuchMessage, Memory}

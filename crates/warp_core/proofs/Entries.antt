@@ -5,11 +5,11 @@ use Rattle.gate_values.specs.declared.logic.Logic.{Logic}
 use Rattle.gate_values.specs.declared.logic.Logic.TheVariants.{Zero, One, X, Z}
 use Rattle.gate_netlist.specs.Cut.{Ownership}
 use Rattle.gate_vcd.specs.Given.{Given}
-use Rattle.warp_block.specs.declared.entry.Entry.{Entry}
-use Rattle.warp_block.specs.Entries.{effective_of, no_messages, one_message, same_entry, is_settled}
-use Rattle.warp_block.specs.Portion.{slot_of, reads, owns}
-use Rattle.warp_block.specs.View.{View, Process, entry_of, IsLeast}
-use Rattle.warp_block.proofs.Settled.{settled_is, settled-none, same_entry_is, same_entry_from}
+use Rattle.warp_process.specs.declared.entry.Entry.{Entry}
+use Rattle.warp_process.specs.Entries.{effective_of, no_messages, one_message, same_entry, is_settled}
+use Rattle.warp_part.specs.Portion.{slot_of, reads, owns}
+use Rattle.warp_process.specs.View.{View, Process, entry_of, IsLeast}
+use Rattle.warp_process.proofs.Settled.{settled_is, settled-none, same_entry_is, same_entry_from}
 use Rattle.warp_core.specs.Matched.{IsSettledBy, IsSettledAt, IsToldAt}
 use Rattle.warp_core.specs.Inner.Walk.{IsEntryFrom}
 

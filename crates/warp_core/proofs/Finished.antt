@@ -10,13 +10,13 @@ use Rattle.gate_vcd.specs.Given.{AreItsChanges}
 use Rattle.gate_vcd.specs.Changes.{last_stamp}
 use Rattle.gate_vcd.specs.Waves.{IsWave, IsUntil}
 use Rattle.gate_vcd.proofs.WaveValues.{changes-IsWave}
-use Rattle.warp_block.specs.Limits.{most_horizon}
-use Rattle.warp_block.specs.Portion.{source_of, owns}
-use Rattle.warp_block.specs.View.{View, IsDone, log_of, effective_at, block_value}
-use Rattle.warp_block.specs.Lawful.{IsLawful}
-use Rattle.warp_block.proofs.Running.{run_log}
-use Rattle.warp_block.proofs.Views.{log_of-lawful}
-use Rattle.warp_block.proofs.Quiet.{quiet_log_to}
+use Rattle.warp_process.specs.Limits.{most_horizon}
+use Rattle.warp_part.specs.Portion.{source_of, owns}
+use Rattle.warp_process.specs.View.{View, IsDone, log_of, effective_at, block_value}
+use Rattle.warp_process.specs.Lawful.{IsLawful}
+use Rattle.warp_process.proofs.Running.{run_log}
+use Rattle.warp_process.proofs.Views.{log_of-lawful}
+use Rattle.warp_process.proofs.Quiet.{quiet_log_to}
 
 -- a list of changes, and its end
 abbrev pub IsWaveUntil : ℕ → List Change → Type 0

@@ -9,12 +9,12 @@ use Rattle.gate_netlist.specs.Circuit.{driver_of, is_input as is_input_driver}
 use Rattle.gate_netlist.specs.Cut.{IsOwnership, owner_of}
 use Rattle.gate_vcd.specs.Given.{AreItsChanges, changes_of}
 use Rattle.gate_vcd.specs.Waves.{IsWaveFrom, end_time}
-use Rattle.warp_block.specs.Entries.{effective_of, no_messages, is_settled}
-use Rattle.warp_block.specs.PartOf.{part_of, part_nets}
-use Rattle.warp_block.specs.Portion.{Portion, slot_of, owns, reads, hears, is_input}
-use Rattle.warp_block.specs.View.{View, entry_of, log_of}
-use Rattle.warp_block.proofs.Filling.{in_map}
-use Rattle.warp_block.proofs.Settled.{settled-none}
+use Rattle.warp_process.specs.Entries.{effective_of, no_messages, is_settled}
+use Rattle.warp_part.specs.PartOf.{part_of, part_nets}
+use Rattle.warp_part.specs.Portion.{Portion, slot_of, owns, reads, hears, is_input}
+use Rattle.warp_process.specs.View.{View, entry_of, log_of}
+use Rattle.warp_core.proofs.Mapped.{in_map}
+use Rattle.warp_process.proofs.Settled.{settled-none}
 use Rattle.warp_core.specs.declared.fault.GatherFault.{GatherFault}
 use Rattle.warp_core.specs.declared.fault.GatherFault.TheVariants.{WrongCount, WrongPart, Unfinished, Unsettled, Mismatch, Memory}
 use Rattle.warp_core.specs.Gather.{IsFault, IsGathered}

@@ -8,12 +8,12 @@ use Rattle.gate_netlist.specs.Circuit.{Design, CutFits, nets_of}
 use Rattle.gate_netlist.specs.Cut.{Ownership, IsOwnership, is_owner, owner_of}
 use Rattle.gate_vcd.specs.Given.{Given, AreItsChanges, changes_of}
 use Rattle.gate_vcd.specs.Waves.{wave_of, IsWave}
-use Rattle.warp_block.specs.Limits.{most_horizon}
-use Rattle.warp_block.specs.Portion.{Portion, owns}
-use Rattle.warp_block.specs.PartOf.{is_own}
-use Rattle.warp_block.specs.View.{View, Process, log_of}
-use Rattle.warp_block.specs.Lawful.{IsLawful}
-use Rattle.warp_block.proofs.PartBuilding.{nets_within}
+use Rattle.warp_process.specs.Limits.{most_horizon}
+use Rattle.warp_part.specs.Portion.{Portion, owns}
+use Rattle.warp_part.specs.PartOf.{is_own}
+use Rattle.warp_process.specs.View.{View, Process, log_of}
+use Rattle.warp_process.specs.Lawful.{IsLawful}
+use Rattle.warp_part.proofs.PartBuilding.{nets_within}
 use Rattle.warp_core.specs.Matched.{no_process, seen_at, IsBlockOf, EachBlock, told_by, told_of}
 use Rattle.warp_core.specs.Gather.{AreCounted}
 use Rattle.warp_core.specs.Inner.Gather.{after_block, after_blocks}

@@ -7,13 +7,13 @@ use Rattle.std.proofs.lemmas.List.Folds.{Any-from_list_any}
 use Rattle.gate_netlist.specs.Circuit.{Design, CutFits, nets_of, driver_of, is_input as is_input_driver, source_of as circuit_source}
 use Rattle.gate_netlist.specs.Cut.{Ownership, is_owner, owner_of}
 use Rattle.gate_values.specs.Behaviour.{Outside}
-use Rattle.warp_block.specs.Inner.Building.{has}
-use Rattle.warp_block.specs.Portion.{Portion, is_driven, source_of, owns, reads, hears, is_input, readers_of, slot_of}
-use Rattle.warp_block.specs.PartOf.{is_own, is_used_by, part_nets, part_source, part_readers, part_of}
-use Rattle.warp_block.proofs.Slots.{of_net-map, slot_is}
-use Rattle.warp_block.proofs.Filling.{in_map}
-use Rattle.warp_block.proofs.PartLists.{has_kept, has_at, kept_below}
-use Rattle.warp_block.proofs.PartBuilding.{nets_rise, slot_some}
+use Rattle.warp_part.specs.Inner.Building.{has}
+use Rattle.warp_part.specs.Portion.{Portion, is_driven, source_of, owns, reads, hears, is_input, readers_of, slot_of}
+use Rattle.warp_part.specs.PartOf.{is_own, is_used_by, part_nets, part_source, part_readers, part_of}
+use Rattle.warp_part.proofs.Slots.{of_net-map, slot_is}
+use Rattle.warp_core.proofs.Mapped.{in_map}
+use Rattle.warp_part.proofs.PartLists.{has_kept, has_at, kept_below}
+use Rattle.warp_part.proofs.PartBuilding.{nets_rise, slot_some}
 use Rattle.warp_core.proofs.Parts.{owner_owns, net_within}
 
 owner_of_own : (b : ℕ) (o : Option ℕ) → is_owner b o ≡ true → o ≡ Some b

@@ -3,7 +3,7 @@ use Rattle.std.proofs.Common.{◌≡◌, ℕ, ◌+◌, ◌<◌, ◌≤◌, ◌++
 use Rattle.std.proofs.lemmas.List.{take_more, take_all, length-take-le, length-set, take_more_set, drop-set-lt, get_or-drop, drop-drop, append-nil}
 use Rattle.std.specs.List.{All}
 use Rattle.std.proofs.lemmas.List.Elements.{All-get_or}
-use Rattle.warp_block.specs.declared.message.Message.{Message}
+use Rattle.warp_process.specs.declared.message.Message.{Message}
 use Rattle.warp_core.specs.Inner.Turns.{left}
 use Rattle.warp_core.specs.Inner.Turns.{IsKept}
 use Rattle.warp_core.proofs.Leaving.{left-append, left_one, left_none}

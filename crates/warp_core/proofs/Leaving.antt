@@ -3,7 +3,7 @@ use Rattle.std.proofs.Common.{◌≡◌, ◌≢◌, ℕ, suc, ◌+◌, ◌-◌, 
 use Rattle.std.specs.List.{All, count_by}
 use Rattle.std.proofs.lemmas.Bool.{cases_eq, cases_lt, eq-eqb, ne_eqb, eqb-true, leb-true, true≢false}
 use Rattle.std.proofs.lemmas.List.Sums.{sum_by-cons, get_or-le-sum_by}
-use Rattle.warp_block.specs.declared.message.Message.{Message}
+use Rattle.warp_process.specs.declared.message.Message.{Message}
 use Rattle.warp_core.specs.Inner.Turns.{left, places_for}
 
 le-leb : (a b : ℕ) → a ≤ b → nat_le a b ≡ true

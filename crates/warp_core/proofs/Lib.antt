@@ -1,3 +1,4 @@
+pub mod Mapped
 pub mod Parts
 pub mod Finished
 pub mod Matching

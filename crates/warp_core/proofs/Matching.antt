@@ -12,11 +12,11 @@ use Rattle.gate_values.proofs.ChangeLists.{held-changes, pair_at-changes, change
 use Rattle.gate_netlist.specs.Circuit.{Design, CutFits, nets_of, source_of as circuit_source}
 use Rattle.gate_netlist.specs.Cut.{Ownership, IsOwnership, owner_of}
 use Rattle.gate_vcd.specs.Given.{Given, AreItsChanges, value_at, changes_of}
-use Rattle.warp_block.specs.Limits.{most_horizon}
-use Rattle.warp_block.specs.Portion.{Portion, owns, reads, slot_of, source_of}
-use Rattle.warp_block.specs.View.{View, Process, effective_at, given_by as received, block_value, log_of}
-use Rattle.warp_block.specs.Lawful.{IsLawful}
-use Rattle.warp_block.proofs.Views.{IsUsed, over_used}
+use Rattle.warp_process.specs.Limits.{most_horizon}
+use Rattle.warp_part.specs.Portion.{Portion, owns, reads, slot_of, source_of}
+use Rattle.warp_process.specs.View.{View, Process, effective_at, given_by as received, block_value, log_of}
+use Rattle.warp_process.specs.Lawful.{IsLawful}
+use Rattle.warp_process.proofs.Views.{IsUsed, over_used}
 use Rattle.warp_core.specs.Matched.{seen_at, EachBlock, AreMatched, told_by, told_of}
 use Rattle.warp_core.specs.Values.{given_by, value_under}
 use Rattle.warp_core.proofs.Parts.{read_outside, unowned_outside, own_source, owner_owns, net_within}

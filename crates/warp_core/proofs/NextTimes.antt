@@ -5,8 +5,8 @@ use Rattle.std.proofs.lemmas.Bool.{cases_eq, cases_lt}
 use Rattle.std.proofs.lemmas.List.{length-set, get_or-set_same, get_or-set_other, get_or_append_left, get_or_push, length_push, length-take-le, get_or-take}
 use Rattle.std.proofs.lemmas.List.Elements.{All-weaker}
 use Rattle.std.proofs.lemmas.List.Sums.{sum_by-cons}
-use Rattle.warp_block.specs.declared.message.Message.{Message}
-use Rattle.warp_block.specs.View.{View, Process, IsEventTime, IsLeast}
+use Rattle.warp_process.specs.declared.message.Message.{Message}
+use Rattle.warp_process.specs.View.{View, Process, IsEventTime, IsLeast}
 use Rattle.warp_core.specs.declared.flight.Soonest.{Soonest}
 use Rattle.warp_core.specs.Inner.Kept.{IsSoonest, IsNextTime, AreNextTimes, IsLeastOf}
 use Rattle.warp_core.specs.Matched.{no_process, seen_at}

@@ -7,11 +7,11 @@ use Rattle.gate_netlist.specs.Circuit.{Design, CutFits, nets_of, driver_of, sour
 use Rattle.gate_netlist.specs.Cut.{Ownership, is_owner, owner_of}
 use Rattle.gate_netlist.specs.declared.driver.Driver.{Driver}
 use Rattle.gate_netlist.specs.declared.driver.Driver.TheVariants.{Input, Gate, Flop}
-use Rattle.warp_block.specs.Portion.{Portion, is_driven, source_of, owns, reads, slot_of}
-use Rattle.warp_block.specs.PartOf.{is_own, is_used_by, part_nets, part_source, part_of}
-use Rattle.warp_block.proofs.Slots.{of_net-map, slot_is}
-use Rattle.warp_block.proofs.PartLists.{has_kept}
-use Rattle.warp_block.proofs.PartBuilding.{is_net, nets_rise, nets_within, slot_some}
+use Rattle.warp_part.specs.Portion.{Portion, is_driven, source_of, owns, reads, slot_of}
+use Rattle.warp_part.specs.PartOf.{is_own, is_used_by, part_nets, part_source, part_of}
+use Rattle.warp_part.proofs.Slots.{of_net-map, slot_is}
+use Rattle.warp_part.proofs.PartLists.{has_kept}
+use Rattle.warp_part.proofs.PartBuilding.{is_net, nets_rise, nets_within, slot_some}
 
 owner_is : (b : ℕ) (o : Option ℕ) → is_owner b o ≡ true → o ≡ Some b
 owner_is b None e = absurd cc

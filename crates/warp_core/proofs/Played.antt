@@ -2,14 +2,14 @@
 use Rattle.std.proofs.Common.{◌≡◌, ℕ, ◌+◌, ◌<◌, ◌≤◌, Result, Ok, Err, IfOk, OnErr, List, length, get_or, refl, arith}
 use Rattle.std.specs.List.{All, remove}
 use Rattle.std.proofs.lemmas.List.Elements.{All-weaker}
-use Rattle.warp_block.specs.declared.fault.BlockFault.{BlockFault}
-use Rattle.warp_block.specs.declared.message.Message.{Message}
-use Rattle.warp_block.specs.declared.message.Sign.TheVariants.{Plus, Minus}
-use Rattle.warp_block.specs.Advance.{IsAdvanced, IsAfterEvent}
-use Rattle.warp_block.specs.Lawful.{IsLawful}
-use Rattle.warp_block.specs.Receive.{IsTaken}
-use Rattle.warp_block.specs.Sends.{SendsOnce}
-use Rattle.warp_block.specs.View.{View, Process}
+use Rattle.warp_process.specs.declared.fault.BlockFault.{BlockFault}
+use Rattle.warp_process.specs.declared.message.Message.{Message}
+use Rattle.warp_process.specs.declared.message.Sign.TheVariants.{Plus, Minus}
+use Rattle.warp_process.specs.Advance.{IsAdvanced, IsAfterEvent}
+use Rattle.warp_process.specs.Lawful.{IsLawful}
+use Rattle.warp_process.specs.Receive.{IsTaken}
+use Rattle.warp_process.specs.Sends.{SendsOnce}
+use Rattle.warp_process.specs.View.{View, Process}
 use Rattle.warp_core.specs.Matched.{seen_at}
 use Rattle.warp_core.specs.World.{Scene, IsFlying, IsBefore, IsLeastTime, IsLawfulWorld}
 use Rattle.warp_core.specs.Play.{IsSameCourse, IsOtherwiseSame, IsDelivered, IsRun}

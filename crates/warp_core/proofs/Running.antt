@@ -1,14 +1,14 @@
 -- A block finishes event times.
 use Rattle.std.proofs.Common.{◌≡◌, ℕ, ◌<◌, List, [], inl, inr, ap, sym, ◌∙◌, subst, arith}
 use Rattle.std.proofs.lemmas.Bool.{cases_eq}
-use Rattle.warp_block.specs.declared.message.Message.{Message}
-use Rattle.warp_block.specs.Advance.{IsAdvanced, IsAfterEvent}
-use Rattle.warp_block.specs.Entries.{Received, number_of, entry_in}
-use Rattle.warp_block.specs.Lawful.{IsLawful}
-use Rattle.warp_block.specs.Portion.{Portion, of_net}
-use Rattle.warp_block.specs.Sends.{Place, Sends}
-use Rattle.warp_block.specs.View.{View, Process, entry_of}
-use Rattle.warp_block.proofs.Laws.{none_before_advance}
+use Rattle.warp_process.specs.declared.message.Message.{Message}
+use Rattle.warp_process.specs.Advance.{IsAdvanced, IsAfterEvent}
+use Rattle.warp_process.specs.Entries.{Received, number_of, entry_in}
+use Rattle.warp_process.specs.Lawful.{IsLawful}
+use Rattle.warp_part.specs.Portion.{Portion, of_net}
+use Rattle.warp_process.specs.Sends.{Place, Sends}
+use Rattle.warp_process.specs.View.{View, Process, entry_of}
+use Rattle.warp_process.proofs.Laws.{none_before_advance}
 use Rattle.warp_core.specs.Matched.{seen_at}
 use Rattle.warp_core.specs.World.{Scene, number_at, IsLawfulWorld}
 use Rattle.warp_core.specs.Play.{IsOtherwiseSame}

@@ -11,20 +11,20 @@ use Rattle.gate_values.specs.Changes.{same, pair_at, before_time}
 use Rattle.gate_netlist.specs.Cut.{owner_of}
 use Rattle.gate_vcd.specs.Given.{changes_of}
 use Rattle.gate_vcd.specs.Waves.{IsWaveFrom}
-use Rattle.warp_block.specs.declared.entry.Entry.{Entry}
-use Rattle.warp_block.specs.declared.message.Message.{Message}
-use Rattle.warp_block.specs.declared.message.Sign.{Sign}
-use Rattle.warp_block.specs.declared.message.Sign.TheVariants.{Plus, Minus}
-use Rattle.warp_block.specs.Entries.{Received, number_of, effective_of, no_messages, one_message, is_settled, entry_in}
-use Rattle.warp_block.specs.Opening.{message_of, opening_queue}
-use Rattle.warp_block.specs.PartOf.{part_of, part_nets}
-use Rattle.warp_block.specs.Portion.{Portion, slot_of, owns, reads, hears, is_input}
-use Rattle.warp_block.specs.Sends.{Place, is_change, is_message, same_sign}
-use Rattle.warp_block.specs.View.{View, entry_of, log_of, queue_of}
-use Rattle.warp_block.proofs.Filling.{in_map}
-use Rattle.warp_block.proofs.Settled.{settled-none, settled-one}
-use Rattle.warp_block.proofs.Slots.{slot_is}
-use Rattle.warp_block.proofs.Told.{count-none}
+use Rattle.warp_process.specs.declared.entry.Entry.{Entry}
+use Rattle.warp_process.specs.declared.message.Message.{Message}
+use Rattle.warp_process.specs.declared.message.Sign.{Sign}
+use Rattle.warp_process.specs.declared.message.Sign.TheVariants.{Plus, Minus}
+use Rattle.warp_process.specs.Entries.{Received, number_of, effective_of, no_messages, one_message, is_settled, entry_in}
+use Rattle.warp_process.specs.Opening.{message_of, opening_queue}
+use Rattle.warp_part.specs.PartOf.{part_of, part_nets}
+use Rattle.warp_part.specs.Portion.{Portion, slot_of, owns, reads, hears, is_input}
+use Rattle.warp_process.specs.Sends.{Place, is_change, is_message, same_sign}
+use Rattle.warp_process.specs.View.{View, entry_of, log_of, queue_of}
+use Rattle.warp_core.proofs.Mapped.{in_map}
+use Rattle.warp_process.proofs.Settled.{settled-none, settled-one}
+use Rattle.warp_part.proofs.Slots.{slot_is}
+use Rattle.warp_process.proofs.Told.{count-none}
 use Rattle.warp_core.specs.Matched.{seen_at}
 use Rattle.warp_core.specs.World.{Scene, logged, logged_by, IsBefore, IsLawfulWorld}
 use Rattle.warp_core.proofs.Delivering.{entry_from}

@@ -6,8 +6,8 @@ use Rattle.std.proofs.lemmas.List.{take-append-le, take_all, length-take-le, len
 use Rattle.std.proofs.lemmas.List.Sums.{count_by_more_yes, count_by_more_no, sum_by-remove, count_by-le-length}
 use Rattle.std.proofs.lemmas.List.Edits.{length-remove}
 use Rattle.std.proofs.lemmas.List.Elements.{All-append, All-weaker, All-more, All-take, All-drop, All-nil, All-get_or}
-use Rattle.warp_block.specs.declared.message.Message.{Message}
-use Rattle.warp_block.proofs.Told.{count-none}
+use Rattle.warp_process.specs.declared.message.Message.{Message}
+use Rattle.warp_process.proofs.Told.{count-none}
 use Rattle.warp_core.specs.declared.flight.Soonest.{Soonest}
 use Rattle.warp_core.specs.Inner.Kept.{IsSoonest, with_time}
 

@@ -11,18 +11,18 @@ use Rattle.gate_netlist.specs.Circuit.{Design, CutFits}
 use Rattle.gate_netlist.specs.Cut.{Ownership, owner_of}
 use Rattle.gate_netlist.proofs.Grouping.{range_more}
 use Rattle.gate_vcd.specs.Given.{Given, Fits}
-use Rattle.warp_block.specs.Limits.{most_horizon}
-use Rattle.warp_block.specs.declared.message.Message.{Message}
-use Rattle.warp_block.specs.declared.message.Sign.TheVariants.{Plus}
-use Rattle.warp_block.specs.Entries.{Received, number_of, no_messages, entry_in}
-use Rattle.warp_block.specs.Lawful.{IsLawful}
-use Rattle.warp_block.specs.Opening.{silent_view, opening_view, opening_queue, opening_messages}
-use Rattle.warp_block.specs.PartOf.{part_of, part_nets}
-use Rattle.warp_block.specs.Portion.{slot_of, owns, reads, hears, is_input}
-use Rattle.warp_block.specs.Sends.{Place, SendsOnce}
-use Rattle.warp_block.specs.View.{View, Process, entry_of, log_of}
-use Rattle.warp_block.proofs.Filling.{in_map}
-use Rattle.warp_block.proofs.Slots.{of_net-map}
+use Rattle.warp_process.specs.Limits.{most_horizon}
+use Rattle.warp_process.specs.declared.message.Message.{Message}
+use Rattle.warp_process.specs.declared.message.Sign.TheVariants.{Plus}
+use Rattle.warp_process.specs.Entries.{Received, number_of, no_messages, entry_in}
+use Rattle.warp_process.specs.Lawful.{IsLawful}
+use Rattle.warp_process.specs.Opening.{silent_view, opening_view, opening_queue, opening_messages}
+use Rattle.warp_part.specs.PartOf.{part_of, part_nets}
+use Rattle.warp_part.specs.Portion.{slot_of, owns, reads, hears, is_input}
+use Rattle.warp_process.specs.Sends.{Place, SendsOnce}
+use Rattle.warp_process.specs.View.{View, Process, entry_of, log_of}
+use Rattle.warp_core.proofs.Mapped.{in_map}
+use Rattle.warp_part.proofs.Slots.{of_net-map}
 use Rattle.warp_core.specs.Matched.{no_process, seen_at}
 use Rattle.warp_core.specs.Inner.Opened.{AreOpened}
 use Rattle.warp_core.specs.World.{number_at, logged_by, IsFlying, IsBefore, IsLawfulWorld, IsNewWorld}

@@ -2,12 +2,12 @@
 use Rattle.std.proofs.Common.{◌≡◌, ℕ, ◌<◌, ◌≤◌, Option, Some, None, List, length, get_or, refl, ap, ◌∙◌, subst, arith, inl, inr}
 use Rattle.std.specs.List.Sorted.{IsStrictlyIncreasing}
 use Rattle.std.proofs.lemmas.Bool.{cases_lt}
-use Rattle.warp_block.specs.Portion.{slot_of}
-use Rattle.warp_block.proofs.Slots.{slot_is}
-use Rattle.warp_block.proofs.PartPlaces.{ascends}
+use Rattle.warp_part.specs.Portion.{slot_of}
+use Rattle.warp_part.proofs.Slots.{slot_is}
+use Rattle.warp_part.proofs.PartPlaces.{ascends}
 use Rattle.std.proofs.lemmas.List.{get_or_default}
 use Rattle.gate_netlist.specs.Cut.{Ownership}
-use Rattle.warp_block.specs.View.{View, Process}
+use Rattle.warp_process.specs.View.{View, Process}
 use Rattle.warp_core.specs.Matched.{no_process, seen_at}
 use Rattle.warp_core.specs.Gather.{IsFirst, IsFirstBlock}
 

@@ -4,14 +4,14 @@ use Rattle.std.specs.List.{All, remove}
 use Rattle.std.proofs.lemmas.Bool.{cases_eq}
 use Rattle.std.proofs.lemmas.List.Elements.{All-get_or, All-weaker, All-append, All-same}
 use Rattle.std.proofs.lemmas.List.{length-append, get_or-append_right, length-set, get_or-set_same, get_or-set_other}
-use Rattle.warp_block.specs.declared.message.Message.{Message}
-use Rattle.warp_block.specs.declared.message.Sign.{Sign}
-use Rattle.warp_block.specs.declared.message.Sign.TheVariants.{Plus, Minus}
-use Rattle.warp_block.specs.Advance.{IsAdvanced, IsAfterEvent}
-use Rattle.warp_block.specs.Lawful.{IsLawful}
-use Rattle.warp_block.specs.Receive.{IsTaken}
-use Rattle.warp_block.specs.Sends.{IsSendOf, SendsOnce}
-use Rattle.warp_block.specs.View.{View, Process}
+use Rattle.warp_process.specs.declared.message.Message.{Message}
+use Rattle.warp_process.specs.declared.message.Sign.{Sign}
+use Rattle.warp_process.specs.declared.message.Sign.TheVariants.{Plus, Minus}
+use Rattle.warp_process.specs.Advance.{IsAdvanced, IsAfterEvent}
+use Rattle.warp_process.specs.Lawful.{IsLawful}
+use Rattle.warp_process.specs.Receive.{IsTaken}
+use Rattle.warp_process.specs.Sends.{IsSendOf, SendsOnce}
+use Rattle.warp_process.specs.View.{View, Process}
 use Rattle.warp_core.specs.declared.turns.Course.{Course}
 use Rattle.warp_core.specs.Drive.{IsReached}
 use Rattle.warp_core.specs.Inner.Turns.{left, place_in, places_for, scene_left, AreSentLater, IsOpen}

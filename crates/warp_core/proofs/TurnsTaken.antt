@@ -4,8 +4,8 @@ use Rattle.std.specs.List.{All, range_with_len, count_by}
 use Rattle.std.proofs.lemmas.Bool.{cases_eq, cases_lt}
 use Rattle.std.proofs.lemmas.List.{append-nil, append_assoc, drop_more, drop_all, take_at, get_or-set_same, get_or-set_other, get_or-replicate, get_or_past, length-replicate}
 use Rattle.std.proofs.lemmas.List.Elements.{All-append, All-same, All-weaker, All-get_or}
-use Rattle.warp_block.specs.declared.message.Message.{Message}
-use Rattle.warp_block.specs.View.{View, Process, is_busy, busy_times}
+use Rattle.warp_process.specs.declared.message.Message.{Message}
+use Rattle.warp_process.specs.View.{View, Process, is_busy, busy_times}
 use Rattle.warp_core.specs.declared.turns.Course.{Course}
 use Rattle.warp_core.specs.declared.turns.waiting.Waiting.{Waiting}
 use Rattle.warp_core.specs.Drive.{IsOrder, IsReached, AreReached, IsTurn, AreTurns, IsTurnBegun, flying_to}

@@ -7,8 +7,8 @@ use Rattle.gate_values.specs.declared.logic.Logic.{Logic}
 use Rattle.gate_values.specs.declared.logic.Change.{Change}
 use Rattle.gate_values.specs.Changes.{pair_at}
 use Rattle.gate_vcd.specs.Waves.{IsWaveFrom, end_time}
-use Rattle.warp_block.specs.Entries.{no_messages, effective_of}
-use Rattle.warp_block.specs.View.{View, entry_of, effective_at, IsLeast}
+use Rattle.warp_process.specs.Entries.{no_messages, effective_of}
+use Rattle.warp_process.specs.View.{View, entry_of, effective_at, IsLeast}
 use Rattle.warp_core.specs.Matched.{IsSettledAt, IsTold}
 use Rattle.warp_core.specs.Inner.Walk.{IsEntryFrom, IsNext, IsToldFrom, IsWalked}
 use Rattle.warp_core.proofs.Entries.{settled_value, settled_empty}

@@ -4,7 +4,7 @@ use Rattle.std.specs.List.{All, count_by}
 use Rattle.gate_netlist.specs.Circuit.{Design}
 use Rattle.gate_netlist.specs.Cut.{Ownership}
 use Rattle.gate_vcd.specs.Given.{Given}
-use Rattle.warp_block.specs.declared.message.Message.{Message}
+use Rattle.warp_process.specs.declared.message.Message.{Message}
 use Rattle.warp_core.specs.declared.driver.DriveFault.{DriveFault}
 use Rattle.warp_core.specs.declared.driver.DriveFault.TheVariants.{Memory, BadOrder}
 use Rattle.warp_core.specs.declared.event.Event.TheVariants.{Deliver, Advance, Commit}

@@ -4,7 +4,7 @@ use Rattle.gate_values.specs.declared.logic.Change.{Change}
 use Rattle.gate_netlist.specs.Circuit.{Design}
 use Rattle.gate_netlist.specs.Cut.{Ownership}
 use Rattle.gate_vcd.specs.Given.{Given}
-use Rattle.warp_block.specs.View.{View, Process, IsDone}
+use Rattle.warp_process.specs.View.{View, Process, IsDone}
 use Rattle.warp_core.specs.declared.fault.GatherFault.{GatherFault}
 use Rattle.warp_core.specs.declared.fault.GatherFault.TheVariants.{WrongCount, WrongPart, Unfinished, Unsettled, Mismatch, Memory}
 use Rattle.warp_core.specs.Matched.{seen_at, IsBlockOf, IsSettledBy, IsSettledAt, AreSettled, IsToldAt, AreTold, EachBlock, AreMatched}

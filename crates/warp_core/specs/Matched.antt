@@ -5,10 +5,10 @@ use Rattle.gate_values.specs.Changes.{pair_at, before_time}
 use Rattle.gate_netlist.specs.Circuit.{Design}
 use Rattle.gate_netlist.specs.Cut.{Ownership, owner_of}
 use Rattle.gate_vcd.specs.Given.{Given, changes_of}
-use Rattle.warp_block.specs.Entries.{is_settled}
-use Rattle.warp_block.specs.Portion.{reads}
-use Rattle.warp_block.specs.PartOf.{part_of}
-use Rattle.warp_block.specs.View.{View, Process, entry_of, effective_at, log_of, IsDone}
+use Rattle.warp_process.specs.Entries.{is_settled}
+use Rattle.warp_part.specs.Portion.{reads}
+use Rattle.warp_part.specs.PartOf.{part_of}
+use Rattle.warp_process.specs.View.{View, Process, entry_of, effective_at, log_of, IsDone}
 
 -- a block without nets
 abbrev pub no_process : Process

@@ -1,13 +1,13 @@
 -- What an event does to a world, and when it is refused.
 use Rattle.std.specs.Prelude.{◌≡◌, ◌≢◌, ℕ, ◌<◌, ◌≤◌, ◌⊎◌, List, length, get_or, codes}
 use Rattle.std.specs.List.{remove}
-use Rattle.warp_block.specs.declared.message.Message.{Message}
-use Rattle.warp_block.specs.declared.message.Sign.TheVariants.{Plus, Minus}
-use Rattle.warp_block.specs.Advance.{IsAdvanced, IsAfterEvent}
-use Rattle.warp_block.specs.Commit.{IsCommitted}
-use Rattle.warp_block.specs.Receive.{IsTaken}
-use Rattle.warp_block.specs.Sends.{SendsOnce}
-use Rattle.warp_block.specs.View.{Process, IsDone}
+use Rattle.warp_process.specs.declared.message.Message.{Message}
+use Rattle.warp_process.specs.declared.message.Sign.TheVariants.{Plus, Minus}
+use Rattle.warp_process.specs.Advance.{IsAdvanced, IsAfterEvent}
+use Rattle.warp_process.specs.Commit.{IsCommitted}
+use Rattle.warp_process.specs.Receive.{IsTaken}
+use Rattle.warp_process.specs.Sends.{SendsOnce}
+use Rattle.warp_process.specs.View.{Process, IsDone}
 use Rattle.warp_core.specs.declared.event.Event.{Event}
 use Rattle.warp_core.specs.declared.event.Event.TheVariants.{Deliver, Advance, Commit}
 use Rattle.warp_core.specs.declared.event.PlayFault.{PlayFault}

@@ -4,15 +4,15 @@ use Rattle.std.specs.List.{All, list_any, flat_map, range_with_len}
 use Rattle.gate_netlist.specs.Circuit.{Design, CutFits}
 use Rattle.gate_netlist.specs.Cut.{Ownership, owner_of}
 use Rattle.gate_vcd.specs.Given.{Given, Fits}
-use Rattle.warp_block.specs.declared.message.Message.{Message}
-use Rattle.warp_block.specs.Entries.{number_of}
-use Rattle.warp_block.specs.Lawful.{IsLawful}
-use Rattle.warp_block.specs.Limits.{most_horizon}
-use Rattle.warp_block.specs.Opening.{opening_view, opening_messages}
-use Rattle.warp_block.specs.PartOf.{part_of}
-use Rattle.warp_block.specs.Portion.{hears, is_input}
-use Rattle.warp_block.specs.Sends.{Place, is_change, messages, antimessages}
-use Rattle.warp_block.specs.View.{Process, entry_of, log_of, IsEventTime}
+use Rattle.warp_process.specs.declared.message.Message.{Message}
+use Rattle.warp_process.specs.Entries.{number_of}
+use Rattle.warp_process.specs.Lawful.{IsLawful}
+use Rattle.warp_process.specs.Limits.{most_horizon}
+use Rattle.warp_process.specs.Opening.{opening_view, opening_messages}
+use Rattle.warp_part.specs.PartOf.{part_of}
+use Rattle.warp_part.specs.Portion.{hears, is_input}
+use Rattle.warp_process.specs.Sends.{Place, is_change, messages, antimessages}
+use Rattle.warp_process.specs.View.{Process, entry_of, log_of, IsEventTime}
 use Rattle.warp_core.specs.Matched.{seen_at, EachBlock, IsBlockOf}
 
 -- what a world is of, its blocks in order, and the messages in flight in order

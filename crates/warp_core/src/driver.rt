@@ -1,7 +1,7 @@
 ghost use Rattle.std.specs.Prelude.{◌≡◌, Some, ◌≤◌, ◌+◌, ℕ, IfOk, IfErr, OnOk, OnErr};
 ghost use Rattle.gate_netlist.specs.Circuit.{CutFits};
 ghost use Rattle.gate_vcd.specs.Given.{Fits};
-ghost use Rattle.warp_block.specs.Limits.{most_horizon};
+ghost use Rattle.warp_process.specs.Limits.{most_horizon};
 ghost use Rattle.warp_core.specs.Values.{AreCircuitWaves};
 ghost use Rattle.warp_core.specs.World.{IsLeastTime};
 ghost use Rattle.warp_core.specs.Play.{IsSameCourse};

@@ -1,9 +1,9 @@
 ghost use Rattle.std.specs.Prelude.{◌≡◌, ◌<◌, ◌≤◌, ◌↔◌, ℕ, IsTrue, IfOk, IfErr, OnOk, MatchOption, length};
 ghost use Rattle.gate_netlist.specs.Circuit.{CutFits};
 ghost use Rattle.gate_vcd.specs.Given.{Fits};
-ghost use Rattle.warp_block.specs.Limits.{most_horizon};
-ghost use Rattle.warp_block.specs.View.{IsDone};
-ghost use Rattle.warp_block.specs.Lawful.{IsLawful};
+ghost use Rattle.warp_process.specs.Limits.{most_horizon};
+ghost use Rattle.warp_process.specs.View.{IsDone};
+ghost use Rattle.warp_process.specs.Lawful.{IsLawful};
 ghost use Rattle.warp_core.specs.Matched.{seen_at, IsBlockOf, EachBlock, AreMatched};
 ghost use Rattle.warp_core.specs.Gather.{AreCounted, IsFirstBlock, IsFault, IsGathered};
 

@@ -3,7 +3,7 @@
 
 ghost use Rattle.std.specs.Prelude.{◌≡◌, ◌≢◌, ◌<◌, ◌≤◌, ◌++◌, ◌∷◌, ◌+◌, ℕ, List, [], IfOk, OnOk, OnErr, IfErr, replicate, length, get_or, set};
 ghost use Rattle.std.specs.List.{All};
-ghost use Rattle.warp_block.specs.declared.message.Message.{Message as Sent};
+ghost use Rattle.warp_process.specs.declared.message.Message.{Message as Sent};
 ghost use Rattle.warp_core.specs.World.{Scene, IsBefore, IsLawfulWorld};
 ghost use Rattle.warp_core.specs.Play.{IsPlayed, IsRefused, IsAfterRefusal};
 ghost use Rattle.warp_core.specs.Drive.{IsOrder, IsReached, IsTurn, IsTurnBegun};

@@ -1,7 +1,7 @@
 ghost use Rattle.std.specs.Prelude.{◌≡◌, ◌≤◌, ◌<◌, ◌+◌, ℕ, Some, None, IfOk, IfErr, IfNone, IfSome, OnOk, OnErr, length, get_or};
 ghost use Rattle.gate_netlist.specs.Circuit.{CutFits};
 ghost use Rattle.gate_vcd.specs.Given.{Fits};
-ghost use Rattle.warp_block.specs.Limits.{most_horizon};
+ghost use Rattle.warp_process.specs.Limits.{most_horizon};
 ghost use Rattle.warp_core.specs.Matched.{no_process, EachBlock};
 ghost use Rattle.warp_core.specs.Gather.{IsGathered};
 ghost use Rattle.warp_core.specs.World.{Scene, IsBefore, IsLeastTime, IsLawfulWorld, IsNewWorld};

@@ -4,14 +4,14 @@ use Rattle.std.proofs.lemmas.List.Elements.{All-append, All-same, All-weaker}
 use Rattle.gate_netlist.specs.Circuit.{Design, CutFits}
 use Rattle.gate_netlist.specs.Cut.{Ownership}
 use Rattle.gate_vcd.specs.Given.{Given}
-use Rattle.warp_block.specs.declared.message.Message.{Message}
-use Rattle.warp_block.specs.declared.message.Sign.TheVariants.{Plus}
-use Rattle.warp_block.specs.Lawful.{IsLawfulProcess}
-use Rattle.warp_block.specs.Opening.{silent_view}
-use Rattle.warp_block.specs.Portion.{Portion}
-use Rattle.warp_block.specs.PartOf.{part_of}
-use Rattle.warp_block.specs.Sends.{SendsOnce}
-use Rattle.warp_block.specs.View.{View, Process}
+use Rattle.warp_process.specs.declared.message.Message.{Message}
+use Rattle.warp_process.specs.declared.message.Sign.TheVariants.{Plus}
+use Rattle.warp_process.specs.Lawful.{IsLawfulProcess}
+use Rattle.warp_process.specs.Opening.{silent_view}
+use Rattle.warp_part.specs.Portion.{Portion}
+use Rattle.warp_part.specs.PartOf.{part_of}
+use Rattle.warp_process.specs.Sends.{SendsOnce}
+use Rattle.warp_process.specs.View.{View, Process}
 use Rattle.warp_core.specs.declared.fault.GatherFault.{GatherFault}
 use Rattle.warp_core.specs.declared.fault.GatherFault.TheVariants as gathering
 use Rattle.warp_core.specs.Gather.{IsFault}

@@ -5,9 +5,9 @@ use Rattle.std.specs.List.{Any}
 use Rattle.std.proofs.Math.Seq.{get_or-append_seam}
 use Rattle.std.proofs.lemmas.List.{take_all, take_more, get_or_append_left}
 use Rattle.std.proofs.lemmas.List.Quantifiers.{Any-push}
-use Rattle.warp_block.specs.declared.message.Message.{Message}
-use Rattle.warp_block.specs.View.{View, IsLeast}
-use Rattle.warp_block.specs.Inner.View.{earlier_of}
+use Rattle.warp_process.specs.declared.message.Message.{Message}
+use Rattle.warp_process.specs.View.{View, IsLeast}
+use Rattle.warp_process.specs.Inner.View.{earlier_of}
 use Rattle.warp_rounds.specs.Turn.{IsPending}
 
 -- what some item of a list has, or one more item

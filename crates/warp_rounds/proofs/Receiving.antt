@@ -3,18 +3,18 @@ use Rattle.std.proofs.Common.{◌≡◌, ℕ, ◌+◌, ◌<◌, inl, inr, List, 
 use Rattle.std.specs.List.{Any}
 use Rattle.std.proofs.lemmas.Int.{ints}
 use Rattle.std.proofs.lemmas.List.{take_more, take-append-drop, get_or_default}
-use Rattle.warp_block.specs.declared.message.Message.{Message}
-use Rattle.warp_block.specs.declared.message.Sign.TheVariants.{Minus}
-use Rattle.warp_block.specs.Entries.{number_of}
-use Rattle.warp_block.specs.View.{View, Process, IsEventTime, entry_of}
-use Rattle.warp_block.specs.Lawful.{IsLawful}
-use Rattle.warp_block.specs.Receive.{IsRefusal, refusal_of}
-use Rattle.warp_block.specs.declared.fault.BlockFault.{BlockFault}
-use Rattle.warp_block.specs.Sends.{SendsOnce}
-use Rattle.warp_block.proofs.Sends.{sends_nothing, sends_then, sends_for}
+use Rattle.warp_process.specs.declared.message.Message.{Message}
+use Rattle.warp_process.specs.declared.message.Sign.TheVariants.{Minus}
+use Rattle.warp_process.specs.Entries.{number_of}
+use Rattle.warp_process.specs.View.{View, Process, IsEventTime, entry_of}
+use Rattle.warp_process.specs.Lawful.{IsLawful}
+use Rattle.warp_process.specs.Receive.{IsRefusal, refusal_of}
+use Rattle.warp_process.specs.declared.fault.BlockFault.{BlockFault}
+use Rattle.warp_process.specs.Sends.{SendsOnce}
+use Rattle.warp_process.proofs.Sends.{sends_nothing, sends_then, sends_for}
 use Rattle.warp_rounds.specs.Turn.{IsReceived, AreReceived, AddsUp, IsAfterPending, IsRefusedAt}
 use Rattle.warp_rounds.specs.Inner.Turn.{IsFromPending, HasReceived}
-use Rattle.warp_block.proofs.Laws.{next_after_receive}
+use Rattle.warp_process.proofs.Laws.{next_after_receive}
 
 -- ---- what the messages change and keep
 

@@ -1,16 +1,16 @@
 -- A turn: what its calls change, keep and send, joined.
 use Rattle.std.proofs.Common.{◌≡◌, ℕ, inl, inr, List, [], refl, sym, ap, ◌∙◌, subst, arith}
-use Rattle.warp_block.specs.declared.message.Message.{Message}
-use Rattle.warp_block.specs.declared.message.Sign.TheVariants.{Plus}
-use Rattle.warp_block.specs.declared.fault.BlockFault.{BlockFault}
-use Rattle.warp_block.specs.declared.entry.Entry.{Entry}
-use Rattle.warp_block.specs.Entries.{entry_in, number_of}
-use Rattle.warp_block.specs.Portion.{Portion, of_net}
-use Rattle.warp_block.specs.View.{View, Process, IsEventTime, entry_of}
-use Rattle.warp_block.specs.Advance.{IsAdvanced, IsAfterEvent}
-use Rattle.warp_block.specs.Commit.{IsCommitted, IsCommitRefusal}
-use Rattle.warp_block.specs.Sends.{Sends, SendsOnce}
-use Rattle.warp_block.proofs.Sends.{same_standing, sends_nothing, sends_then, sends_for}
+use Rattle.warp_process.specs.declared.message.Message.{Message}
+use Rattle.warp_process.specs.declared.message.Sign.TheVariants.{Plus}
+use Rattle.warp_process.specs.declared.fault.BlockFault.{BlockFault}
+use Rattle.warp_process.specs.declared.entry.Entry.{Entry}
+use Rattle.warp_process.specs.Entries.{entry_in, number_of}
+use Rattle.warp_part.specs.Portion.{Portion, of_net}
+use Rattle.warp_process.specs.View.{View, Process, IsEventTime, entry_of}
+use Rattle.warp_process.specs.Advance.{IsAdvanced, IsAfterEvent}
+use Rattle.warp_process.specs.Commit.{IsCommitted, IsCommitRefusal}
+use Rattle.warp_process.specs.Sends.{Sends, SendsOnce}
+use Rattle.warp_process.proofs.Sends.{same_standing, sends_nothing, sends_then, sends_for}
 use Rattle.warp_rounds.specs.Turn.{AreReceived, AddsUp, IsAfterPending, IsFaultyTurn}
 use Rattle.warp_rounds.specs.Inner.Turn.{IsFromPending}
 use Rattle.warp_rounds.proofs.Receiving.{received_part, received_horizon, received_numbers}

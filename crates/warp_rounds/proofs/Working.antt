@@ -3,9 +3,9 @@ use Rattle.std.proofs.Common.{◌≡◌, ℕ, ◌<◌, ◌≤◌, ◌⊎◌, inl
 use Rattle.std.proofs.lemmas.List.Elements.{All-nil, All-head, All-tail, All-push}
 use Rattle.std.proofs.lemmas.List.Sums.{fold-append}
 use Rattle.std.proofs.lemmas.Bool.{true≢false}
-use Rattle.warp_block.specs.declared.message.Message.{Message}
-use Rattle.warp_block.specs.declared.fault.BlockFault.{BlockFault}
-use Rattle.warp_block.specs.declared.fault.BlockFault.TheVariants as block
+use Rattle.warp_process.specs.declared.message.Message.{Message}
+use Rattle.warp_process.specs.declared.fault.BlockFault.{BlockFault}
+use Rattle.warp_process.specs.declared.fault.BlockFault.TheVariants as block
 use Rattle.warp_rounds.specs.declared.fault.RunFault.{RunFault}
 use Rattle.warp_rounds.specs.declared.fault.RunFault.TheVariants.{Block, Stalled, Gather, NoThread, Memory}
 use Rattle.warp_rounds.specs.declared.round.EndFault.{EndFault}

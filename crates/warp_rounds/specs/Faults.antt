@@ -1,7 +1,7 @@
 -- The faults of a run and of a round, and their numbers: want of memory in a block or in gathering is want of memory of the run.
 use Rattle.std.specs.Prelude.{ℕ}
-use Rattle.warp_block.specs.declared.fault.BlockFault.{BlockFault}
-use Rattle.warp_block.specs.declared.fault.BlockFault.TheVariants as block
+use Rattle.warp_process.specs.declared.fault.BlockFault.{BlockFault}
+use Rattle.warp_process.specs.declared.fault.BlockFault.TheVariants as block
 use Rattle.warp_core.specs.declared.fault.GatherFault.{GatherFault}
 use Rattle.warp_core.specs.declared.fault.GatherFault.TheVariants as gathering
 use Rattle.warp_rounds.specs.declared.fault.RunFault.{RunFault}

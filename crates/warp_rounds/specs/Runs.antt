@@ -4,11 +4,11 @@ use Rattle.std.specs.List.{All, Any}
 use Rattle.gate_netlist.specs.Circuit.{Design}
 use Rattle.gate_netlist.specs.Cut.{Ownership}
 use Rattle.gate_vcd.specs.Given.{Given}
-use Rattle.warp_block.specs.declared.message.Message.{Message}
-use Rattle.warp_block.specs.declared.fault.BlockFault.{BlockFault}
-use Rattle.warp_block.specs.declared.fault.BlockFault.TheVariants as block
-use Rattle.warp_block.specs.View.{Process}
-use Rattle.warp_block.specs.Lawful.{IsLawfulProcess}
+use Rattle.warp_process.specs.declared.message.Message.{Message}
+use Rattle.warp_process.specs.declared.fault.BlockFault.{BlockFault}
+use Rattle.warp_process.specs.declared.fault.BlockFault.TheVariants as block
+use Rattle.warp_process.specs.View.{Process}
+use Rattle.warp_process.specs.Lawful.{IsLawfulProcess}
 use Rattle.warp_core.specs.declared.fault.GatherFault.{GatherFault}
 use Rattle.warp_core.specs.declared.fault.GatherFault.TheVariants as gathering
 use Rattle.warp_core.specs.Gather.{IsFault}

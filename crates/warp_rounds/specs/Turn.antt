@@ -2,15 +2,15 @@
 use Rattle.std.specs.Prelude.{◌≡◌, ℕ, ◌+◌, ◌<◌, ◌⊎◌, ℤ, pos, ◌+ℤ◌, if◌then◌else◌, Option, None, unwrap_or, List, [], ◌∷◌, ◌++◌, drop, length}
 use Rattle.std.specs.List.{Any}
 use Rattle.gate_values.specs.declared.logic.Logic.{Logic}
-use Rattle.warp_block.specs.declared.message.Message.{Message}
-use Rattle.warp_block.specs.declared.fault.BlockFault.{BlockFault}
-use Rattle.warp_block.specs.declared.fault.BlockFault.TheVariants.{Memory}
-use Rattle.warp_block.specs.Entries.{number_of, weight_of}
-use Rattle.warp_block.specs.View.{View, Process, entry_of, IsEventTime, IsLeast, IsDone}
-use Rattle.warp_block.specs.Lawful.{IsLawful}
-use Rattle.warp_block.specs.Receive.{does_tell, refusal_of, IsRefusal, IsTaken}
-use Rattle.warp_block.specs.Advance.{IsAdvanced}
-use Rattle.warp_block.specs.Commit.{IsCommittable, IsCommitted, IsCommitRefusal}
+use Rattle.warp_process.specs.declared.message.Message.{Message}
+use Rattle.warp_process.specs.declared.fault.BlockFault.{BlockFault}
+use Rattle.warp_process.specs.declared.fault.BlockFault.TheVariants.{Memory}
+use Rattle.warp_process.specs.Entries.{number_of, weight_of}
+use Rattle.warp_process.specs.View.{View, Process, entry_of, IsEventTime, IsLeast, IsDone}
+use Rattle.warp_process.specs.Lawful.{IsLawful}
+use Rattle.warp_process.specs.Receive.{does_tell, refusal_of, IsRefusal, IsTaken}
+use Rattle.warp_process.specs.Advance.{IsAdvanced}
+use Rattle.warp_process.specs.Commit.{IsCommittable, IsCommitted, IsCommitRefusal}
 
 -- ---- messages, one after another
 

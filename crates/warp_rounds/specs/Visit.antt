@@ -1,10 +1,10 @@
 -- What a visit of a site does: under the site's lock its block takes a turn. Which block the lock kept no clause can say.
 use Rattle.std.specs.Prelude.{ℕ, ◌<◌, ◌≤◌, List}
-use Rattle.warp_block.specs.declared.message.Message.{Message}
-use Rattle.warp_block.specs.declared.fault.BlockFault.{BlockFault}
-use Rattle.warp_block.specs.View.{Process}
-use Rattle.warp_block.specs.Lawful.{IsLawfulProcess}
-use Rattle.warp_block.specs.Sends.{Sends}
+use Rattle.warp_process.specs.declared.message.Message.{Message}
+use Rattle.warp_process.specs.declared.fault.BlockFault.{BlockFault}
+use Rattle.warp_process.specs.View.{Process}
+use Rattle.warp_process.specs.Lawful.{IsLawfulProcess}
+use Rattle.warp_process.specs.Sends.{Sends}
 use Rattle.warp_rounds.specs.Turn.{IsTurn, IsFaultyTurn, IsAfterPending, IsLeastPending, put_behind}
 
 -- so many event times fit into a window: not more than it has, and at least one if it has any

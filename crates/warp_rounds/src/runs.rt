@@ -2,8 +2,8 @@
 ghost use Rattle.std.specs.Prelude.{◌≡◌, ◌≤◌, ◌<◌, ◌^◌, IfOk, IfErr, All, length, vec_len};
 ghost use Rattle.gate_netlist.specs.Circuit.{CutFits};
 ghost use Rattle.gate_vcd.specs.Given.{Fits};
-ghost use Rattle.warp_block.specs.Limits.{most_horizon};
-ghost use Rattle.warp_block.specs.Lawful.{IsLawfulProcess};
+ghost use Rattle.warp_process.specs.Limits.{most_horizon};
+ghost use Rattle.warp_process.specs.Lawful.{IsLawfulProcess};
 ghost use Rattle.warp_core.specs.Values.{AreCircuitWaves};
 ghost use Rattle.warp_rounds.specs.declared.fault.RunFault.TheVariants as fault;
 ghost use Rattle.warp_rounds.specs.Runs.{IsRunFault};

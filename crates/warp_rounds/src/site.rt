@@ -1,5 +1,5 @@
 ghost use Rattle.std.specs.Prelude.{◌≡◌, ℕ, IfOk, IfErr, OnOk, []};
-ghost use Rattle.warp_block.specs.Lawful.{IsLawful, IsLawfulProcess};
+ghost use Rattle.warp_process.specs.Lawful.{IsLawful, IsLawfulProcess};
 ghost use Rattle.warp_rounds.specs.Turn.{IsTurn, StaysInFront};
 ghost use Rattle.warp_rounds.specs.Visit.{Fits, IsVisit, IsFaultyVisit};
 

@@ -1,7 +1,7 @@
 ghost use Rattle.std.specs.Prelude.{◌≡◌, ◌⊎◌, ℕ, IfOk, IfErr, OnOk};
-ghost use Rattle.warp_block.specs.View.{IsEventTime, IsLeast};
-ghost use Rattle.warp_block.specs.Inner.View.{earlier_of};
-ghost use Rattle.warp_block.specs.Sends.{Sends};
+ghost use Rattle.warp_process.specs.View.{IsEventTime, IsLeast};
+ghost use Rattle.warp_process.specs.Inner.View.{earlier_of};
+ghost use Rattle.warp_process.specs.Sends.{Sends};
 ghost use Rattle.warp_rounds.specs.Turn.{AreReceived, AddsUp, IsPending, IsAfterPending, IsLeastPending, IsRefusedAt, IsTurn, IsFaultyTurn, put_behind};
 ghost use Rattle.warp_rounds.specs.Inner.Turn.{IsFromPending, AreFelt};
 

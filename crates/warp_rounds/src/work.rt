@@ -1,6 +1,6 @@
 //! One round of workers: each draws blocks until none is left, and lets each block that it drew take a turn.
 ghost use Rattle.std.specs.Prelude.{◌≡◌, ◌+◌, ◌<◌, ◌≤◌, ◌^◌, List, [], IfOk, IfErr, All, length, vec_len};
-ghost use Rattle.warp_block.specs.declared.message.Message.{Message};
+ghost use Rattle.warp_process.specs.declared.message.Message.{Message};
 ghost use Rattle.warp_rounds.specs.Words.{never};
 ghost use Rattle.warp_rounds.specs.Seats.{empty_seat};
 ghost use Rattle.warp_rounds.specs.Visit.{IsVisit};

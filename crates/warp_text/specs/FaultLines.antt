@@ -12,8 +12,8 @@ use Rattle.gate_vcd.specs.declared.fault.StimFault.{StimFault}
 use Rattle.only_nets.specs.Names.{only_cause_name}
 use Rattle.only_nets.specs.declared.fault.OnlyCause.TheVariants as only
 use Rattle.only_nets.specs.declared.fault.OnlyFault.{OnlyFault}
-use Rattle.warp_block.specs.Faults.{block_fault_name}
-use Rattle.warp_block.specs.declared.fault.BlockFault.TheVariants as block
+use Rattle.warp_process.specs.Faults.{block_fault_name}
+use Rattle.warp_process.specs.declared.fault.BlockFault.TheVariants as block
 use Rattle.warp_core.specs.Gather.{gather_fault_name}
 use Rattle.warp_core.specs.Play.{play_fault_name}
 use Rattle.warp_core.specs.Schedule.{schedule_cause_name}

@@ -1,7 +1,7 @@
 -- What may be chosen for a run beside its texts.
 use Rattle.std.specs.Prelude.{ℕ, ◌≤◌, Option}
 use Rattle.std.specs.Option.{ForSome}
-use Rattle.warp_block.specs.Limits.{most_horizon}
+use Rattle.warp_process.specs.Limits.{most_horizon}
 use Rattle.warp_text.specs.declared.options.TheConstants.{MOST_BLOCKS, MOST_WORKERS, MOST_WINDOW}
 
 -- the time at which the dump ends, the number of blocks where it is chosen, of workers, and of event times a turn

@@ -2,7 +2,7 @@
 
 ghost use Rattle.std.specs.Prelude.{◌≡◌, ◌≤◌, IfOk, codes};
 ghost use Rattle.gate_vcd.specs.Dump.{vcd_text};
-ghost use Rattle.warp_block.specs.Limits.{most_horizon};
+ghost use Rattle.warp_process.specs.Limits.{most_horizon};
 ghost use Rattle.warp_core.specs.Values.{value_under, AreCircuitWaves};
 
 use gate_netlist::Circuit;

@@ -1,6 +1,6 @@
 //! From texts to a dump in which some nets alone are told.
 ghost use Rattle.std.specs.Prelude.{◌≡◌, ◌≤◌, IfOk, codes, option_map};
-ghost use Rattle.warp_block.specs.Limits.{most_horizon};
+ghost use Rattle.warp_process.specs.Limits.{most_horizon};
 ghost use Rattle.warp_core.specs.Values.{value_under, AreCircuitWaves};
 ghost use Rattle.vcd_only.specs.Told.{told_text};
 ghost use Rattle.warp_text.specs.Only.{IsToldAnswer, IsToldReplay};

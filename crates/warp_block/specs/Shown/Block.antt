@@ -1,7 +1,21 @@
 -- What contracts see of a block.
-use Rattle.warp_block.specs.declared.block.Block.TheInside.{Inside}
-use Rattle.warp_block.specs.View.{Process}
-use Rattle.warp_block.specs.Shown.States.{saved_by}
+use Rattle.std.specs.Prelude.{ℕ, max, List, map}
+use Rattle.event_times.specs.Marks.{Played, marks_of}
+use Rattle.warp_engine.specs.Runs.{Run}
+use Rattle.warp_process.specs.View.{View, Saved, Process}
+use Rattle.part_engine.specs.Runs.{state_of}
 
-abbrev pub process_of : Inside → Process
-process_of block = record { seen = block.look; saved = saved_by block.states }
+-- everything below it is processed: what the engine has played, and what is committed
+abbrev pub mark_by : View → Run → ℕ
+mark_by v run = max run.book.mark v.floor
+
+-- what was received, up to the mark, with the engine's lists as logs
+abbrev pub seen_by : View → Run → View
+seen_by v run = record v { mark = mark_by v run; logs = run.lists }
+
+-- the saved states: at each mark what the history brings back
+abbrev pub saved_by : Run → Played → List Saved
+saved_by run played = map (state_of run.book) (marks_of played)
+
+abbrev pub process_by : View → Run → Played → Process
+process_by v run played = record { seen = seen_by v run; saved = saved_by run played }

@@ -1,7 +1,7 @@
 -- What only proofs need beside `Drive`.
 use Rattle.std.specs.Prelude.{◌≡◌, ℕ, ◌<◌}
 use Rattle.std.specs.List.{All}
-use Rattle.warp_block.specs.View.{IsEventTime}
+use Rattle.warp_process.specs.View.{IsEventTime}
 use Rattle.warp_core.specs.Matched.{seen_at}
 use Rattle.warp_core.specs.World.{Scene}
 

@@ -1,8 +1,8 @@
 -- Blocks give their logs away, one after another.
 use Rattle.std.specs.Prelude.{ℕ, if◌then◌else◌, List, [], ◌∷◌}
 use Rattle.gate_values.specs.declared.logic.Change.{Change}
-use Rattle.warp_block.specs.Portion.{owns}
-use Rattle.warp_block.specs.View.{View, Process, log_of}
+use Rattle.warp_part.specs.Portion.{owns}
+use Rattle.warp_process.specs.View.{View, Process, log_of}
 
 -- the list of a net after a block has given its logs: its log of an own net, of others what was there
 abbrev pub after_block : View → (ℕ → List Change) → ℕ → List Change

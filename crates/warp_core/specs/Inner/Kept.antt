@@ -1,8 +1,8 @@
 -- What a world keeps so that its least time is near.
 use Rattle.std.specs.Prelude.{◌≡◌, ℕ, ◌+◌, ◌<◌, ◌≤◌, ◌==◌, ◌⊎◌, nat_lt, if◌then◌else◌, List, length, get_or}
 use Rattle.std.specs.List.{All, count_by}
-use Rattle.warp_block.specs.declared.message.Message.{Message}
-use Rattle.warp_block.specs.View.{View, Process, IsEventTime}
+use Rattle.warp_process.specs.declared.message.Message.{Message}
+use Rattle.warp_process.specs.View.{View, Process, IsEventTime}
 use Rattle.warp_core.specs.declared.flight.Soonest.{Soonest}
 use Rattle.warp_core.specs.Matched.{seen_at}
 

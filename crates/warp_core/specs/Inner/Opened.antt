@@ -4,11 +4,11 @@ use Rattle.std.specs.List.{All, flat_map, range_with_len}
 use Rattle.gate_netlist.specs.Circuit.{Design}
 use Rattle.gate_netlist.specs.Cut.{Ownership}
 use Rattle.gate_vcd.specs.Given.{Given}
-use Rattle.warp_block.specs.declared.message.Message.{Message}
-use Rattle.warp_block.specs.Lawful.{IsLawful}
-use Rattle.warp_block.specs.Opening.{opening_view, opening_messages}
-use Rattle.warp_block.specs.PartOf.{part_of}
-use Rattle.warp_block.specs.View.{Process}
+use Rattle.warp_process.specs.declared.message.Message.{Message}
+use Rattle.warp_process.specs.Lawful.{IsLawful}
+use Rattle.warp_process.specs.Opening.{opening_view, opening_messages}
+use Rattle.warp_part.specs.PartOf.{part_of}
+use Rattle.warp_process.specs.View.{Process}
 use Rattle.warp_core.specs.Matched.{seen_at}
 use Rattle.warp_core.specs.World.{AreAccounted, IsFlying}
 

@@ -1,8 +1,8 @@
 -- A world while its blocks have their turns: a message that has reached its block stands in the list until all are over.
 use Rattle.std.specs.Prelude.{◌≡◌, ℕ, suc, ◌<◌, ◌≤◌, ◌≢◌, ◌==◌, ◌&&◌, ◌++◌, nat_le, if◌then◌else◌, List, [], ◌∷◌, length, get_or, take, drop}
 use Rattle.std.specs.List.{All}
-use Rattle.warp_block.specs.declared.message.Message.{Message}
-use Rattle.warp_block.specs.View.{Process}
+use Rattle.warp_process.specs.declared.message.Message.{Message}
+use Rattle.warp_process.specs.View.{Process}
 use Rattle.warp_core.specs.declared.turns.Course.{Course}
 use Rattle.warp_core.specs.Drive.{AreReached, AreTurns, IsTurnBegun}
 use Rattle.warp_core.specs.Inner.Drive.{IsPast}

@@ -1,6 +1,6 @@
 -- Of the messages in flight the places for each block are listed.
 use Rattle.std.specs.Prelude.{◌≡◌, ℕ, List, [], length, get_or, map}
-use Rattle.warp_block.specs.declared.message.Message.{Message}
+use Rattle.warp_process.specs.declared.message.Message.{Message}
 use Rattle.warp_core.specs.declared.turns.waiting.Waiting.{Waiting}
 use Rattle.warp_core.specs.Inner.Turns.{places_for}
 

@@ -4,8 +4,8 @@ use Rattle.gate_values.specs.declared.logic.Logic.{Logic}
 use Rattle.gate_values.specs.declared.logic.Change.{Change}
 use Rattle.gate_values.specs.Changes.{pair_at}
 use Rattle.gate_vcd.specs.Waves.{IsWaveFrom, end_time}
-use Rattle.warp_block.specs.Entries.{no_messages}
-use Rattle.warp_block.specs.View.{View, entry_of, effective_at, IsLeast}
+use Rattle.warp_process.specs.Entries.{no_messages}
+use Rattle.warp_process.specs.View.{View, entry_of, effective_at, IsLeast}
 use Rattle.warp_core.specs.Matched.{IsTold}
 
 -- from a time on something stands or waits at this time

@@ -2,14 +2,14 @@
 
 ghost use Rattle.std.specs.Prelude.{◌≡◌, ◌<◌, ◌≤◌, ◌⊎◌, ℕ, None, IfOk, IfErr, OnOk, OnErr, length, get_or};
 ghost use Rattle.std.specs.List.{remove};
-ghost use Rattle.warp_block.specs.declared.message.Sign.TheVariants.{Plus, Minus};
-ghost use Rattle.warp_block.specs.declared.fault.BlockFault.TheVariants as fault;
-ghost use Rattle.warp_block.specs.Receive.{refusal_of, IsTaken};
-ghost use Rattle.warp_block.specs.Advance.{IsAdvanced, IsAfterEvent};
-ghost use Rattle.warp_block.specs.Commit.{IsCommittable, IsCommitted};
-ghost use Rattle.warp_block.specs.Lawful.{IsLawful};
-ghost use Rattle.warp_block.specs.Sends.{SendsOnce};
-ghost use Rattle.warp_block.specs.View.{IsDone};
+ghost use Rattle.warp_process.specs.declared.message.Sign.TheVariants.{Plus, Minus};
+ghost use Rattle.warp_process.specs.declared.fault.BlockFault.TheVariants as fault;
+ghost use Rattle.warp_process.specs.Receive.{refusal_of, IsTaken};
+ghost use Rattle.warp_process.specs.Advance.{IsAdvanced, IsAfterEvent};
+ghost use Rattle.warp_process.specs.Commit.{IsCommittable, IsCommitted};
+ghost use Rattle.warp_process.specs.Lawful.{IsLawful};
+ghost use Rattle.warp_process.specs.Sends.{SendsOnce};
+ghost use Rattle.warp_process.specs.View.{IsDone};
 ghost use Rattle.warp_core.specs.Matched.{no_process, seen_at};
 ghost use Rattle.warp_core.specs.Play.{IsOtherwiseSame};
 ghost use Rattle.warp_core.specs.Inner.Kept.{IsNextTime, AreNextTimes};

@@ -3,7 +3,7 @@
 ghost use Rattle.std.specs.Prelude.{◌≡◌, ◌≤◌, [], IfOk, OnOk};
 ghost use Rattle.gate_netlist.specs.Circuit.{CutFits};
 ghost use Rattle.gate_vcd.specs.Given.{Fits};
-ghost use Rattle.warp_block.specs.Limits.{most_horizon};
+ghost use Rattle.warp_process.specs.Limits.{most_horizon};
 ghost use Rattle.warp_core.specs.Inner.Kept.{AreNextTimes};
 ghost use Rattle.warp_core.specs.Inner.Opened.{AreOpened};
 

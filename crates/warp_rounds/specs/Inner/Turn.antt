@@ -1,9 +1,9 @@
 -- What only proofs need beside `Turn`.
 use Rattle.std.specs.Prelude.{◌≡◌, ℕ, ◌-◌, ◌≤◌, List}
-use Rattle.warp_block.specs.declared.message.Message.{Message}
-use Rattle.warp_block.specs.View.{View, IsEventTime}
-use Rattle.warp_block.specs.Lawful.{IsLawful}
-use Rattle.warp_block.specs.Sends.{Sends}
+use Rattle.warp_process.specs.declared.message.Message.{Message}
+use Rattle.warp_process.specs.View.{View, IsEventTime}
+use Rattle.warp_process.specs.Lawful.{IsLawful}
+use Rattle.warp_process.specs.Sends.{Sends}
 use Rattle.warp_rounds.specs.Turn.{AreReceived, IsPending, IsAfterPending}
 
 -- by how much the messages, received one after another, take the mark back, and with it finished event times

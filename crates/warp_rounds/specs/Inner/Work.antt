@@ -2,8 +2,8 @@
 use Rattle.std.specs.Prelude.{◌≡◌, ℕ, ◌<◌, ◌≤◌, min, true, List, [], length, fold, Option, Some, None}
 use Rattle.std.specs.List.{All, Any}
 use Rattle.std.specs.declared.thread.PromisedHandle.{PromisedHandle}
-use Rattle.warp_block.specs.declared.message.Message.{Message}
-use Rattle.warp_block.specs.declared.fault.BlockFault.TheVariants.{WrongNet}
+use Rattle.warp_process.specs.declared.message.Message.{Message}
+use Rattle.warp_process.specs.declared.fault.BlockFault.TheVariants.{WrongNet}
 use Rattle.warp_rounds.specs.declared.fault.RunFault.{RunFault}
 use Rattle.warp_rounds.specs.declared.fault.RunFault.TheVariants.{Block, Stalled, Gather, NoThread, Memory}
 use Rattle.warp_rounds.specs.Words.{never}

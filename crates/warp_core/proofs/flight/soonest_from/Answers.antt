@@ -1,8 +1,8 @@
 use Rattle.std.proofs.Common.{◌≤◌, ◌+◌, arith, take, sym, subst}
 use Rattle.std.proofs.lemmas.List.Elements.{All-get_or}
 use Rattle.gate_values.specs.declared.logic.Logic.TheVariants.{Zero}
-use Rattle.warp_block.specs.declared.message.Message.{Message}
-use Rattle.warp_block.specs.declared.message.Sign.TheVariants.{Plus}
+use Rattle.warp_process.specs.declared.message.Message.{Message}
+use Rattle.warp_process.specs.declared.message.Sign.TheVariants.{Plus}
 use Rattle.warp_core.specs.Inner.Kept.{IsSoonest}
 use Rattle.warp_core.proofs.Soonest.{soonest_more, soonest_whole, countable}
 use Rattle.warp_core.proofs.flight.soonest_from.Goals as goal

@@ -1,5 +1,5 @@
 use Rattle.std.proofs.Common.{◌∙◌, arith}
-use Rattle.warp_block.specs.Lawful.{IsLawful}
+use Rattle.warp_process.specs.Lawful.{IsLawful}
 use Rattle.warp_core.specs.Matched.{EachBlock, AreMatched}
 use Rattle.warp_core.proofs.Matching.{matched_changes}
 use Rattle.warp_core.proofs.GivenLogs.{told_wave}

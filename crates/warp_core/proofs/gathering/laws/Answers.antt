@@ -1,5 +1,5 @@
 use Rattle.std.proofs.Common.{below_more, subst}
-use Rattle.warp_block.specs.Lawful.{IsLawful}
+use Rattle.warp_process.specs.Lawful.{IsLawful}
 use Rattle.warp_core.specs.Matched.{seen_at}
 use Rattle.warp_core.proofs.Sweeping.{seen_is}
 use Rattle.warp_core.proofs.gathering.laws.Goals as goal

@@ -1,5 +1,5 @@
 use Rattle.std.proofs.Common.{ℕ, ◌<◌}
-use Rattle.warp_block.specs.View.{IsDone}
+use Rattle.warp_process.specs.View.{IsDone}
 use Rattle.warp_core.specs.Matched.{seen_at}
 use Rattle.warp_core.proofs.gathering.unfinished.Given as goal
 

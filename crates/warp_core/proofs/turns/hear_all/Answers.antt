@@ -1,6 +1,6 @@
 use Rattle.std.proofs.Common.{ℕ, ◌<◌, List, length, sym, subst}
-use Rattle.warp_block.specs.declared.message.Message.{Message}
-use Rattle.warp_block.specs.View.{Process}
+use Rattle.warp_process.specs.declared.message.Message.{Message}
+use Rattle.warp_process.specs.View.{Process}
 use Rattle.warp_core.specs.Inner.Turns.{IsHearing}
 use Rattle.warp_core.proofs.Turning.{on_err}
 use Rattle.warp_core.proofs.TurnsTaken.{hearing_none, hearing_first, hearing_more}

@@ -1,5 +1,5 @@
 use Rattle.std.proofs.Common.{ℕ, ◌≤◌, List, [], OnOk, OnErr, length, subst}
-use Rattle.warp_block.specs.declared.message.Message.{Message}
+use Rattle.warp_process.specs.declared.message.Message.{Message}
 use Rattle.warp_core.specs.Inner.Turns.{left, place_in, scene_in, AreTurned, AreTurnsBegun}
 use Rattle.warp_core.specs.Inner.Waiting.{IsListed}
 use Rattle.warp_core.specs.World.{IsBefore}

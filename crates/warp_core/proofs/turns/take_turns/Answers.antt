@@ -1,7 +1,7 @@
 use Rattle.std.proofs.Common.{ℕ, ◌<◌, get_or, take, sym, ◌∙◌, subst, arith}
 use Rattle.std.specs.List.{All}
 use Rattle.std.proofs.lemmas.List.Elements.{All-get_or}
-use Rattle.warp_block.specs.declared.message.Message.{Message}
+use Rattle.warp_process.specs.declared.message.Message.{Message}
 use Rattle.warp_core.specs.Inner.Turns.{place_in, scene_left, AreTurnsBegun}
 use Rattle.warp_core.specs.Inner.Waiting.{IsListed}
 use Rattle.warp_core.proofs.Turning.{on_err}

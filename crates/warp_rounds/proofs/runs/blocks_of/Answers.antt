@@ -1,7 +1,7 @@
 use Rattle.std.proofs.Common.{◌≡◌, ◌+◌, length, ap, ◌∙◌, arith}
 use Rattle.std.proofs.lemmas.List.{length_push}
 use Rattle.std.proofs.lemmas.List.Elements.{All-push, All-same}
-use Rattle.warp_block.specs.Lawful.{IsLawfulProcess}
+use Rattle.warp_process.specs.Lawful.{IsLawfulProcess}
 use Rattle.warp_rounds.proofs.runs.blocks_of.Goals as goal
 
 pub loop-site-preserved : goal.loop-site-preserved

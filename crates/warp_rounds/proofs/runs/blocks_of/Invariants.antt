@@ -1,6 +1,6 @@
 use Rattle.std.proofs.Common.{◌≡◌, ◌+◌, All, length}
 use Rattle.std.specs.Vec.Iter.{into_iter_items}
-use Rattle.warp_block.specs.Lawful.{IsLawfulProcess}
+use Rattle.warp_process.specs.Lawful.{IsLawfulProcess}
 use Rattle.warp_rounds.proofs.runs.blocks_of.Given as goal
 
 abbrev pub invariant-loop-site : goal.invariant-loop-site

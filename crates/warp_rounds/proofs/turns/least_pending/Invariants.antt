@@ -1,5 +1,5 @@
 use Rattle.std.proofs.Common.{take}
-use Rattle.warp_block.specs.View.{IsLeast}
+use Rattle.warp_process.specs.View.{IsLeast}
 use Rattle.warp_rounds.specs.Turn.{IsPending}
 use Rattle.warp_rounds.proofs.turns.least_pending.Given as goal
 

@@ -1,4 +1,33 @@
+use Rattle.std.proofs.Common.{◌≡◌, List, length, ◌∙◌, subst}
+use Rattle.gate_values.specs.declared.logic.Change.{Change}
+use Rattle.gate_vcd.specs.Waves.{lists_in}
+use Rattle.warp_part.specs.Portion.{Portion}
+use Rattle.warp_block.specs.Inner.Give.{AreGiven}
+use Rattle.warp_block.specs.Shown.Block.{seen_by}
+use Rattle.warp_block.proofs.Giving.{given_own, given_others}
 use Rattle.warp_block.proofs.block.Block.give_logs.Goals as goal
 
-pub give_logs-requires : goal.give_logs-requires
-give_logs-requires c = record { places = rw (← c.self.view_is) at c.requires.places }
+pub give-requires-clause-places : goal.give-requires-clause-places
+give-requires-clause-places c = rw c.into_part-part.ensures (rw (← c.self.view_is) at c.requires.places)
+
+pub returns-clause-own : goal.returns-clause-own
+returns-clause-own c =
+    let heard = c.self.inside.heard in
+    let engine = c.self.inside.engine in
+    let old = lists_in c.args.lists.now.items in
+    let new = lists_in c.give.new.lists.items in
+    let lists : lists_in c.into_vec.result.items ≡ engine.lists = c.into_vec.ensures ∙ c.into_lists.ensures in
+    let given = subst (λ (p : Portion). AreGiven p engine.lists (length p.nets) old new) c.into_part-part.ensures
+    (subst (λ (ls : List (List Change)). AreGiven c.into_part-part.result ls (length c.into_part-part.result.nets) old new) lists c.give.ensures.given) in
+    rw (← c.self.view_is) (given_own (seen_by heard engine) c.self.invariant.rest.at.engine.received.part.ascending old new given)
+
+pub returns-clause-others : goal.returns-clause-others
+returns-clause-others c =
+    let heard = c.self.inside.heard in
+    let engine = c.self.inside.engine in
+    let old = lists_in c.args.lists.now.items in
+    let new = lists_in c.give.new.lists.items in
+    let lists : lists_in c.into_vec.result.items ≡ engine.lists = c.into_vec.ensures ∙ c.into_lists.ensures in
+    let given = subst (λ (p : Portion). AreGiven p engine.lists (length p.nets) old new) c.into_part-part.ensures
+    (subst (λ (ls : List (List Change)). AreGiven c.into_part-part.result ls (length c.into_part-part.result.nets) old new) lists c.give.ensures.given) in
+    rw (← c.self.view_is) (given_others (seen_by heard engine) c.self.invariant.rest.at.engine.received.part.ascending old new given)

@@ -1,36 +1,34 @@
-use Rattle.std.proofs.Common.{◌≡◌, ℕ, length, ap, sym, ◌∙◌, subst}
-use Rattle.warp_block.specs.Portion.{Portion, IsPortion}
-use Rattle.warp_block.specs.View.{View}
-use Rattle.warp_block.specs.Shown.States.{saved_by}
-use Rattle.warp_block.specs.Inner.Present.{oldest_of}
-use Rattle.warp_block.specs.Inner.Agenda.{places_at}
-use Rattle.warp_block.specs.Inner.Fan.{fan_of}
-use Rattle.warp_block.specs.Inner.Woken.{AreWoken}
-use Rattle.warp_block.specs.Inner.Index.{IsIndexed, IsNoted}
-use Rattle.warp_block.proofs.Opened.{IsNoted-new}
-use Rattle.warp_block.proofs.Starting.{begun}
-use Rattle.warp_block.proofs.Opening.{opening_told, opening_sent}
+use Rattle.std.proofs.Common.{◌≡◌, ◌∙◌, ◌++◌, ap, subst}
+use Rattle.warp_part.specs.Portion.{Portion}
+use Rattle.warp_process.specs.Heard.{IsReceived}
+use Rattle.warp_process.specs.Opening.{opening_messages}
+use Rattle.part_engine.specs.Runs.{IsOpeningRun, begins_of}
+use Rattle.warp_block.proofs.Opening.{opened_rest, opened_seen, opened_sends}
 use Rattle.warp_block.proofs.block.Block.new.Goals as goal
 
 pub invariant_of-result : goal.invariant_of-result
 invariant_of-result c =
-    let v = c.in_ok-look.look in
-    let opened = c.in_ok-look.ensures in
-    let mark = ap (λ (w : View). w.mark) opened in
-    let s = c.in_ok-states.ensures in
-    let first : oldest_of (saved_by c.in_ok-states.states) ≡ 0 = ap oldest_of s.saved ∙ s.mark in
+    let received : IsReceived c.in_ok-heard.heard = subst IsReceived c.heard.view_is c.heard.invariant.received in
+    let opening : IsOpeningRun c.in_ok-heard.heard.part c.args.horizon c.in_ok-engine.engine
+    = subst (λ (p : Portion). IsOpeningRun p c.args.horizon c.in_ok-engine.engine) c.part-2.ensures c.in_ok-engine.ensures in
     record {
-      states = begun v c.in_ok-states.states c.law.ensures mark (ap (λ (w : View). w.floor) opened) s.mark s.lawful s.saved s.since s.fit;
-      indexed = subst (λ (m : ℕ). IsIndexed v m (places_at c.in_ok-agenda.agenda)) (sym first) c.in_ok-agenda.ensures;
-      noted = subst (IsNoted v) (sym c.new-journal.ensures) (IsNoted-new v c.law.ensures mark);
-      flat = c.in_ok-fan.ensures.flat;
-      woken = subst (λ (p : Portion). AreWoken p (length p.nets) (fan_of c.in_ok-fan.fan)) c.part.ensures c.in_ok-fan.ensures.woken;
+      rest = opened_rest c.args.part c.args.stimulus.now c.args.horizon c.in_ok-heard.heard c.in_ok-heard.ensures received c.in_ok-engine.engine opening c.new-2.result c.new-2.ensures;
+      begins = c.begins-begins.ensures ∙ ap begins_of c.part.ensures;
     }
+
+pub returns-clause-opening : goal.returns-clause-opening
+returns-clause-opening c =
+    let received : IsReceived c.in_ok-heard.heard = subst IsReceived c.heard.view_is c.heard.invariant.received in
+    let opening : IsOpeningRun c.in_ok-heard.heard.part c.args.horizon c.in_ok-engine.engine
+    = subst (λ (p : Portion). IsOpeningRun p c.args.horizon c.in_ok-engine.engine) c.part-2.ensures c.in_ok-engine.ensures in
+    opened_seen c.args.part c.args.stimulus.now c.args.horizon c.in_ok-heard.heard c.in_ok-heard.ensures received c.in_ok-engine.engine opening c.new-2.result c.new-2.ensures
 
 pub returns-clause-sends : goal.returns-clause-sends
 returns-clause-sends c =
-    opening_told c.args.part (subst (λ (w : View). IsPortion w.part) c.in_ok-look.ensures c.law.ensures.part) c.args.stimulus.now c.args.horizon c.in_ok-look.look c.in_ok-look.ensures c.law.ensures c.args.out.now.items c.tell_logged.new.out.items c.in_ok-tell_logged.ensures.ok
-
-pub returns-clause-told : goal.returns-clause-told
-returns-clause-told c =
-    opening_sent c.args.part (subst (λ (w : View). IsPortion w.part) c.in_ok-look.ensures c.law.ensures.part) c.args.stimulus.now c.args.horizon c.in_ok-look.look c.in_ok-look.ensures c.args.out.now.items c.tell_logged.new.out.items c.in_ok-tell_logged.ensures.ok
+    let received : IsReceived c.in_ok-heard.heard = subst IsReceived c.heard.view_is c.heard.invariant.received in
+    let opening : IsOpeningRun c.in_ok-heard.heard.part c.args.horizon c.in_ok-engine.engine
+    = subst (λ (p : Portion). IsOpeningRun p c.args.horizon c.in_ok-engine.engine) c.part-2.ensures c.in_ok-engine.ensures in
+    let told : c.tell_first.new.out.items ≡ c.args.out.now.items ++ opening_messages c.in_ok-heard.heard.part
+    = c.in_ok-tell_first.ensures.ok ∙ ap (λ (p : Portion). c.args.out.now.items ++ opening_messages p) c.part-3.ensures in
+    opened_sends c.args.part c.args.stimulus.now c.args.horizon c.in_ok-heard.heard c.in_ok-heard.ensures received c.in_ok-engine.engine opening c.new-2.result c.new-2.ensures
+    c.args.out.now.items c.tell_first.new.out.items told

@@ -1,5 +1,5 @@
 use Rattle.std.proofs.Common.{below_more, arith, subst}
-use Rattle.warp_block.specs.View.{View}
+use Rattle.warp_process.specs.View.{View}
 use Rattle.warp_core.specs.Matched.{seen_at, AreSettled}
 use Rattle.warp_core.specs.Gather.{IsFirstUnsettled}
 use Rattle.warp_core.proofs.Sweeping.{seen_is, first_block}

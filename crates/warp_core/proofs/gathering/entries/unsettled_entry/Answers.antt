@@ -1,6 +1,6 @@
 use Rattle.std.proofs.Common.{below_more, ◌≡◌, ℕ, ◌∙◌, ap, length, get_or, subst, arith, List}
 use Rattle.std.specs.List.Sorted.{IsStrictlyIncreasing}
-use Rattle.warp_block.specs.Portion.{Portion}
+use Rattle.warp_part.specs.Portion.{Portion}
 use Rattle.warp_core.specs.Matched.{IsSettledAt, IsSettledBy}
 use Rattle.warp_core.specs.Gather.{IsFirst}
 use Rattle.warp_core.proofs.Entries.{other_settled}

@@ -1,6 +1,6 @@
 use Rattle.std.proofs.Common.{◌≡◌, true, subst}
-use Rattle.warp_block.specs.declared.entry.Entry.{Entry}
-use Rattle.warp_block.specs.Entries.{is_settled}
+use Rattle.warp_process.specs.declared.entry.Entry.{Entry}
+use Rattle.warp_process.specs.Entries.{is_settled}
 use Rattle.warp_core.specs.Matched.{IsSettledBy}
 use Rattle.warp_core.proofs.Entries.{settled_more, all_settled}
 use Rattle.warp_core.proofs.gathering.entries.unsettled_time.Goals as goal

@@ -2,7 +2,7 @@ use Rattle.std.proofs.Common.{◌+◌, sym, rules, nat_le, nat_lt, arith}
 use Rattle.std.proofs.lemmas.Bool.{lt-ltb, le-ltb}
 use Rattle.std.proofs.lemmas.List.Sorted.{IsPartitionPoint-from_clause, IsPartitionedBy-leb}
 use Rattle.gate_values.specs.declared.logic.Change.{Change}
-use Rattle.warp_block.proofs.Rising.{rising-not_falling, split-until, filter-front}
+use Rattle.warp_process.proofs.Rising.{rising-not_falling, split-until, filter-front}
 use Rattle.warp_core.proofs.gathering.told.until.Goals as goal
 
 pub returns : goal.returns

@@ -1,5 +1,5 @@
 use Rattle.std.proofs.Common.{sym, below_more, subst, arith}
-use Rattle.warp_block.specs.View.{View}
+use Rattle.warp_process.specs.View.{View}
 use Rattle.warp_core.specs.Matched.{AreSettled, seen_at, AreTold}
 use Rattle.warp_core.proofs.Sweeping.{seen_is}
 use Rattle.warp_core.proofs.gathering.told.untold.Goals as goal

@@ -1,6 +1,6 @@
 use Rattle.std.proofs.Common.{below_more, ◌≡◌, ℕ, ◌∙◌, ap, length, get_or, subst, sym, arith, List}
 use Rattle.std.specs.List.Sorted.{IsStrictlyIncreasing}
-use Rattle.warp_block.specs.Portion.{Portion}
+use Rattle.warp_part.specs.Portion.{Portion}
 use Rattle.warp_core.specs.Matched.{IsToldAt}
 use Rattle.warp_core.proofs.Entries.{other_told}
 use Rattle.warp_core.proofs.Sweeping.{swept_all, swept_first}

@@ -1,6 +1,6 @@
 use Rattle.std.proofs.Common.{◌<◌, length, ◌∙◌, arith}
 use Rattle.std.proofs.lemmas.Bool.{le-leb, lt-leb}
-use Rattle.warp_block.specs.declared.message.Message.{Message}
+use Rattle.warp_process.specs.declared.message.Message.{Message}
 use Rattle.warp_core.specs.Inner.Turns.{place_in}
 use Rattle.warp_core.proofs.Keeping.{kept_none, kept_more, kept_past, kept_all, of_old}
 use Rattle.warp_core.proofs.turns.left.keep_left.Goals as goal

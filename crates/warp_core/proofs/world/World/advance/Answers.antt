@@ -1,6 +1,6 @@
 use Rattle.std.proofs.Common.{◌+◌, ◌<◌, List, length, sym, subst, arith}
-use Rattle.warp_block.specs.declared.message.Message.{Message}
-use Rattle.warp_block.specs.View.{View}
+use Rattle.warp_process.specs.declared.message.Message.{Message}
+use Rattle.warp_process.specs.View.{View}
 use Rattle.warp_core.specs.Shown.{scene_of}
 use Rattle.warp_core.specs.Inner.Kept.{IsSoonest, IsNextTime}
 use Rattle.warp_core.specs.Matched.{seen_at}

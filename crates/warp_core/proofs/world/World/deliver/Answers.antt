@@ -1,8 +1,8 @@
 use Rattle.std.proofs.Common.{◌≡◌, ◌==◌, ◌+◌, ◌-◌, ◌<◌, ◌≤◌, cond, List, length, sym, subst, arith}
 use Rattle.std.specs.List.{All, count_by}
 use Rattle.std.proofs.lemmas.List.{length-take-le}
-use Rattle.warp_block.specs.declared.message.Message.{Message}
-use Rattle.warp_block.specs.View.{View}
+use Rattle.warp_process.specs.declared.message.Message.{Message}
+use Rattle.warp_process.specs.View.{View}
 use Rattle.warp_core.specs.Shown.{scene_of}
 use Rattle.warp_core.specs.Inner.Kept.{IsSoonest, IsNextTime}
 use Rattle.warp_core.specs.Play.{IsDelivered}

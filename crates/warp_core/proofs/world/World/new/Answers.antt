@@ -1,6 +1,6 @@
 use Rattle.std.proofs.Common.{◌+◌, List, subst}
-use Rattle.warp_block.specs.declared.message.Message.{Message}
-use Rattle.warp_block.specs.View.{Process}
+use Rattle.warp_process.specs.declared.message.Message.{Message}
+use Rattle.warp_process.specs.View.{Process}
 use Rattle.warp_core.specs.Inner.Kept.{IsSoonest, AreNextTimes}
 use Rattle.warp_core.proofs.StartingWorlds.{opened_world}
 use Rattle.warp_core.proofs.world.World.new.Goals as goal

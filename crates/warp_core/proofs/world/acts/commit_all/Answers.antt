@@ -1,7 +1,7 @@
 use Rattle.std.proofs.Common.{◌≡◌, ◌<◌, length, ap, sym, ◌∙◌, subst, arith}
 use Rattle.std.proofs.lemmas.List.{length-set, get_or-set_other}
-use Rattle.warp_block.specs.Commit.{IsCommittable}
-use Rattle.warp_block.specs.View.{View, Process}
+use Rattle.warp_process.specs.Commit.{IsCommittable}
+use Rattle.warp_process.specs.View.{View, Process}
 use Rattle.warp_core.specs.Matched.{no_process, seen_at}
 use Rattle.warp_core.proofs.Changing.{committed_more, lawful_more}
 use Rattle.warp_core.proofs.Sweeping.{seen_is}

@@ -1,6 +1,6 @@
 use Rattle.std.proofs.Common.{◌≡◌, ℕ, ◌<◌, ◌≤◌, length, get_or}
-use Rattle.warp_block.specs.Commit.{IsCommitted}
-use Rattle.warp_block.specs.Lawful.{IsLawful}
+use Rattle.warp_process.specs.Commit.{IsCommitted}
+use Rattle.warp_process.specs.Lawful.{IsLawful}
 use Rattle.warp_core.specs.Matched.{no_process, seen_at}
 use Rattle.warp_core.proofs.world.acts.commit_all.Given as goal
 

@@ -1,5 +1,5 @@
 use Rattle.std.proofs.Common.{◌<◌}
-use Rattle.warp_block.specs.declared.message.Sign.TheVariants.{Minus}
+use Rattle.warp_process.specs.declared.message.Sign.TheVariants.{Minus}
 use Rattle.warp_core.specs.Matched.{seen_at}
 use Rattle.warp_core.proofs.Changing.{sends_without}
 use Rattle.warp_core.proofs.world.acts.hand_over.Goals as goal

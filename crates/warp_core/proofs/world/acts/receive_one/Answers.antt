@@ -1,6 +1,6 @@
 use Rattle.std.proofs.Common.{◌<◌, ℕ}
-use Rattle.warp_block.specs.declared.message.Sign.TheVariants.{Minus}
-use Rattle.warp_block.specs.Sends.{SendsOnce}
+use Rattle.warp_process.specs.declared.message.Sign.TheVariants.{Minus}
+use Rattle.warp_process.specs.Sends.{SendsOnce}
 use Rattle.warp_core.proofs.Changing.{between}
 use Rattle.warp_core.proofs.world.acts.receive_one.Goals as goal
 

@@ -1,7 +1,7 @@
 use Rattle.std.proofs.Common.{ℕ, ◌<◌, OnErr}
-use Rattle.warp_block.specs.declared.message.Sign.TheVariants.{Plus}
-use Rattle.warp_block.specs.Advance.{IsAdvanced, IsAfterEvent}
-use Rattle.warp_block.specs.Sends.{SendsOnce}
+use Rattle.warp_process.specs.declared.message.Sign.TheVariants.{Plus}
+use Rattle.warp_process.specs.Advance.{IsAdvanced, IsAfterEvent}
+use Rattle.warp_process.specs.Sends.{SendsOnce}
 use Rattle.warp_core.proofs.Changing.{between}
 use Rattle.warp_core.proofs.world.acts.run.Goals as goal
 

@@ -1,9 +1,9 @@
 use Rattle.std.proofs.Common.{◌≡◌, ◌+◌, ◌++◌, List, ap, sym, ◌∙◌, subst}
-use Rattle.warp_block.specs.declared.message.Sign.TheVariants.{Plus}
-use Rattle.warp_block.specs.Opening.{silent_view, opening_view, opening_messages}
-use Rattle.warp_block.specs.Portion.{Portion}
-use Rattle.warp_block.specs.Sends.{SendsOnce}
-use Rattle.warp_block.specs.View.{Process}
+use Rattle.warp_process.specs.declared.message.Sign.TheVariants.{Plus}
+use Rattle.warp_process.specs.Opening.{silent_view, opening_view, opening_messages}
+use Rattle.warp_part.specs.Portion.{Portion}
+use Rattle.warp_process.specs.Sends.{SendsOnce}
+use Rattle.warp_process.specs.View.{Process}
 use Rattle.warp_core.specs.Inner.Opened.{AreOpened}
 use Rattle.warp_core.proofs.StartingWorlds.{more_opened}
 use Rattle.warp_core.proofs.world.opening.open.Goals as goal

@@ -2,8 +2,8 @@ use Rattle.std.proofs.Common.{◌≡◌, ℕ, ◌+◌, ◌<◌, ◌++◌, ◌∷
 use Rattle.std.proofs.lemmas.List.{length-set, length-map, length-take-le, map-set, get_or-map}
 use Rattle.std.proofs.lemmas.List.Elements.{All-get_or}
 use Rattle.gate_values.specs.declared.logic.Logic.TheVariants.{Zero}
-use Rattle.warp_block.specs.declared.message.Message.{Message}
-use Rattle.warp_block.specs.declared.message.Sign.TheVariants.{Plus}
+use Rattle.warp_process.specs.declared.message.Message.{Message}
+use Rattle.warp_process.specs.declared.message.Sign.TheVariants.{Plus}
 use Rattle.warp_core.specs.Inner.Turns.{place_in}
 use Rattle.warp_core.proofs.Listing.{listed_more}
 use Rattle.warp_core.proofs.turns.waiting.Waiting.list.Goals as goal

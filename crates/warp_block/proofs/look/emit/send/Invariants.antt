@@ -1,6 +1,0 @@
-use Rattle.std.proofs.Common.{◌≡◌, ◌++◌, take}
-use Rattle.warp_block.specs.Inner.Step.{sent}
-use Rattle.warp_block.proofs.look.emit.send.Given as goal
-
-abbrev pub invariant-loop-reader : goal.invariant-loop-reader
-invariant-loop-reader l = l.out.items ≡ l.fn.out.items ++ sent l.sign l.net (take l.reader-index l.readers) l.change

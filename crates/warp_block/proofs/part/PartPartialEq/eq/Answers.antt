@@ -1,7 +1,0 @@
-use Rattle.std.proofs.lemmas.Bool.Decides.{same_from_decides}
-use Rattle.warp_block.specs.SamePart.{same_part}
-use Rattle.warp_block.proofs.PartEquality.{part_decides}
-use Rattle.warp_block.proofs.part.PartPartialEq.eq.Goals as goal
-
-pub returns-clause-eq : goal.returns-clause-eq
-returns-clause-eq c = same_from_decides c.is_same.result (same_part c.args.self.now c.args.other.now) c.is_same.ensures (part_decides c.args.self.now c.args.other.now)

@@ -1,6 +1,0 @@
-use Rattle.std.proofs.Common.{◌≡◌, ℕ, take}
-use Rattle.warp_block.specs.Inner.Building.{has, is_other_owner}
-use Rattle.warp_block.proofs.part.readers.add_owners.Given as goal
-
-abbrev pub invariant-loop-gate : goal.invariant-loop-gate
-invariant-loop-gate l = (c : ℕ) → has l.list.items c ≡ is_other_owner l.cut l.block (take l.gate-index l.gates) c

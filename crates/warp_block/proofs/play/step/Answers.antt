@@ -1,0 +1,10 @@
+use Rattle.std.proofs.Common.{◌≡◌, ◌≤◌, sym, subst, arith, Some}
+use Rattle.warp_process.specs.View.{IsLeast, IsEventTime}
+use Rattle.warp_process.specs.Played.{played_view}
+use Rattle.warp_block.proofs.Stepping.{least_on}
+use Rattle.warp_block.proofs.play.step.Goals as goal
+
+pub play_time-requires-clause-next : goal.play_time-requires-clause-next
+play_time-requires-clause-next c =
+    least_on c.args.heard.now c.args.engine.now c.args.times.now c.requires.at c.args.time c.requires.next c.begin.new.engine.book.mark c.begin.ensures.untold.on
+    (let e = c.in_ok-begin.ensures.mark in let l = c.if-time-gt0.true in omega (arith, e, l))

@@ -1,0 +1,191 @@
+//! How a block plays event times.
+ghost use Rattle.std.specs.Prelude.{◌≡◌, ◌<◌, ◌+◌, ◌⊎◌, IfOk, OnOk, OnErr, Some, false};
+ghost use Rattle.warp_process.specs.declared.message.Sign.TheVariants.{Plus};
+ghost use Rattle.warp_process.specs.Advance.{IsAdvanced, IsAfterEvent};
+ghost use Rattle.warp_process.specs.Played.{played_view};
+ghost use Rattle.warp_process.specs.Sends.{SendsOnce};
+ghost use Rattle.warp_process.specs.View.{IsLeast, IsEventTime, IsDone, is_busy};
+ghost use Rattle.part_engine.specs.Runs.{begins_of};
+ghost use Rattle.warp_stores.specs.Lists.{AreLonger};
+ghost use Rattle.warp_engine.specs.Runs.{makings};
+ghost use Rattle.warp_sends.specs.Told.{AreTold};
+ghost use Rattle.warp_block.specs.Shown.Block.{seen_by};
+ghost use Rattle.warp_block.specs.Inner.Held.{IsAt, IsAtRest, IsUntold};
+
+use event_times::Times;
+use part_engine::{bring, bring_first, next_time};
+use std::alloc::AllocError;
+use warp_engine::Engine;
+use warp_process::{Heard, Message};
+use warp_sends::tell;
+use warp_stores::{Batch, Word};
+
+/// Plays up to so many event times, and answers how many: fewer only where none is left. What they make isn't told yet. An
+/// error is a refused growth; then some of them are played. The words are a place to work in.
+fn play(
+    heard: &Heard,
+    begins: bool,
+    engine: &mut Engine,
+    times: &mut Times,
+    words: &mut Vec<Word>,
+    steps: u32,
+) -> Result<u32, AllocError>
+    requires at { IsAt heard.now engine.old times.old }
+    requires begins { begins ≡ begins_of heard.now.part }
+    ensures at { IsAt heard.now engine.new times.new }
+    ensures untold { IsUntold engine.old engine.new times.old times.new }
+    ensures advanced { IfOk result (λ count. IsAdvanced (played_view heard.now engine.old.book.mark) (played_view heard.now engine.new.book.mark) count) }
+    ensures all { IfOk result (λ count. (count ≡ steps) ⊎ ((count < steps) × IsDone (played_view heard.now engine.new.book.mark))) }
+{
+    for finished in 0..steps {
+        let Some(time) = next_time(heard, engine, begins) else {
+            return Ok(finished);
+        };
+        step(heard, engine, times, words, time)?;
+    }
+    Ok(steps)
+}
+
+/// Plays the next event time. An error is a refused growth; then it isn't played.
+fn step(
+    heard: &Heard,
+    engine: &mut Engine,
+    times: &mut Times,
+    words: &mut Vec<Word>,
+    time: u64,
+) -> Result<(), AllocError>
+    requires at { IsAt heard.now engine.old times.old }
+    requires next { IsLeast (IsEventTime (played_view heard.now engine.old.book.mark)) (Some time) }
+    ensures at { IsAt heard.now engine.new times.new }
+    ensures untold { IsUntold engine.old engine.new times.old times.new }
+    ensures mark { OnOk result (engine.new.book.mark ≡ time + 1) }
+{
+    if engine.mark() == 0 && time > 0 {
+        begin(heard, engine, times, words)?;
+        return play_time(heard, engine, times, words, time);
+    }
+    play_time(heard, engine, times, words, time)
+}
+
+/// Plays time 0, at which nothing happens. An error is a refused growth; then it isn't played.
+fn begin(
+    heard: &Heard,
+    engine: &mut Engine,
+    times: &Times,
+    words: &mut Vec<Word>,
+) -> Result<(), AllocError>
+    requires at { IsAt heard.now engine.old times.now }
+    requires mark { engine.old.book.mark ≡ 0 }
+    requires quiet { is_busy (played_view heard.now 0) 0 ≡ false }
+    ensures at { IsAt heard.now engine.new times.now }
+    ensures untold { IsUntold engine.old engine.new times.now times.now }
+    ensures mark { OnOk result (engine.new.book.mark ≡ 1) }
+{
+    bring_first(heard, engine, words)?;
+    engine.play(0, words.as_slice())?;
+    Ok(())
+}
+
+/// Plays the next event time, where it is 0 or time 0 is played. An error is a refused growth; then it isn't played.
+fn play_time(
+    heard: &Heard,
+    engine: &mut Engine,
+    times: &mut Times,
+    words: &mut Vec<Word>,
+    time: u64,
+) -> Result<(), AllocError>
+    requires at { IsAt heard.now engine.old times.old }
+    requires next { IsLeast (IsEventTime (played_view heard.now engine.old.book.mark)) (Some time) }
+    requires start { engine.old.book.mark ≡ 0 → time ≡ 0 }
+    ensures at { IsAt heard.now engine.new times.new }
+    ensures untold { IsUntold engine.old engine.new times.old times.new }
+    ensures mark { OnOk result (engine.new.book.mark ≡ time + 1) }
+{
+    bring(heard, engine, time, words)?;
+    times.push(time)?;
+    match engine.play(time, words.as_slice()) {
+        Ok(()) => Ok(()),
+        Err(error) => {
+            times.cut_from(time);
+            Err(error)
+        }
+    }
+}
+
+/// Takes back what is played and isn't told.
+fn give_up(heard: &Heard, engine: &mut Engine, times: &mut Times)
+    requires at { IsAt heard.now engine.old times.old }
+    ensures at { IsAtRest heard.now engine.new times.new }
+    ensures told { engine.new.told ≡ engine.old.told }
+{
+    engine.give_up();
+    times.cut_from(engine.mark());
+}
+
+/// Plays up to so many event times, tells what they made, and answers how many: fewer only where none is left. An error is a
+/// refused growth; then all is as it was. The words and the batch are places to work in.
+pub(crate) fn advance(
+    heard: &Heard,
+    begins: bool,
+    engine: &mut Engine,
+    times: &mut Times,
+    words: &mut Vec<Word>,
+    batch: &mut Batch<Word>,
+    steps: u32,
+    out: &mut Vec<Message>,
+) -> Result<u32, AllocError>
+    requires rest { IsAtRest heard.now engine.old times.old }
+    requires begins { begins ≡ begins_of heard.now.part }
+    ensures rest { IsAtRest heard.now engine.new times.new }
+    ensures advanced { IfOk result (λ count. IsAdvanced (seen_by heard.now engine.old) (seen_by heard.now engine.new) count) }
+    ensures all { IfOk result (λ count. (count ≡ steps) ⊎ ((count < steps) × IsDone (seen_by heard.now engine.new))) }
+    ensures sends { OnOk result (SendsOnce (seen_by heard.now engine.old) (seen_by heard.now engine.new) Plus (IsAfterEvent (seen_by heard.now engine.old)) out.old.items out.new.items) }
+    ensures err { OnErr result (seen_by heard.now engine.new ≡ seen_by heard.now engine.old) }
+    ensures untold { OnErr result (out.new.items ≡ out.old.items) }
+{
+    match play(heard, begins, engine, times, words, steps) {
+        Ok(finished) => {
+            finish(heard, engine, times, batch, out)?;
+            Ok(finished)
+        }
+        Err(error) => {
+            give_up(heard, engine, times);
+            Err(error)
+        }
+    }
+}
+
+/// Tells what is played: behind the logs, and in messages behind `out`. An error is a refused growth; then all that wasn't told
+/// is taken back, and nothing is told. The batch is a place to work in.
+fn finish(
+    heard: &Heard,
+    engine: &mut Engine,
+    times: &mut Times,
+    batch: &mut Batch<Word>,
+    out: &mut Vec<Message>,
+) -> Result<(), AllocError>
+    requires at { IsAt heard.now engine.old times.old }
+    ensures rest { IsAtRest heard.now engine.new times.new }
+    ensures book { OnOk result (engine.new.book ≡ engine.old.book) }
+    ensures longer { OnOk result (AreLonger (makings engine.old.told engine.old) engine.old.lists engine.new.lists) }
+    ensures told { OnOk result (AreTold Plus heard.now.part (makings engine.old.told engine.old) out.old.items out.new.items) }
+    ensures err { OnErr result (engine.new.told ≡ engine.old.told) }
+    ensures untold { OnErr result (out.new.items ≡ out.old.items) }
+{
+    let start = engine.told();
+    match engine.tell(batch) {
+        Ok(()) => {}
+        Err(error) => {
+            give_up(heard, engine, times);
+            return Err(error);
+        }
+    }
+    match tell(*out.allocator(), heard.part(), batch, out) {
+        Ok(()) => Ok(()),
+        Err(error) => {
+            engine.go_back(start, batch);
+            times.cut_from(start);
+            Err(error)
+        }
+    }
+}
