@@ -2,14 +2,24 @@
 
 import re
 
-from definitions import CRATES, file_of, home_of, meant_by, origin, spoken_in, stands_on
-from sources import models, parts_of, said_of, types
+from definitions import CRATES, file_of, home_of, listed, meant_by, origin, spoken_in, stands_on
+from sources import models, parts_of, said_of, sources, types
 
 
 def kinds_in(head):
     """The types that a definition's first line gives its parameters and its result."""
     bound = re.findall(r"\([^():]* : ((?:[^()]|\([^()]*\))*)\)", head)
     return [*bound, *(part.strip() for part in head.partition(" : ")[2].split("→"))]
+
+
+def is_named_with(owner, name, key):
+    """Whether a source file that cites a definition names a type too: many models may have a value of plain lists."""
+    for crate in listed():
+        for source in sources(crate):
+            if key in {home_of(*found) for found in source.spoken.values()}:
+                if (owner, name) in {(path.split(".")[0], real) for path, real in source.used.values()} or crate == owner:
+                    return True
+    return False
 
 
 class Walk:
@@ -93,6 +103,7 @@ class Walk:
                 continue
             values = {home_of(*found) for found in meant_by(value, spoken)}
             is_declared = any("declared" in path for path, _ in meant_by(value, spoken))
-            if said & values or is_declared and value.strip(" {}") in kinds_in(head):
+            is_alike = is_declared and value.strip(" {}") in kinds_in(head)
+            if said & values or is_alike and is_named_with(owner, name, (crate, file, word)):
                 self.type(owner, name)
         self.definition(crate, file, word)
