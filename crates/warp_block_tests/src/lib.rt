@@ -3,9 +3,9 @@
 #![tactic(auto)]
 
 #[cfg(test)]
-mod block_tests;
+mod anew_tests;
 #[cfg(test)]
-mod coast_tests;
+mod block_tests;
 #[cfg(test)]
 mod commit_tests;
 #[cfg(test)]

@@ -60,7 +60,11 @@ fn eight_steps_are_taken_back(rt: HostRuntime) -> Result<(), Fail> {
     Ok(())
 }
 
-fn assert_coasts(rt: &impl Abort, block: &mut Block, out: &mut Vec<Message>) -> Result<(), Fail> {
+fn assert_played_anew(
+    rt: &impl Abort,
+    block: &mut Block,
+    out: &mut Vec<Message>,
+) -> Result<(), Fail> {
     take_eight_back(block, out)?;
     out.clear();
     assert_eq!(rt; block.advance(20, out)?, 8);
@@ -75,10 +79,10 @@ fn assert_coasts(rt: &impl Abort, block: &mut Block, out: &mut Vec<Message>) -> 
 }
 
 #[test]
-fn coasting_tells_nothing_again(rt: HostRuntime) -> Result<(), Fail> {
+fn eight_steps_played_anew_tell_nothing(rt: HostRuntime) -> Result<(), Fail> {
     let mut out = Vec::new(rt.alloc());
     let mut block = pair_until(rt.alloc(), 30, &mut out)?;
-    let coasted = assert_coasts(&rt, &mut block, &mut out);
+    let played = assert_played_anew(&rt, &mut block, &mut out);
     drop(block);
-    coasted
+    played
 }
