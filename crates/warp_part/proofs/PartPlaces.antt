@@ -41,6 +41,6 @@ place_found nets n (Err i) up h =
       | inr more ↦ absurd (omega (arith, at.2 k more l, e))
     ])
 
--- a net whose place is its own number
-pub own_number : (nets : List ℕ) (n : ℕ) → IsStrictlyIncreasing nets → n < length nets → get_or nets n 0 ≡ n → Some n ≡ slot_of nets n
-own_number nets n up l e = sym (subst (λ m. slot_of nets m ≡ Some n) e (slot_at nets n up l))
+-- a net that stands at a place
+pub place_there : (nets : List ℕ) (i n : ℕ) → IsStrictlyIncreasing nets → i < length nets → get_or nets i 0 ≡ n → Some i ≡ slot_of nets n
+place_there nets i n up l e = sym (subst (λ m. slot_of nets m ≡ Some i) e (slot_at nets i up l))

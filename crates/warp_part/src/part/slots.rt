@@ -3,14 +3,23 @@ ghost use Rattle.std.specs.List.Sorted.{IsStrictlyIncreasing};
 ghost use Rattle.warp_part.specs.Portion.{slot_of};
 ghost use Rattle.warp_part.specs.Inner.Building.{place_of, has};
 
-/// The place of a net among others, which ascend. Where they are all nets of a circuit, each is at its own number.
+/// Where a net stands among others if these are one stretch of numbers: the one in the middle says where it begins.
+fn guess_of(nets: &[u32], net: u32) -> usize {
+    let middle = nets.len() / 2;
+    match nets.get(middle) {
+        Some(there) => (middle + net as usize).saturating_sub(*there as usize),
+        None => 0,
+    }
+}
+
+/// The place of a net among others, which ascend.
 pub(super) fn slot_in(nets: &[u32], net: u32) -> Option<usize>
     requires { IsStrictlyIncreasing nets.now }
     ensures { result ≡ slot_of nets.now net }
 {
-    let number = net as usize;
-    if number < nets.len() && nets[number] == net {
-        return Some(number);
+    let guess = guess_of(nets, net);
+    if guess < nets.len() && nets[guess] == net {
+        return Some(guess);
     }
     match nets.binary_search(&net) {
         Ok(slot) => Some(slot),
