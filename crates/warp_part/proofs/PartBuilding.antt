@@ -86,7 +86,7 @@ module _ (d : Design) (cut : Ownership) (b : ℕ) where
   uses-below g law l = driver_uses-below (driver_of d g) (nets_of d) (get_or d.delays g 0) (law.driven g l)
 
   -- gates use no net past the circuit's
-  used_past : (n : ℕ) → IsCircuit d → nets_of d ≤ n → is_used_by d cut b n ≡ false
+  pub used_past : (n : ℕ) → IsCircuit d → nets_of d ≤ n → is_used_by d cut b n ≡ false
   used_past n law past =
       list_any_none (λ g. is_own cut b g && does_use n (source_of d g)) (range_with_len 0 (nets_of d))
       (λ k e l. none (get_or (range_with_len 0 (nets_of d)) k e) (range_below (nets_of d) k e l))

@@ -2,4 +2,5 @@
 pub mod Building
 pub mod HeldPart
 pub mod SamePart
+pub mod Uses
 pub mod Wired

@@ -9,9 +9,11 @@ ghost use Rattle.warp_part.specs.SamePart.{same_part};
 ghost use Rattle.warp_part.specs.Inner.SamePart.{SameAt};
 
 mod build;
+mod merge;
 mod readers;
 mod same;
 mod slots;
+mod uses;
 mod wiring;
 
 use crate::cell::{Cell, Span};
@@ -55,9 +57,8 @@ impl Part {
     {
         circuit.law();
         cut.law();
-        let uses = build::uses_of(alloc, circuit, cut, block)?;
-        let nets = build::nets_of(alloc, circuit, cut, block, &uses)?;
-        let used = build::marks_of(alloc, &uses, &nets)?;
+        let mut used = Vec::new(alloc);
+        let nets = uses::nets_of(alloc, circuit, cut, block, &mut used)?;
         let mut pins = Vec::new(alloc);
         let cells = build::cells_of(alloc, circuit, cut, block, &nets, &mut pins)?;
         let lists = readers::readers_of(alloc, circuit, cut, block, &nets)?;

@@ -1,14 +1,14 @@
-ghost use Rattle.std.specs.Prelude.{◌≡◌, ◌<◌, ◌++◌, ℕ, [], IsTrue, false, IfOk, OnOk, is_some, length, map};
+ghost use Rattle.std.specs.Prelude.{◌≡◌, ◌<◌, ◌++◌, [], IsTrue, false, IfOk, OnOk, is_some, length, map};
 ghost use Rattle.std.specs.List.{All};
 ghost use Rattle.std.specs.List.Sorted.{IsStrictlyIncreasing};
 ghost use Rattle.gate_values.specs.Tables.{HasInputs};
 ghost use Rattle.gate_values.specs.Behaviour.{Gate};
-ghost use Rattle.gate_netlist.specs.Circuit.{CutFits, IsDelay, nets_of, driver_of, source_of, is_input as is_outer};
+ghost use Rattle.gate_netlist.specs.Circuit.{IsDelay, nets_of, driver_of, source_of, is_input as is_outer};
 ghost use Rattle.warp_part.specs.Portion.{slot_of};
-ghost use Rattle.warp_part.specs.PartOf.{is_own, is_used_by, part_nets, part_source};
-ghost use Rattle.warp_part.specs.Inner.Building.{driver_uses, place_of, has, IsCell, HasMore, AreCells};
+ghost use Rattle.warp_part.specs.PartOf.{is_own, part_nets, part_source};
+ghost use Rattle.warp_part.specs.Inner.Building.{driver_uses, place_of, IsCell, HasMore, AreCells};
 
-use super::slots::{is_among, place_in, settle};
+use super::slots::place_in;
 use crate::cell::{Cell, Span};
 use gate_netlist::{Circuit, Cut, Driver};
 use gate_values::Kind;
@@ -22,70 +22,6 @@ pub(super) fn is_own(cut: &Cut, block: u32, net: u32) -> bool
         Some(owner) => owner == block,
         None => false,
     }
-}
-
-/// The nets that gates of the block use.
-pub(super) fn uses_of(
-    alloc: Global,
-    circuit: &Circuit,
-    cut: &Cut,
-    block: u32,
-) -> Result<Vec<u32>, AllocError>
-    requires fits { CutFits circuit.now cut.now }
-    requires block { block < cut.now.blocks }
-    ensures rising { IfOk result (λ uses. IsStrictlyIncreasing uses.items) }
-    ensures uses { IfOk result (λ uses. (n : ℕ) → has uses.items n ≡ is_used_by circuit.now cut.now block n) }
-{
-    let mut uses = Vec::new(alloc);
-    let own = cut.own_nets(block);
-    for net in own {
-        add_uses(circuit.driver(*net), &mut uses)?;
-    }
-    settle(&mut uses);
-    Ok(uses)
-}
-
-/// Puts the nets that a driver uses behind others.
-fn add_uses(driver: &Driver, uses: &mut Vec<u32>) -> Result<(), AllocError>
-    ensures { OnOk result (uses.new.items ≡ uses.old.items ++ driver_uses driver.now) }
-{
-    match driver {
-        Driver::Input => Ok(()),
-        Driver::Gate { inputs, .. } => uses.extend_from_slice(inputs.as_slice()),
-        Driver::Flop { d, clock, .. } => uses.extend_from_slice(&[*d, *clock]),
-    }
-}
-
-/// The nets that the block owns, and those that its gates use.
-pub(super) fn nets_of(
-    alloc: Global,
-    circuit: &Circuit,
-    cut: &Cut,
-    block: u32,
-    uses: &[u32],
-) -> Result<Vec<u32>, AllocError>
-    requires fits { CutFits circuit.now cut.now }
-    requires block { block < cut.now.blocks }
-    requires uses { (n : ℕ) → has uses.now n ≡ is_used_by circuit.now cut.now block n }
-    ensures { IfOk result (λ nets. nets.items ≡ part_nets circuit.now cut.now block) }
-{
-    circuit.law();
-    let mut nets = Vec::from_slice(alloc, cut.own_nets(block))?;
-    nets.extend_from_slice(uses)?;
-    settle(&mut nets);
-    Ok(nets)
-}
-
-/// For each of some nets, whether it is among those that are used.
-pub(super) fn marks_of(alloc: Global, uses: &[u32], nets: &[u32]) -> Result<Vec<bool>, AllocError>
-    requires { IsStrictlyIncreasing uses.now }
-    ensures { IfOk result (λ marks. marks.items ≡ map (has uses.now) nets.now) }
-{
-    let mut marks = Vec::with_capacity(alloc, nets.len())?;
-    for net in nets {
-        marks.push(is_among(uses, *net))?;
-    }
-    Ok(marks)
 }
 
 /// What each net is to the block, over places. The pins of the gates go into their list.

@@ -40,14 +40,6 @@ pub(super) fn place_in(nets: &[u32], net: u32) -> u32
     }
 }
 
-/// Whether a net is among others, which ascend.
-pub(super) fn is_among(nets: &[u32], net: u32) -> bool
-    requires { IsStrictlyIncreasing nets.now }
-    ensures { result ≡ has nets.now net }
-{
-    slot_in(nets, net).is_some()
-}
-
 /// Puts some numbers into ascending order, each once.
 pub(super) fn settle(numbers: &mut Vec<u32>)
     ensures rising { IsStrictlyIncreasing numbers.new.items }

@@ -1,24 +1,22 @@
 use Rattle.std.proofs.Common.{length, refl, ap, ◌∙◌}
 use Rattle.warp_part.specs.declared.part.Part.TheInside.{Inside}
-use Rattle.warp_part.proofs.PartWhole.{built, map_same, IsHeld-built}
+use Rattle.warp_part.proofs.PartWhole.{built, IsHeld-built}
 use Rattle.warp_part.proofs.part.Part.of.Goals as goal
 
 pub invariant_of-result : goal.invariant_of-result
 invariant_of-result c =
-    let marks = rw (c.deref-2.ensures.value, c.deref-3.ensures.value) at c.in_ok-used.ensures in
     IsHeld-built c.args.circuit.now c.args.cut.now c.args.block _ c.law.ensures c.requires.fits (record {
       number = refl;
-      nets = c.in_ok-nets.ensures;
-      many = c.in_ok-cells.ensures.cells ∙ ap length c.deref-4.ensures.value;
-      cells = rw c.deref-4.ensures.value at c.in_ok-cells.ensures.each;
-      readers = rw (c.deref-6.ensures.value, c.in_ok-lists.ensures, c.deref-5.ensures.value) at c.in_ok-told.ensures.lists;
+      nets = c.in_ok-nets.ensures.nets;
+      many = c.in_ok-cells.ensures.cells ∙ ap length c.deref.ensures.value;
+      cells = rw c.deref.ensures.value at c.in_ok-cells.ensures.each;
+      readers = rw (c.deref-3.ensures.value, c.in_ok-lists.ensures, c.deref-2.ensures.value) at c.in_ok-told.ensures.lists;
       spans = c.in_ok-told.ensures.within;
-      used = marks ∙ map_same c.in_ok-uses.ensures.uses c.in_ok-nets.nets.items;
+      used = c.in_ok-nets.ensures.used;
     })
 
 pub returns : goal.returns
 returns c =
-    let marks = rw (c.deref-2.ensures.value, c.deref-3.ensures.value) at c.in_ok-used.ensures in
     let part : Inside = record {
       block = c.args.block;
       nets = c.in_ok-nets.nets;
@@ -26,14 +24,14 @@ returns c =
       pins = c.cells_of.new.pins;
       told = c.in_ok-told.told;
       readers = c.flattened.new.all;
-      used = c.in_ok-used.used;
+      used = c.nets_of.new.used;
     } in
     built c.args.circuit.now c.args.cut.now c.args.block part (record {
       number = refl;
-      nets = c.in_ok-nets.ensures;
-      many = c.in_ok-cells.ensures.cells ∙ ap length c.deref-4.ensures.value;
-      cells = rw c.deref-4.ensures.value at c.in_ok-cells.ensures.each;
-      readers = rw (c.deref-6.ensures.value, c.in_ok-lists.ensures, c.deref-5.ensures.value) at c.in_ok-told.ensures.lists;
+      nets = c.in_ok-nets.ensures.nets;
+      many = c.in_ok-cells.ensures.cells ∙ ap length c.deref.ensures.value;
+      cells = rw c.deref.ensures.value at c.in_ok-cells.ensures.each;
+      readers = rw (c.deref-3.ensures.value, c.in_ok-lists.ensures, c.deref-2.ensures.value) at c.in_ok-told.ensures.lists;
       spans = c.in_ok-told.ensures.within;
-      used = marks ∙ map_same c.in_ok-uses.ensures.uses c.in_ok-nets.nets.items;
+      used = c.in_ok-nets.ensures.used;
     })
