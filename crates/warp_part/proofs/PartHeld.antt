@@ -1,12 +1,11 @@
 -- What the fields of a part say of its nets.
-use Rattle.std.proofs.Common.{◌≡◌, ℕ, suc, ◌<◌, ◌≤◌, List, [], ◌∷◌, map, drop, length, get_or, refl, ap, subst, ◌∙◌, arith}
-use Rattle.std.specs.List.{All}
+use Rattle.std.proofs.Common.{◌≡◌, ℕ, ◌<◌, ◌≤◌, List, [], ◌∷◌, length, get_or, refl, ap, subst, ◌∙◌, arith}
 use Rattle.std.proofs.lemmas.List.{get_or-map}
 use Rattle.gate_values.specs.Behaviour.{Outside}
 use Rattle.warp_part.specs.declared.cell.Cell.{Cell}
 use Rattle.warp_part.specs.declared.part.Part.TheInside.{Inside}
 use Rattle.warp_part.specs.Inner.HeldPart.{IsHeld, CellFits}
-use Rattle.warp_part.specs.Shown.Part.{portion_of, cell_source, stretch}
+use Rattle.warp_part.specs.Shown.Part.{portion_of, cell_source}
 
 -- a copy of the fields is a part
 pub IsHeld-copy : (p q : Inside) → q.block ≡ p.block → q.nets.items ≡ p.nets.items → q.cells.items ≡ p.cells.items → q.pins.items ≡ p.pins.items

@@ -1,11 +1,9 @@
 -- The blocks that read the nets of a part, as they are gathered.
-use Rattle.std.proofs.Common.{◌≡◌, ◌≢◌, ℕ, suc, ◌+◌, ◌<◌, ◌≤◌, ◌==◌, Bool, true, false, not, ◌&&◌, ◌||◌, Option, Some, None, IfSome, List, [], ◌∷◌, ◌++◌, map, take, set, replicate, length, get_or, inl, inr, refl, ap, sym, ◌∙◌, arith}
-use Rattle.std.specs.Prelude.{Vec}
-use Rattle.std.specs.declared.alloc.Global.{Global}
+use Rattle.std.proofs.Common.{◌≡◌, ◌≢◌, ℕ, suc, ◌+◌, ◌<◌, ◌≤◌, ◌==◌, Bool, true, false, not, ◌&&◌, ◌||◌, Option, Some, None, IfSome, List, [], ◌∷◌, ◌++◌, map, take, length, get_or, refl, ap, sym, ◌∙◌, arith}
 use Rattle.std.specs.List.{list_any, range_with_len, All}
 use Rattle.std.specs.List.Sorted.{IsStrictlyIncreasing}
-use Rattle.std.proofs.lemmas.Bool.{cases_lt, cases_eq, and_right, eqb-true, ne_eqb}
-use Rattle.std.proofs.lemmas.List.{map-set, length-map, length-set, get_or-map, get_or-set_same, get_or-set_other, length-replicate, get_or-replicate, get_or_past, ext_get_or, map-append, map_more, length-append}
+use Rattle.std.proofs.lemmas.Bool.{and_right, eqb-true, ne_eqb}
+use Rattle.std.proofs.lemmas.List.{map-append, map_more, length-append}
 use Rattle.std.proofs.lemmas.List.Elements.{All-append, All-cons, All-nil}
 use Rattle.std.proofs.lemmas.List.Folds.{list_any-append, list_any_more, list_any_none}
 use Rattle.gate_netlist.specs.Circuit.{Design, nets_of, driver_of, source_of, nets_used, is_one_of, readers_of}
@@ -16,20 +14,9 @@ use Rattle.warp_part.specs.declared.cell.Span.{Span}
 use Rattle.warp_part.specs.Portion.{does_use}
 use Rattle.warp_part.specs.PartOf.{is_own, is_used_by, part_readers}
 use Rattle.warp_part.specs.Shown.Part.{stretch}
-use Rattle.warp_part.specs.Inner.Building.{driver_uses, has, lists_of, is_other_owner, AreReaders}
+use Rattle.warp_part.specs.Inner.Building.{driver_uses, has, is_other_owner}
 use Rattle.warp_part.proofs.PartLists.{or_none, any_kept, any_same, kept_is}
 use Rattle.warp_part.proofs.PartBuilding.{uses-driver, stretch-append, stretch-behind}
-
--- ---- lists in vectors
-
-pub list_at : (vs : List (Vec ℕ Global)) (p : ℕ) (v : Vec ℕ Global) → p < length vs → v ≡ get_or vs p v → get_or (lists_of vs) p [] ≡ v.items
-list_at vs p v l is = get_or-map (λ (w : Vec ℕ Global). w.items) vs p v [] l ∙ ap (λ (w : Vec ℕ Global). w.items) (sym is)
-
-pub lists_many : (vs : List (Vec ℕ Global)) → length (lists_of vs) ≡ length vs
-lists_many vs = length-map vs (λ (w : Vec ℕ Global). w.items)
-
-pub lists_of-set : (vs : List (Vec ℕ Global)) (p : ℕ) (v : Vec ℕ Global) → lists_of (set vs p v) ≡ set (lists_of vs) p v.items
-lists_of-set vs p v = map-set (λ (w : Vec ℕ Global). w.items) vs p v
 
 -- ---- the owners of some gates
 
@@ -93,46 +80,6 @@ module _ (d : Design) (cut : Ownership) where
         let same : (c : ℕ) → has list c ≡ test c = λ c. h c ∙ ap (λ u. not (c == b) && u) (readers_used c n) in
         rw own (kept_is test cut.blocks list up (λ c m. same c) (λ c m. same c ∙ and_right (not (c == b)) (is_used_by d cut c n) (used_past c n law m)))
 
-    -- ---- the nets below a place
-
-    module _ (nets : List ℕ) where
-      pub AreReaders-none : (lists : List (List ℕ)) → lists ≡ replicate (length nets) [] → AreReaders d cut b 0 nets lists
-      AreReaders-none lists e = record {
-        same = ap length e ∙ length-replicate (length nets) [];
-        done = λ i l. absurd (omega (arith, l));
-        left = λ i l.
-            ap (λ ls. get_or ls i []) e ∙ elim (cases_lt i (length nets)) [
-              | inl l ↦ get_or-replicate (length nets) i [] [] l
-              | inr past ↦ get_or_past (replicate (length nets) []) i [] (omega (arith, past, length-replicate {A = List ℕ} (length nets) []))
-            ];
-      }
-
-      pub AreReaders-own : (end : ℕ) (lists : List (List ℕ)) (list : List ℕ) → end < length nets → list ≡ part_readers d cut b (get_or nets end 0) → AreReaders d cut b end nets lists
-          → AreReaders d cut b (end + 1) nets (set lists end list)
-      AreReaders-own end lists list l is h = record {
-        same = length-set lists end list ∙ h.same;
-        done = λ i m. elim (cases_eq i end) [
-          | inl at ↦ rw at (get_or-set_same lists end list [] (omega (arith, l, h.same)) ∙ is)
-          | inr apart ↦ get_or-set_other lists end i list [] apart ∙ h.done i (omega (arith, m, apart))
-        ];
-        left = λ i m. get_or-set_other lists end i list [] (λ e. absurd (omega (arith, m, e))) ∙ h.left i (omega (arith, m));
-      }
-
-      pub AreReaders-other : (end : ℕ) (lists : List (List ℕ)) → is_own cut b (get_or nets end 0) ≡ false → AreReaders d cut b end nets lists → AreReaders d cut b (end + 1) nets lists
-      AreReaders-other end lists other h = record {
-        same = h.same;
-        done = λ i m. elim (cases_eq i end) [
-          | inl at ↦ rw at (h.left end (omega arith) ∙ rw other refl)
-          | inr apart ↦ h.done i (omega (arith, m, apart))
-        ];
-        left = λ i m. h.left i (omega (arith, m));
-      }
-
-      pub AreReaders-all : (lists : List (List ℕ)) → AreReaders d cut b (length nets) nets lists → lists ≡ map (part_readers d cut b) nets
-      AreReaders-all lists h =
-          ext_get_or [] lists (map (part_readers d cut b) nets) (h.same ∙ sym (length-map nets (part_readers d cut b)))
-          (λ i l. h.done i (omega (arith, h.same, l)) ∙ sym (get_or-map (part_readers d cut b) nets i 0 [] (omega (arith, h.same, l))))
-
 -- ---- lists as stretches of one
 
 stretches-append : (all more : List ℕ) (spans : List Span) → All (λ (span : Span). span.start + span.count ≤ length all) spans → map (stretch (all ++ more)) spans ≡ map (stretch all) spans
@@ -142,15 +89,15 @@ stretches-append all more (span ∷ spans) h =
     let rest = stretches-append all more spans (λ k e l. h (suc k) e (omega (arith, l))) in
     cc
 
-pub stretches_more : (lists : List (Vec ℕ Global)) (i : ℕ) (v : Vec ℕ Global) (all new : List ℕ) (spans spans' : List Span) (span : Span) → i < length lists → v ≡ get_or lists i v
-    → new ≡ all ++ v.items → spans' ≡ spans ++ span ∷ [] → span.start ≡ length all → span.count ≡ length v.items
-    → All (λ (span : Span). span.start + span.count ≤ length all) spans → map (stretch all) spans ≡ lists_of (take i lists)
-    → map (stretch new) spans' ≡ lists_of (take (i + 1) lists)
-stretches_more lists i v all new spans spans' span l is e f start count within h =
-    let items : Vec ℕ Global → List ℕ = λ w. w.items in
-    let last : (get_or lists i v).items ≡ v.items = ap items (sym is) in
-    rw (e, f, map-append (stretch (all ++ v.items)) spans (span ∷ []), map_more items lists i v l, last, stretches-append all v.items spans within, stretch-behind all v.items span start count)
-    (ap (λ xs. xs ++ v.items ∷ []) h)
+-- the list of a net more, which stands behind
+pub stretches_more : (f : ℕ → List ℕ) (nets : List ℕ) (i : ℕ) (list all : List ℕ) (spans : List Span) (span : Span) → i < length nets → list ≡ f (get_or nets i 0)
+    → span.start ≡ length all → span.count ≡ length list → All (λ (span : Span). span.start + span.count ≤ length all) spans → map (stretch all) spans ≡ map f (take i nets)
+    → map (stretch (all ++ list)) (spans ++ span ∷ []) ≡ map f (take (i + 1) nets)
+stretches_more f nets i list all spans span l is start count within h =
+    map-append (stretch (all ++ list)) spans (span ∷ [])
+    ∙ ap (λ ls. ls ++ stretch (all ++ list) span ∷ []) (stretches-append all list spans within ∙ h)
+    ∙ ap (λ last. map f (take i nets) ++ last ∷ []) (stretch-behind all list span start count ∙ is)
+    ∙ sym (map_more f nets i 0 l)
 
 pub spans_more : (all more : List ℕ) (spans : List Span) (span : Span) → span.start ≡ length all → span.count ≡ length more → All (λ (span : Span). span.start + span.count ≤ length all) spans
     → All (λ (span : Span). span.start + span.count ≤ length (all ++ more)) (spans ++ span ∷ [])

@@ -1,15 +1,13 @@
 -- The places of a portion stand for its nets.
-use Rattle.std.proofs.Common.{◌≡◌, ◌∙◌, ℕ, suc, ◌<◌, ◌≤◌, true, false, cond, nat_lt, is_some, IsTrue, List, [], ◌∷◌, map, length, get_or, refl, ap, sym, subst, arith}
+use Rattle.std.proofs.Common.{◌≡◌, ℕ, ◌<◌, ◌≤◌, true, false, cond, nat_lt, is_some, IsTrue, List, [], ◌∷◌, map, length, get_or, refl, ap, sym, subst, arith}
 use Rattle.std.specs.List.{All, AllByRecursion}
 use Rattle.std.proofs.lemmas.Grind.{common_steps}
-use Rattle.std.proofs.lemmas.List.{get_or_past}
 use Rattle.std.proofs.lemmas.List.Elements.{All-head, All-tail}
 use Rattle.gate_values.specs.declared.logic.Logic.{Logic}
 use Rattle.gate_values.specs.declared.logic.Logic.TheVariants.{X}
-use Rattle.gate_values.specs.declared.gate.Kind.{Kind}
-use Rattle.gate_values.specs.Behaviour.{Source, Outside, Gate, Flop, before, value}
+use Rattle.gate_values.specs.Behaviour.{Source, Outside, Gate, Flop, before}
 use Rattle.place_names.specs.Names.{IsNamed, IsBelow, StandForNets}
-use Rattle.place_names.proofs.Naming.{IsSame, moments_same}
+use Rattle.place_names.proofs.Naming.{moments_same}
 use Rattle.warp_part.specs.Portion.{Portion, IsPortion, slot_of, at_slot, source_of, is_driven, uses}
 use Rattle.warp_part.specs.Inner.Building.{place_of}
 use Rattle.warp_part.specs.Placing.{net_of_place, placed, place_source, place_given}

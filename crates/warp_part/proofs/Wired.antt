@@ -1,11 +1,8 @@
 -- The cells of a part are its sources over places.
-use Rattle.std.proofs.Common.{◌≡◌, ◌∙◌, ℕ, ◌<◌, Some, unwrap_or, List, [], ◌∷◌, map, length, get_or, slice_index, refl, ap, sym, arith}
+use Rattle.std.proofs.Common.{◌≡◌, ℕ, ◌<◌, unwrap_or, List, [], ◌∷◌, map, length, slice_index, refl, ap}
 use Rattle.std.specs.List.{All}
 use Rattle.std.proofs.lemmas.List.Elements.{All-head, All-tail, All-take, All-drop}
-use Rattle.gate_values.specs.declared.logic.Logic.{Logic}
-use Rattle.gate_values.specs.declared.gate.Kind.{Kind}
-use Rattle.gate_values.specs.Behaviour as behaviour
-use Rattle.gate_values.specs.Behaviour.{Source, initial_of}
+use Rattle.gate_values.specs.Behaviour.{initial_of}
 use Rattle.std.specs.List.Sorted.{IsStrictlyIncreasing}
 use Rattle.warp_gates.specs.Cells as cells
 use Rattle.warp_part.specs.declared.cell.Cell.{Cell}

@@ -61,9 +61,8 @@ impl Part {
         let nets = uses::nets_of(alloc, circuit, cut, block, &mut used)?;
         let mut pins = Vec::new(alloc);
         let cells = build::cells_of(alloc, circuit, cut, block, &nets, &mut pins)?;
-        let lists = readers::readers_of(alloc, circuit, cut, block, &nets)?;
         let mut readers = Vec::new(alloc);
-        let told = readers::flattened(alloc, &lists, &mut readers)?;
+        let told = readers::readers_of(alloc, circuit, cut, block, &nets, &mut readers)?;
         Ok(Part {
             block,
             nets,

@@ -1,7 +1,5 @@
 -- What the building of a part says, net by net.
-use Rattle.std.specs.Prelude.{◌≡◌, ℕ, ◌<◌, ◌≤◌, Bool, ◌&&◌, ◌++◌, ◌==◌, not, List, [], map, length, get_or, unwrap_or}
-use Rattle.std.specs.Prelude.{Vec}
-use Rattle.std.specs.declared.alloc.Global.{Global}
+use Rattle.std.specs.Prelude.{◌≡◌, ℕ, ◌<◌, Bool, ◌&&◌, ◌++◌, ◌==◌, not, List, length, get_or, unwrap_or}
 use Rattle.std.specs.List.{list_any, All}
 use Rattle.gate_values.specs.Behaviour.{Source}
 use Rattle.gate_netlist.specs.Circuit.{Design, driver_of, source_by, is_input}
@@ -10,7 +8,7 @@ use Rattle.gate_netlist.specs.declared.driver.Driver.{Driver}
 use Rattle.warp_part.specs.declared.cell.Cell.{Cell}
 use Rattle.warp_part.specs.Inner.HeldPart.{CellFits}
 use Rattle.warp_part.specs.Shown.Part.{cell_source, is_input_cell}
-use Rattle.warp_part.specs.PartOf.{is_own, part_source, part_readers}
+use Rattle.warp_part.specs.PartOf.{is_own, part_source}
 use Rattle.warp_part.specs.Portion.{uses, slot_of}
 
 -- the nets that a driver uses
@@ -46,16 +44,6 @@ pub record AreCells (d : Design) (cut : Ownership) (b : ℕ) (nets pins : List �
   pub each : (i : ℕ) (e : Cell) → i < length cells → IsCell nets pins (part_source d cut b (get_or nets i 0)) (is_input (driver_of d (get_or nets i 0))) (get_or cells i e)
   pub places : All (λ pin. pin < length nets) pins
 
--- the lists that some vectors hold
-abbrev pub lists_of : List (Vec ℕ Global) → List (List ℕ)
-lists_of vs = map (λ v. v.items) vs
-
 -- a block other than this one that owns one of some gates
 abbrev pub is_other_owner : Ownership → ℕ → List ℕ → ℕ → Bool
 is_other_owner cut b gates c = not (c == b) && list_any (is_own cut c) gates
-
--- the lists of the first so many nets are their readers, those of the others are empty
-pub record AreReaders (d : Design) (cut : Ownership) (b end : ℕ) (nets : List ℕ) (lists : List (List ℕ)) : Type 0 where
-  pub same : length lists ≡ length nets
-  pub done : (i : ℕ) → i < end → get_or lists i [] ≡ part_readers d cut b (get_or nets i 0)
-  pub left : (i : ℕ) → end ≤ i → get_or lists i [] ≡ []

@@ -1,8 +1,7 @@
-use Rattle.std.proofs.Common.{◌≡◌, ◌∙◌, List, Result, map, ap, sym, subst}
+use Rattle.std.proofs.Common.{◌≡◌, ◌∙◌, List, map, ap, sym, subst}
 use Rattle.std.specs.Prelude.{IfOk}
 use Rattle.gate_values.specs.declared.logic.Logic.{Logic}
 use Rattle.gate_values.specs.Behaviour.{initial_of}
-use Rattle.warp_part.specs.declared.cell.Cell.{Cell}
 use Rattle.warp_part.specs.Portion.{Portion}
 use Rattle.warp_part.specs.Inner.Wired.{begun}
 use Rattle.warp_part.proofs.Wired.{cells_begun}

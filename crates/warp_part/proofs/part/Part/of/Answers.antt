@@ -10,7 +10,7 @@ invariant_of-result c =
       nets = c.in_ok-nets.ensures.nets;
       many = c.in_ok-cells.ensures.cells ∙ ap length c.deref.ensures.value;
       cells = rw c.deref.ensures.value at c.in_ok-cells.ensures.each;
-      readers = rw (c.deref-3.ensures.value, c.in_ok-lists.ensures, c.deref-2.ensures.value) at c.in_ok-told.ensures.lists;
+      readers = rw c.deref-2.ensures.value at c.in_ok-told.ensures.readers;
       spans = c.in_ok-told.ensures.within;
       used = c.in_ok-nets.ensures.used;
     })
@@ -23,7 +23,7 @@ returns c =
       cells = c.in_ok-cells.cells;
       pins = c.cells_of.new.pins;
       told = c.in_ok-told.told;
-      readers = c.flattened.new.all;
+      readers = c.readers_of.new.all;
       used = c.nets_of.new.used;
     } in
     built c.args.circuit.now c.args.cut.now c.args.block part (record {
@@ -31,7 +31,7 @@ returns c =
       nets = c.in_ok-nets.ensures.nets;
       many = c.in_ok-cells.ensures.cells ∙ ap length c.deref.ensures.value;
       cells = rw c.deref.ensures.value at c.in_ok-cells.ensures.each;
-      readers = rw (c.deref-3.ensures.value, c.in_ok-lists.ensures, c.deref-2.ensures.value) at c.in_ok-told.ensures.lists;
+      readers = rw c.deref-2.ensures.value at c.in_ok-told.ensures.readers;
       spans = c.in_ok-told.ensures.within;
       used = c.in_ok-nets.ensures.used;
     })

@@ -1,8 +1,6 @@
 use Rattle.std.proofs.Common.{◌≡◌, ◌∙◌, ℕ, List, map, ap, sym, subst}
 use Rattle.std.specs.Prelude.{IfOk}
 use Rattle.warp_gates.specs.Cells as cells
-use Rattle.warp_part.specs.declared.cell.Cell.{Cell}
-use Rattle.warp_part.specs.Portion.{Portion}
 use Rattle.warp_part.specs.Placing.{place_cells}
 use Rattle.warp_part.specs.Inner.Wired.{wired}
 use Rattle.warp_part.proofs.Wired.{cells_wired}

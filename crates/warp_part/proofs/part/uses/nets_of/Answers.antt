@@ -1,4 +1,4 @@
-use Rattle.std.proofs.Common.{sym, ◌∙◌}
+use Rattle.std.proofs.Common.{◌∙◌}
 use Rattle.warp_part.proofs.PartWhole.{map_same}
 use Rattle.warp_part.proofs.PartNoted.{AreApart-notes, nets_merged}
 use Rattle.warp_part.proofs.part.uses.nets_of.Goals as goal

@@ -1,4 +1,4 @@
-use Rattle.std.proofs.Common.{◌≡◌, ◌==◌, ◌||◌, [], List, ℕ, take, get_or, ap, sym, ◌∙◌}
+use Rattle.std.proofs.Common.{◌==◌, ◌||◌, List, ℕ, take, get_or, ap, sym, ◌∙◌}
 use Rattle.std.proofs.lemmas.List.{take_all}
 use Rattle.std.proofs.lemmas.List.Folds.{list_any_more}
 use Rattle.warp_part.specs.Inner.Building.{has}
