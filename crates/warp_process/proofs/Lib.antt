@@ -1,7 +1,9 @@
--- Queues of entries (`Rising`, `QueueOrder`, `QueueEdits`, `QueueOpening`, `Copying`, `Settled`, `Unsettled`), what is heard (`Hearing`, `Putting`,
--- `Listing`, `Opened`, `Finding`, `Settling`, `Committing`), logs of runs and what they show (`Running`, `LogOrder`, `Views`, `Rows`, `Quiet`, `Next`,
+-- Queues of entries (`Rising`, `QueueOrder`, `QueueEdits`, `QueueOpening`, `Copying`, `Settled`, `Unsettled`, `Agreeing`), what is heard (`Hearing`, `Putting`,
+-- `Listing`, `Opened`, `Finding`, `Settling`, `Committing`, `Asking`), logs of runs and what they show (`Running`, `LogOrder`, `Views`, `Rows`, `Quiet`, `Next`,
 -- `Playing`), busy times and saved states (`SavingTimes`, `SavingBusy`, `SavingStates`, `SavingStep`, `SavingAdvance`, `Going`), what is sent (`Told`,
 -- `Sends`), and calls (`Receiving`, `Committed`, `Laws`).
+pub mod Agreeing
+pub mod Asking
 pub mod Committed
 pub mod Committing
 pub mod Copying

@@ -1,7 +1,8 @@
 //! What a block has heard.
 ghost use Rattle.std.specs.Prelude.{◌≡◌, ◌≢◌, ◌≤◌, ◌<◌, ◌↔◌, ◌⊎◌, ℕ, [], IsTrue, IsSome, IfOk, IfErr, IfSome, IfNone, OnOk, OnErr, None, if◌then◌else◌, length, get_or, slice_index};
-ghost use Rattle.std.specs.List.{All};
+ghost use Rattle.std.specs.List.{All, AllPairs};
 ghost use Rattle.std.specs.List.Sorted.{IsStrictlyIncreasing};
+ghost use Rattle.gate_values.specs.Changes.{pair_at};
 ghost use Rattle.warp_part.specs.Portion.{slot_of, hears};
 ghost use Rattle.warp_part.specs.Inner.Building.{has};
 ghost use Rattle.warp_process.specs.Limits.{most_horizon};
@@ -20,8 +21,8 @@ use crate::entry::Entry;
 use crate::fault::BlockFault;
 use crate::message::Message;
 use crate::timed::Timed;
-use crate::{agenda, queue};
-use gate_values::Logic;
+use crate::{agenda, agree, queue};
+use gate_values::{Change, Logic};
 use gate_vcd::Stimulus;
 use std::alloc::{AllocError, Global};
 use std::marker::Model;
@@ -241,6 +242,26 @@ impl Heard {
             }
         }
         None
+    }
+
+    /// The first time at which the entry of a net isn't settled.
+    pub fn first_unsettled_of(&self, net: u32) -> Option<u64>
+        ensures { IsLeast (λ t. ¬ IsTrue (is_settled (entry_of self.now net t))) result }
+    {
+        match self.part.slot(net) {
+            Some(slot) => queue::next_unsettled(&self.queues[slot], self.floor, self.horizon + 1),
+            None => None,
+        }
+    }
+
+    /// Whether the messages that stand for a net are exactly some changes, in order of time.
+    pub fn was_told(&self, net: u32, changes: &[Change]) -> bool
+        ensures { IsTrue result ↔ (AllPairs (λ a b. a.time < b.time) changes.now × ((t : ℕ) → effective_at self.now net t ≡ pair_at changes.now t)) }
+    {
+        match self.part.slot(net) {
+            Some(slot) => agree::are_messages(&self.queues[slot], changes),
+            None => changes.is_empty(),
+        }
     }
 
     /// Moves the floor to a time below which all is settled, and forgets at which times below it there are entries.

@@ -11,6 +11,7 @@
 #![tactic(auto)]
 
 mod agenda;
+mod agree;
 mod entry;
 mod fault;
 mod heard;
