@@ -1,11 +1,12 @@
 ghost use Rattle.std.specs.Prelude.{◌≡◌, ◌≢◌, ◌+◌, ◌++◌, ◌-◌, ◌≤◌, ◌<◌, ◌↔◌, ◌⊎◌, ℕ, false, vec_len, IsTrue, IfOk, IfErr, OnOk, OnErr, Some, None};
-ghost use Rattle.std.specs.List.{All};
+ghost use Rattle.std.specs.List.{All, AllPairs};
+ghost use Rattle.gate_values.specs.Changes.{pair_at};
 ghost use Rattle.gate_vcd.specs.Waves.{lists_in, wave_of};
 ghost use Rattle.warp_part.specs.Portion.{owns};
 ghost use Rattle.warp_process.specs.Limits.{most_horizon};
 ghost use Rattle.warp_process.specs.declared.message.Sign.TheVariants.{Plus, Minus};
-ghost use Rattle.warp_process.specs.Entries.{no_messages};
-ghost use Rattle.warp_process.specs.View.{IsLeast, IsEventTime, IsDone, entry_of, log_of};
+ghost use Rattle.warp_process.specs.Entries.{no_messages, is_settled};
+ghost use Rattle.warp_process.specs.View.{IsLeast, IsEventTime, IsDone, entry_of, effective_at, log_of};
 ghost use Rattle.warp_process.specs.Lawful.{IsLawfulProcess};
 ghost use Rattle.warp_process.specs.Opening.{silent_view, opening_view, opening_messages};
 ghost use Rattle.warp_process.specs.Receive.{refusal_of, IsRefusal, IsTaken};
@@ -280,6 +281,20 @@ impl Block {
         ensures { IsLeast (λ t. (from ≤ t) × (entry_of self.now.seen net t ≢ no_messages)) result }
     {
         self.heard.next_entry(net, from)
+    }
+
+    /// The first time at which the entry of a net isn't settled.
+    pub fn first_unsettled_of(&self, net: u32) -> Option<u64>
+        ensures { IsLeast (λ t. ¬ IsTrue (is_settled (entry_of self.now.seen net t))) result }
+    {
+        self.heard.first_unsettled_of(net)
+    }
+
+    /// Whether the messages that stand for a net are exactly some changes, in order of time.
+    pub fn was_told(&self, net: u32, changes: &[Change]) -> bool
+        ensures { IsTrue result ↔ (AllPairs (λ a b. a.time < b.time) changes.now × ((t : ℕ) → effective_at self.now.seen net t ≡ pair_at changes.now t)) }
+    {
+        self.heard.was_told(net, changes)
     }
 }
 
