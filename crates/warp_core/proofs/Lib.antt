@@ -4,7 +4,6 @@ pub mod Finished
 pub mod Matching
 pub mod Entries
 pub mod Sweeping
-pub mod Walking
 pub mod GivenLogs
 pub mod Hearing
 pub mod Acting

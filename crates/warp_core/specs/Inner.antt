@@ -7,4 +7,3 @@ pub mod Opened
 pub mod Order
 pub mod Turns
 pub mod Waiting
-pub mod Walk

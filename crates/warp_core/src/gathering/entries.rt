@@ -11,15 +11,7 @@ use warp_block::Block;
 fn unsettled_time(block: &Block, net: u32) -> Option<u64>
     ensures { MatchOption result (IsSettledAt block.now.seen net) (IsFirst (IsSettledBy block.now.seen net)) }
 {
-    block.law();
-    let mut from = 0;
-    while let Some(time) = block.next_entry(net, from) {
-        if !block.entry(net, time).is_settled() {
-            return Some(time);
-        }
-        from = time + 1;
-    }
-    None
+    block.first_unsettled_of(net)
 }
 
 /// The first net of a block with an entry that isn't settled, and the first time of it.

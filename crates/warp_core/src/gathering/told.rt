@@ -4,11 +4,10 @@ ghost use Rattle.std.specs.Prelude.{◌≡◌, ◌≤◌, ◌+◌, ◌↔◌, Is
 ghost use Rattle.gate_values.specs.Changes.{before_time};
 ghost use Rattle.gate_vcd.specs.Given.{changes_of};
 ghost use Rattle.gate_vcd.specs.Inner.Lists.{IsRising};
-ghost use Rattle.gate_vcd.specs.Waves.{IsWave, IsUntil};
+ghost use Rattle.gate_vcd.specs.Waves.{IsWave};
 ghost use Rattle.warp_process.specs.Limits.{most_horizon};
 ghost use Rattle.warp_process.specs.View.{log_of};
-ghost use Rattle.warp_core.specs.Matched.{seen_at, IsSettledAt, AreSettled, IsTold, IsToldAt, AreTold, EachBlock, told_of};
-ghost use Rattle.warp_core.specs.Inner.Walk.{IsNext};
+ghost use Rattle.warp_core.specs.Matched.{seen_at, IsTold, IsToldAt, AreTold, EachBlock, told_of};
 ghost use Rattle.warp_core.specs.Gather.{AreCounted, IsFirst, IsFirstBlock};
 
 use gate_netlist::Cut;
@@ -26,10 +25,9 @@ fn until(changes: &[Change], horizon: u64) -> &[Change]
 }
 
 /// The log of a net.
-fn log_until(block: &Block, net: u32) -> &[Change]
+fn log(block: &Block, net: u32) -> &[Change]
     ensures log { result.now ≡ log_of block.now.seen net }
     ensures wave { IsWave result.now }
-    ensures until { IsUntil block.now.seen.horizon result.now }
 {
     block.law();
     block.log(net)
@@ -40,7 +38,6 @@ pub(super) fn given_until(stimulus: &Stimulus, horizon: u64, net: u32) -> &[Chan
     requires { horizon ≤ most_horizon }
     ensures changes { result.now ≡ before_time (horizon + 1) (changes_of stimulus.now net) }
     ensures wave { IsWave result.now }
-    ensures until { IsUntil horizon result.now }
 {
     stimulus.law();
     until(stimulus.changes(net), horizon)
@@ -55,43 +52,23 @@ pub(super) fn told<'a>(
     net: u32,
 ) -> &'a [Change]
     requires count { AreCounted cut.now blocks.now }
-    requires horizons { EachBlock cut.now blocks.now (λ _ v. v.horizon ≡ horizon) }
     requires horizon { horizon ≤ most_horizon }
     ensures changes { result.now ≡ told_of cut.now stimulus.now horizon blocks.now net }
     ensures wave { IsWave result.now }
-    ensures until { IsUntil horizon result.now }
 {
     cut.law();
     match cut.owner(net) {
         None => given_until(stimulus, horizon, net),
-        Some(owner) => log_until(&blocks[owner as usize], net),
+        Some(owner) => log(&blocks[owner as usize], net),
     }
-}
-
-/// Whether a change is the next one that a block was told of a net, from a time on.
-fn is_next(block: &Block, net: u32, from: u64, change: Change) -> bool
-    ensures { IsTrue result ↔ IsNext block.now.seen net from change }
-{
-    block.next_entry(net, from) == Some(change.time)
-        && block.entry(net, change.time).effective() == Some(change.value)
 }
 
 /// Whether the messages that stand for a net are exactly some changes.
 fn is_told(block: &Block, net: u32, changes: &[Change]) -> bool
-    requires settled { IsSettledAt block.now.seen net }
-    requires wave { IsWave changes.now }
-    requires until { IsUntil block.now.seen.horizon changes.now }
+    requires { IsWave changes.now }
     ensures { IsTrue result ↔ IsTold block.now.seen net changes.now }
 {
-    block.law();
-    let mut from = 0;
-    for change in changes {
-        if !is_next(block, net, from, *change) {
-            return false;
-        }
-        from = change.time + 1;
-    }
-    block.next_entry(net, from).is_none()
+    block.was_told(net, changes)
 }
 
 /// Whether a block, if it reads a net, was told of it what the net's owner, or the stimulus, says.
@@ -104,10 +81,7 @@ fn is_told_at(
     net: u32,
 ) -> bool
     requires count { AreCounted cut.now blocks.now }
-    requires horizons { EachBlock cut.now blocks.now (λ _ v. v.horizon ≡ horizon) }
     requires horizon { horizon ≤ most_horizon }
-    requires same { block.now.seen.horizon ≡ horizon }
-    requires settled { IsSettledAt block.now.seen net }
     ensures { IsTrue result ↔ IsToldAt cut.now stimulus.now horizon blocks.now block.now.seen net }
 {
     if !block.part().reads(net) {
@@ -125,10 +99,7 @@ fn untold_net(
     block: &Block,
 ) -> Option<u32>
     requires count { AreCounted cut.now blocks.now }
-    requires horizons { EachBlock cut.now blocks.now (λ _ v. v.horizon ≡ horizon) }
     requires horizon { horizon ≤ most_horizon }
-    requires same { block.now.seen.horizon ≡ horizon }
-    requires settled { AreSettled block.now.seen }
     ensures { MatchOption result
         (AreTold cut.now stimulus.now horizon blocks.now block.now.seen)
         (IsFirst (IsToldAt cut.now stimulus.now horizon blocks.now block.now.seen)) }
@@ -150,9 +121,7 @@ pub(super) fn untold(
     blocks: &[Block],
 ) -> Option<(u32, u32)>
     requires count { AreCounted cut.now blocks.now }
-    requires horizons { EachBlock cut.now blocks.now (λ _ v. v.horizon ≡ horizon) }
     requires horizon { horizon ≤ most_horizon }
-    requires settled { EachBlock cut.now blocks.now (λ _ v. AreSettled v) }
     ensures { MatchOption result
         (EachBlock cut.now blocks.now (λ _ v. AreTold cut.now stimulus.now horizon blocks.now v))
         (λ p. IsFirstBlock cut.now blocks.now (λ _ v. AreTold cut.now stimulus.now horizon blocks.now v) p.0

@@ -2,7 +2,7 @@ use Rattle.std.proofs.Common.{◌+◌, ◌∙◌, ap, subst, sym}
 use Rattle.gate_values.specs.Changes.{before_time}
 use Rattle.gate_vcd.specs.Given.{changes_of}
 use Rattle.gate_vcd.specs.Inner.Lists.{IsRising}
-use Rattle.gate_vcd.specs.Waves.{IsWave, IsUntil}
+use Rattle.gate_vcd.specs.Waves.{IsWave}
 use Rattle.gate_vcd.proofs.Laid.{its_rising}
 use Rattle.warp_core.proofs.Finished.{given_wave}
 use Rattle.warp_core.proofs.gathering.told.given_until.Goals as goal
@@ -14,8 +14,3 @@ pub returns-clause-wave : goal.returns-clause-wave
 returns-clause-wave c =
     let e = c.until.ensures ∙ ap (before_time (c.args.horizon + 1)) c.changes.ensures in
     subst IsWave (sym e) (given_wave (changes_of c.args.stimulus.now c.args.net) c.args.horizon c.requires (c.law.ensures c.args.net)).0
-
-pub returns-clause-until : goal.returns-clause-until
-returns-clause-until c =
-    let e = c.until.ensures ∙ ap (before_time (c.args.horizon + 1)) c.changes.ensures in
-    subst (IsUntil c.args.horizon) (sym e) (given_wave (changes_of c.args.stimulus.now c.args.net) c.args.horizon c.requires (c.law.ensures c.args.net)).1

@@ -1,6 +1,6 @@
-use Rattle.std.proofs.Common.{sym, below_more, subst, arith}
+use Rattle.std.proofs.Common.{below_more, subst, arith}
 use Rattle.warp_process.specs.View.{View}
-use Rattle.warp_core.specs.Matched.{AreSettled, seen_at, AreTold}
+use Rattle.warp_core.specs.Matched.{seen_at, AreTold}
 use Rattle.warp_core.proofs.Sweeping.{seen_is}
 use Rattle.warp_core.proofs.gathering.told.untold.Goals as goal
 
@@ -9,8 +9,3 @@ loop-block-preserved c =
     let told : View → Type 0 = AreTold c.args.cut.now c.args.stimulus.now c.args.horizon c.args.blocks.now in
     let e = seen_is c.args.blocks.now c.loop-block.block c.index-blocks-block.result (omega arith) c.index-blocks-block.is in
     below_more (λ b. told (seen_at c.args.blocks.now b)) c.loop-block.block c.loop-block.invariant (subst told e c.in-None.ensures)
-
-pub untold_net-requires-clause-settled : goal.untold_net-requires-clause-settled
-untold_net-requires-clause-settled c =
-    let e = seen_is c.args.blocks.now c.loop-block.block c.index-blocks-block.result (omega arith) c.index-blocks-block.is in
-    subst AreSettled (sym e) (c.requires.settled c.loop-block.block (omega arith))
