@@ -1,8 +1,9 @@
 -- What a block has received at a place.
-use Rattle.std.proofs.Common.{◌≡◌, ℕ, ◌<◌, List, [], length, get_or, ap, arith, subst, sym, Vec}
+use Rattle.std.proofs.Common.{◌≡◌, ℕ, ◌<◌, Bool, true, false, cond, Option, Some, None, IfSome, List, [], length, get_or, ap, arith, subst, sym, Vec}
 use Rattle.std.proofs.lemmas.List.{length-map}
 use Rattle.std.specs.declared.alloc.Global.{Global}
-use Rattle.warp_part.proofs.Slots.{of_net-at}
+use Rattle.warp_part.specs.Portion.{slot_of}
+use Rattle.warp_part.proofs.Slots.{of_net-at, slot_is}
 use Rattle.warp_process.specs.declared.heard.Heard.TheInside.{Inside}
 use Rattle.warp_process.specs.Entries.{Received, IsQueue, entry_in}
 use Rattle.warp_process.specs.Shown.Received.{lists_in}
@@ -41,3 +42,9 @@ seen_received heard v e is = subst IsReceived e is.received
 
 pub seen_listed : (heard : Inside) (v : View) → heard_by heard ≡ v → IsHeld heard → IsListed v (places_at heard.agenda)
 seen_listed heard v e is = subst (λ (w : View). IsListed w (places_at heard.agenda)) e is.listed
+
+-- what a search finds is the place of the net
+pub found_named : (nets : List ℕ) (b : Bool) (n : ℕ) (found : Option ℕ) → found ≡ cond b (slot_of nets n) None → IfSome found (λ i. (i < length nets) × (get_or nets i 0 ≡ n))
+found_named nets b n None e = tt
+found_named nets true n (Some i) e = slot_is nets n i (sym e)
+found_named nets false n (Some i) e = absurd cc

@@ -165,7 +165,7 @@ impl Heard {
         if message.time < self.floor {
             return Err(BlockFault::BelowFloor);
         }
-        let old = self.entry(message.net, message.time);
+        let old = self.entry_at(slot, message.time);
         match old.bump(message.value, message.sign) {
             Some(entry) => Ok((slot, entry)),
             None => Err(BlockFault::CountLimit),
@@ -298,7 +298,8 @@ impl Heard {
 
     /// The place of a net that a message to the block may name.
     fn hearing(&self, message: Message) -> Option<usize>
-        ensures { result ≡ (if is_for self.now.part message then slot_of self.now.part.nets message.net else None) }
+        ensures place { result ≡ (if is_for self.now.part message then slot_of self.now.part.nets message.net else None) }
+        ensures named { IfSome result (λ slot. (slot < length self.now.part.nets) × (slice_index self.now.part.nets slot ≡ message.net)) }
     {
         if message.block != self.part.block() {
             return None;

@@ -14,8 +14,31 @@ use crate::timed::Timed;
 use gate_values::{Change, Logic};
 use std::alloc::{AllocError, Global};
 
-/// How many entries of a queue are before a time.
+/// So many of the last entries of a queue are looked at one by one, before it is searched.
+const NEAR: usize = 8;
+
+/// How many entries of a queue are before a time: at little cost where the time is past the queue's last entries or among them.
 fn count_before(queue: &[Timed], time: u64) -> usize
+    requires { IsQueue queue.now }
+    ensures within { result ≤ length queue.now }
+    ensures split { IsPartitionPoint (λ e. e.time < time) (λ e. time ≤ e.time) queue.now result }
+{
+    let mut count = queue.len();
+    let far = count.saturating_sub(NEAR);
+    while count > far {
+        if queue[count - 1].time() < time {
+            return count;
+        }
+        count -= 1;
+    }
+    if count == 0 {
+        return 0;
+    }
+    search_before(queue, time)
+}
+
+/// How many entries of a queue are before a time.
+fn search_before(queue: &[Timed], time: u64) -> usize
     requires { IsQueue queue.now }
     ensures within { result ≤ length queue.now }
     ensures split { IsPartitionPoint (λ e. e.time < time) (λ e. time ≤ e.time) queue.now result }

@@ -1,12 +1,11 @@
-use Rattle.std.proofs.Common.{rules, nat_lt}
-use Rattle.std.proofs.lemmas.List.Sorted.{IsPartitionPoint-from_clause, IsPartitionedBy-ltb}
+use Rattle.std.proofs.Common.{◌<◌, ◌-◌, arith, subst}
 use Rattle.warp_process.specs.Entries.{Received}
-use Rattle.warp_process.proofs.Rising.{rising-not_falling, split-before}
+use Rattle.warp_process.proofs.Rising.{up_to-before}
 use Rattle.warp_process.proofs.queue.count_before.Goals as goal
 
-pub returns-clause-split : goal.returns-clause-split
-returns-clause-split c =
-    split-before (λ (x : Received). x.time) c.args.queue.now c.args.time _
-    (IsPartitionPoint-from_clause (λ (x : Received). nat_lt x.time c.args.time) _ _ c.partition_point.ensures.partitioned
-    (IsPartitionedBy-ltb (λ (x : Received). x.time) c.args.queue.now c.args.time (rising-not_falling (λ (x : Received). x.time) c.args.queue.now c.requires.in_order))
-    (λ a r q k. search rules))
+pub returns-then-time-clause-split : goal.returns-then-time-clause-split
+returns-then-time-clause-split c = (
+  λ k d low high. up_to-before (λ (e : Received). e.time) c.args.queue.now c.args.time (c.loop-count.count - 1) c.index-queue-count.result c.requires.in_order (omega arith)
+      (subst (λ (e : Received). e.time < c.args.time) c.index-queue-count.is (omega (arith, c.time.ensures, c.if-time.true))) k d low (omega arith),
+  c.loop-count.invariant.late,
+)
