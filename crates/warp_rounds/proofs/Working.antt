@@ -1,8 +1,9 @@
 -- What workers have done in a round, visit by visit, and what comes of it at the round's end.
-use Rattle.std.proofs.Common.{◌≡◌, ℕ, ◌<◌, ◌≤◌, ◌⊎◌, inl, inr, min, true, List, [], ◌∷◌, ◌++◌, All, length, fold, Option, Some, None, Err, refl, sym, ap, ◌∙◌, subst, arith, length-append}
+use Rattle.std.proofs.Common.{◌≡◌, ℕ, zero, suc, ◌<◌, ◌≤◌, ◌*◌, ◌⊎◌, inl, inr, min, true, List, [], ◌∷◌, ◌++◌, All, length, fold, Option, Some, None, Err, refl, sym, ap, ◌∙◌, subst, arith, length-append}
 use Rattle.std.proofs.lemmas.List.Elements.{All-nil, All-head, All-tail, All-push}
 use Rattle.std.proofs.lemmas.List.Sums.{fold-append}
 use Rattle.std.proofs.lemmas.Bool.{true≢false}
+use Rattle.std.proofs.Math.Nat.{zero-mul, mul-one}
 use Rattle.warp_process.specs.declared.message.Message.{Message}
 use Rattle.warp_process.specs.declared.fault.BlockFault.{BlockFault}
 use Rattle.warp_process.specs.declared.fault.BlockFault.TheVariants as block
@@ -15,7 +16,7 @@ use Rattle.warp_rounds.specs.Words.{never}
 use Rattle.warp_rounds.specs.Seats.{RoundId, RoundView, SeatView, empty_seat, least_of, IsEnd, IsUnmarked}
 use Rattle.warp_rounds.specs.Visit.{IsVisit, IsFaultyVisit}
 use Rattle.warp_rounds.specs.Runs.{IsStall, IsBlockFault}
-use Rattle.warp_rounds.specs.Inner.Work.{IsUndelivered, Visited, IsVisited, HasPlayed, IsWorkFault, IsPlayedOut, IsOver, IsStartFault, IsRoundFault}
+use Rattle.warp_rounds.specs.Inner.Work.{IsUndelivered, Visited, IsVisited, HasPlayed, IsWorkFault, IsPlayedOut, IsOver, HasLaps, IsStartFault, IsRoundFault}
 
 -- ---- faults
 
@@ -84,9 +85,9 @@ visited_more round floor window block time sent s drawn new before draw visit re
     }
 
 -- no block is left
-pub visited_over : (round : RoundId) (floor window : ℕ) (s new : SeatView) (fault : Option RunFault) → HasPlayed round floor window s →
-    new ≡ record s { marked = true } → fault ≡ None → IsOver round floor window new fault
-visited_over round floor window s new fault before mark well =
+pub visited_over : (blocks : ℕ) (round : RoundId) (floor window : ℕ) (s new : SeatView) (fault : Option RunFault) → HasPlayed round floor window s →
+    new ≡ record s { marked = true } → fault ≡ None → IsOver blocks round floor window new fault
+visited_over blocks round floor window s new fault before mark well =
     let over : IsPlayedOut round floor window new = (
       record {
         visits = before.visits;
@@ -99,13 +100,22 @@ visited_over round floor window s new fault before mark well =
       },
       ap (λ (u : SeatView). u.marked) mark,
     ) in
-    subst (IsOver round floor window new) (sym well) over
+    subst (IsOver blocks round floor window new) (sym well) over
 
 -- a block is drawn, and its visit meets a fault
-pub visited_faulty : (round : RoundId) (sites floor window block : ℕ) (s drawn : SeatView) (fault : RunFault) → HasPlayed round floor window s →
-    drawn ≡ record s { draws = s.draws ++ block ∷ [] } → round.blocks ≡ sites → IsWorkFault sites floor window fault → IsOver round floor window drawn (Some fault)
-visited_faulty round sites floor window block s drawn fault before draw count met =
-    (ap (λ (u : SeatView). u.round) draw ∙ before.visited.ours, subst (λ n. IsWorkFault n floor window fault) (sym count) met)
+pub visited_faulty : (blocks : ℕ) (round : RoundId) (floor window number : ℕ) (s drawn : SeatView) (fault : RunFault) → HasPlayed round floor window s →
+    drawn ≡ record s { draws = s.draws ++ number ∷ [] } → IsWorkFault blocks floor window fault → IsOver blocks round floor window drawn (Some fault)
+visited_faulty blocks round floor window number s drawn fault before draw met = (ap (λ (u : SeatView). u.round) draw ∙ before.visited.ours, met)
+
+-- a round over the blocks some times, or once
+pub over_laps : (blocks laps draws : ℕ) (round : RoundId) → (draws ≡ blocks * laps) ⊎ (draws ≡ blocks) → round.blocks ≡ draws → HasLaps blocks round
+over_laps blocks laps draws round (inl many) is = record { laps = laps; each = is ∙ many }
+over_laps blocks laps draws round (inr once) is = record { laps = 1; each = is ∙ (once ∙ sym (mul-one blocks)) }
+
+-- where a number is drawn there is a block
+pub some_block : (blocks number : ℕ) (round : RoundId) → HasLaps blocks round → number < round.blocks → 0 < blocks
+some_block zero number round over drawn = absurd (let none : round.blocks ≡ 0 = over.each ∙ zero-mul over.laps in omega (arith, none))
+some_block (suc n) number round over drawn = omega arith
 
 -- ---- a round's end
 

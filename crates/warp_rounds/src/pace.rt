@@ -3,10 +3,13 @@
 ghost use Rattle.std.specs.Prelude.{◌≤◌};
 ghost use Rattle.warp_rounds.specs.Visit.{Fits};
 
+use crate::site::Site;
 use crate::turns::Turned;
 use gate_netlist::{Circuit, Cut};
 use std::alloc::{AllocError, Global};
-use warp_block::Part;
+use std::sync::atomic::AtomicU64;
+use std::sync::atomic::Ordering::SeqCst;
+use warp_block::{Block, Part};
 
 /// How far above the floor blocks go in the first round.
 const FIRST: u64 = 64;
@@ -15,7 +18,22 @@ const FIRST: u64 = 64;
 const NEWER: u64 = 16;
 
 /// A round with less work isn't worth other threads than the caller's.
-const LITTLE: u64 = 8192;
+const LITTLE: u64 = 2048;
+
+/// About how many changes a turn makes at most, where several blocks have work.
+const TURN: u64 = 2048;
+
+/// About how many it makes at most, where one block has most of the work.
+const LONG_TURN: u64 = 1 << 14;
+
+/// A round with less work goes over the blocks more often, so that its threads are worth their start.
+const ENOUGH: u64 = 1 << 16;
+
+/// How often a round goes over the blocks at most.
+const MOST_LAPS: u32 = 64;
+
+/// The logs of so many nets stand for those of all.
+const SAMPLE: usize = 16;
 
 /// What a message counts as work: about so many changes stand behind one.
 const BEHIND: u64 = 8;
@@ -79,17 +97,29 @@ fn known(delays: &[u32], block: u32) -> Option<u32> {
     }
 }
 
-/// How many event times a block had lately, and in how long.
+/// How far a turn goes: about up to a time, and about so many changes.
+#[derive(Clone, Copy)]
+pub(crate) struct Reach {
+    pub(crate) until: u64,
+    pub(crate) changes: u64,
+}
+
+/// How many event times a block had lately, in how long, and how many changes it made at them.
 #[derive(Clone, Copy)]
 pub(crate) struct Density {
     times: u64,
     span: u64,
+    changes: u64,
 }
 
 impl Density {
-    /// One at each time.
+    /// One at each time, with one change.
     pub(crate) fn full() -> Density {
-        Density { times: 1, span: 1 }
+        Density {
+            times: 1,
+            span: 1,
+            changes: 1,
+        }
     }
 
     /// How many event times are to be expected in a span.
@@ -97,26 +127,47 @@ impl Density {
         span.saturating_mul(self.times) / self.span.max(1)
     }
 
-    /// A window of up to `most` for a turn whose first event time is `start`, if it has one: all of it, or where a time
-    /// is given, as many event times as are to be expected before it.
-    pub(crate) fn window(self, start: Option<u64>, until: Option<u64>, most: u32) -> u32
+    /// At how many event times so many changes are to be expected.
+    fn needed(self, changes: u64) -> u64 {
+        changes.saturating_mul(self.times) / self.changes.max(1)
+    }
+
+    /// A window of up to `most` for a turn whose first event time is `start`, if it has one: all of it, or where a reach
+    /// is given, as many event times as are to be expected within it.
+    pub(crate) fn window(self, start: Option<u64>, reach: Option<Reach>, most: u32) -> u32
         ensures { Fits result most }
     {
-        match (start, until) {
-            (Some(start), Some(until)) => {
-                fitting(self.expected(until.saturating_sub(start)), most)
+        match (start, reach) {
+            (Some(start), Some(reach)) => {
+                let times = self.expected(reach.until.saturating_sub(start));
+                fitting(times.min(self.needed(reach.changes)), most)
             }
             _ => most,
         }
     }
 
-    /// The density after a turn that finished some event times as the mark rose by a span: what was before counts half.
-    pub(crate) fn after(self, times: u32, span: u64) -> Density {
+    /// The density after a turn that finished some event times as the mark rose by a span, and made some changes: what was
+    /// before counts half.
+    pub(crate) fn after(self, times: u32, span: u64, changes: u64) -> Density {
         Density {
             times: (self.times / 2).saturating_add(u64::from(times) * NEWER),
             span: (self.span / 2).saturating_add(span.saturating_mul(NEWER)),
+            changes: (self.changes / 2).saturating_add(changes.saturating_mul(NEWER)),
         }
     }
+}
+
+/// About how many changes the logs of a block have: those of a few nets stand for all.
+pub(crate) fn logged(block: &Block) -> u64 {
+    let nets = block.part().nets();
+    let stride = nets.len() / SAMPLE + 1;
+    let mut changes: u64 = 0;
+    for sampled in 0..SAMPLE {
+        if let Some(net) = nets.get(sampled * stride) {
+            changes = changes.saturating_add(block.log(*net).len() as u64);
+        }
+    }
+    changes.saturating_mul(stride as u64)
 }
 
 /// A window for so many event times, if possible.
@@ -149,7 +200,9 @@ impl Tally {
     /// What a turn did that sent so many messages.
     pub(crate) fn of(turned: &Turned, sent: usize) -> Tally {
         let finished = u64::from(turned.finished);
-        let work = finished.saturating_add((sent as u64).saturating_mul(BEHIND));
+        let work = turned
+            .changes
+            .saturating_add((sent as u64).saturating_mul(BEHIND));
         Tally {
             finished,
             undone: turned.fallen.saturating_mul(finished.max(1)) / turned.risen.max(1),
@@ -184,33 +237,97 @@ impl Tally {
     }
 }
 
-/// How far above a round's floor each block may go, whoever may still take back what it was told.
+/// How far blocks go in a round: up to a time above what all have come to, whoever may still take back what they were told, in
+/// about so many changes a turn, and in so many laps.
 #[derive(Clone, Copy)]
 pub(crate) struct Lead {
     time: u64,
+    changes: u64,
+    laps: u32,
 }
 
 impl Lead {
     /// That of the first round.
     pub(crate) fn first() -> Lead {
-        Lead { time: FIRST }
-    }
-
-    /// The time up to which blocks may go at a floor.
-    pub(crate) fn above(self, floor: u64) -> u64 {
-        floor.saturating_add(self.time)
-    }
-
-    /// That of the next round: half of it, where more than a sixteenth of what was done in this one was undone; else a
-    /// quarter more.
-    pub(crate) fn after(self, tally: Tally) -> Lead {
-        if tally.undone > tally.finished / 16 {
-            return Lead {
-                time: self.time / 2,
-            };
-        }
         Lead {
-            time: self.time.saturating_add(self.time / 4).saturating_add(1),
+            time: FIRST,
+            changes: TURN,
+            laps: 1,
+        }
+    }
+
+    /// That of the next round: half as far, where more than a sixteenth of what was done in this one was undone, else a
+    /// quarter further. Turns are twice as long where one worker had better play, else half as long. There are twice as many
+    /// laps where there was little work, else half as many.
+    pub(crate) fn after(self, tally: Tally) -> Lead {
+        Lead {
+            time: self.time_after(tally),
+            changes: self.changes_after(tally),
+            laps: self.laps_after(tally),
+        }
+    }
+
+    /// How far blocks go above what all have come to, in the next round.
+    fn time_after(self, tally: Tally) -> u64 {
+        if tally.undone > tally.finished / 16 {
+            return self.time / 2;
+        }
+        self.time.saturating_add(self.time / 4).saturating_add(1)
+    }
+
+    /// About how many changes a turn makes at most in the next round.
+    fn changes_after(self, tally: Tally) -> u64 {
+        if tally.is_for_one() {
+            return self.changes.saturating_mul(2).min(LONG_TURN);
+        }
+        (self.changes / 2).max(TURN)
+    }
+
+    /// How many laps the next round of several workers has.
+    fn laps_after(self, tally: Tally) -> u32 {
+        if tally.work < ENOUGH {
+            return self.laps.saturating_mul(2).min(MOST_LAPS);
+        }
+        (self.laps / 2).max(1)
+    }
+}
+
+/// The pace of a round, and about how far all its blocks have come.
+#[derive(Drop)]
+pub(crate) struct Pace {
+    lead: Lead,
+    front: AtomicU64,
+}
+
+impl Pace {
+    /// The pace of a round at a floor.
+    pub(crate) fn at(lead: Lead, floor: u64) -> Pace {
+        Pace {
+            lead,
+            front: AtomicU64::new(floor),
+        }
+    }
+
+    /// How often a round of so many workers goes over the blocks: one worker meets nobody at its end.
+    pub(crate) fn laps(&self, workers: u32) -> u32 {
+        if workers > 1 { self.lead.laps } else { 1 }
+    }
+
+    /// Asks all blocks how far they have come.
+    pub(crate) fn meet(&self, sites: &[Site]) {
+        let mut front = u64::MAX;
+        for site in sites {
+            front = front.min(site.settled());
+        }
+        self.front.fetch_max(front, SeqCst);
+    }
+
+    /// How far a turn goes, of a block that nothing is taken back from up to a time.
+    pub(crate) fn reach(&self, sure: u64) -> Reach {
+        let front = self.front.load(SeqCst);
+        Reach {
+            until: front.saturating_add(self.lead.time).max(sure),
+            changes: self.lead.changes,
         }
     }
 }

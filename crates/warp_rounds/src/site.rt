@@ -4,7 +4,7 @@ ghost use Rattle.warp_rounds.specs.Turn.{IsTurn, StaysInFront};
 ghost use Rattle.warp_rounds.specs.Visit.{Fits, IsVisit, IsFaultyVisit};
 
 use crate::gate::Gate;
-use crate::pace::{Density, Teller};
+use crate::pace::{Density, Reach, Teller, logged};
 use crate::turns::{TurnReport, Turned, least_pending, turn_through};
 use std::alloc::{AllocError, Global};
 use std::mem;
@@ -34,18 +34,20 @@ struct Held {
     block: Block,
     /// How its event times have lain.
     density: Density,
+    /// About how many changes its logs had after its last visit.
+    logged: u64,
     /// The messages of a turn, which are swapped for the inbox's. It is empty between visits, and keeps its memory.
     messages: Vec<Message>,
 }
 
 impl Held {
-    /// A turn of the block with the messages that were taken, of up to `most` event times; where a time is given, of as
-    /// many as are to be expected before it.
+    /// A turn of the block with the messages that were taken, of up to `most` event times; where a reach is given, of as
+    /// many as are to be expected within it.
     fn turn(
         &mut self,
         floor: u64,
         most: u32,
-        until: Option<u64>,
+        reach: Option<Reach>,
         out: &mut Vec<Message>,
     ) -> Result<Turned, BlockFault>
         ensures turn { OnOk result ((own : ℕ) × Fits own most × IsTurn self.old.block self.new.block self.old.messages.items floor own) }
@@ -56,14 +58,27 @@ impl Held {
     {
         self.block.law();
         let start = least_pending(&self.block, self.messages.as_slice());
-        let window = self.density.window(start, until, most);
+        let window = self.density.window(start, reach, most);
         let messages = self.messages.as_slice();
         let turned = turn_through(&mut self.block, messages, floor, window, out);
         self.messages.clear();
-        if let Ok(turned) = turned {
-            self.density = self.density.after(turned.finished, turned.risen);
+        match turned {
+            Ok(turned) => Ok(self.noted(turned)),
+            Err(fault) => Err(fault),
         }
-        turned
+    }
+
+    /// Notes how the event times of a turn lay, and answers the turn with about how many changes were made at them.
+    fn noted(&mut self, turned: Turned) -> Turned
+        ensures block { self.new.block ≡ self.old.block }
+        ensures messages { self.new.messages.items ≡ self.old.messages.items }
+        ensures report { result.report ≡ turned.report }
+    {
+        let before = self.logged;
+        self.logged = logged(&self.block);
+        let changes = self.logged.saturating_sub(before);
+        self.density = self.density.after(turned.finished, turned.risen, changes);
+        Turned { changes, ..turned }
     }
 }
 
@@ -80,6 +95,7 @@ impl Site {
             held: Mutex::new(Held {
                 block,
                 density: Density::full(),
+                logged: 0,
                 messages: Vec::new(alloc),
             }),
             inbox: Mutex::new(Vec::new(alloc)),
@@ -94,11 +110,16 @@ impl Site {
         let mut sure = u64::MAX;
         for teller in &self.tellers {
             if let Some(site) = sites.get(teller.block as usize) {
-                let settled = site.settled.load(SeqCst).max(floor);
+                let settled = site.settled().max(floor);
                 sure = sure.min(settled.saturating_add(u64::from(teller.delay)));
             }
         }
         sure
+    }
+
+    /// Up to when nothing will be taken back that the block tells, as its last visit knew.
+    pub(crate) fn settled(&self) -> u64 {
+        self.settled.load(SeqCst)
     }
 
     /// Says up to when nothing will be taken back that the block tells. All that it told below is in the inboxes.
@@ -141,13 +162,13 @@ impl Site {
         Ok(turned.report)
     }
 
-    /// A visit whose turn, where a time is given, goes about as far as that; with what it did beside what it reports.
+    /// A visit whose turn, where a reach is given, goes about as far as that; with what it did beside what it reports.
     pub(crate) fn visit_through<R: Wait, G: Gate>(
         &self,
         rt: &R,
         floor: u64,
         window: u32,
-        until: Option<u64>,
+        reach: Option<Reach>,
         gate: &G,
         out: &mut Vec<Message>,
     ) -> Result<Turned, BlockFault>
@@ -159,7 +180,7 @@ impl Site {
         let held = &mut *guard;
         gate.entered(&held.block);
         mem::swap(&mut held.messages, &mut *self.inbox.lock(rt));
-        let turned = held.turn(floor, window, until, out);
+        let turned = held.turn(floor, window, reach, out);
         gate.leaving(&held.block);
         turned
     }
@@ -187,6 +208,7 @@ impl Site {
         let Held {
             block,
             density: _,
+            logged: _,
             messages: _,
         } = held.into_inner();
         block.law();

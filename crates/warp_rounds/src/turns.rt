@@ -24,6 +24,8 @@ pub(crate) struct Turned {
     pub risen: u64,
     /// How many event times it finished.
     pub finished: u32,
+    /// About how many changes were made at them; as many as these, where no more is known.
+    pub changes: u64,
     /// The block's next time after it.
     pub next: Option<u64>,
 }
@@ -87,6 +89,7 @@ pub(crate) fn turn_through(
         fallen,
         risen: block.mark().saturating_sub(heard),
         finished,
+        changes: u64::from(finished),
         next: block.next_time(),
     })
 }

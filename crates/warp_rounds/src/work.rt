@@ -1,16 +1,17 @@
-//! One round of workers: each draws blocks until none is left, and lets each block that it drew take a turn.
-ghost use Rattle.std.specs.Prelude.{◌≡◌, ◌+◌, ◌<◌, ◌≤◌, ◌^◌, List, [], IfOk, IfErr, All, length, vec_len};
+//! One round of workers: each draws blocks until none is left, and lets each block that it drew take a turn. A round goes over
+//! the blocks some times, so that threads are started once for several turns of each.
+ghost use Rattle.std.specs.Prelude.{◌≡◌, ◌⊎◌, ◌+◌, ◌*◌, ◌<◌, ◌≤◌, ◌^◌, List, [], IfOk, IfErr, All, length, vec_len};
 ghost use Rattle.warp_process.specs.declared.message.Message.{Message};
 ghost use Rattle.warp_rounds.specs.Words.{never};
 ghost use Rattle.warp_rounds.specs.Seats.{empty_seat};
 ghost use Rattle.warp_rounds.specs.Visit.{IsVisit};
 ghost use Rattle.warp_rounds.specs.declared.fault.RunFault.TheVariants as fault;
-ghost use Rattle.warp_rounds.specs.Inner.Work.{IsReady, HasWorked, IsPlayedOut, IsPromised, IsWorkFault, IsStartFault, IsRoundFault};
+ghost use Rattle.warp_rounds.specs.Inner.Work.{IsReady, HasLaps, HasWorked, IsPlayedOut, IsPromised, IsWorkFault, IsStartFault, IsRoundFault};
 
 use crate::desk::Desk;
 use crate::fault::RunFault;
 use crate::gate::Gate;
-use crate::pace::{Lead, Tally};
+use crate::pace::{Lead, Pace, Tally};
 use crate::round::{Round, RoundSeat};
 use crate::site::Site;
 use std::alloc::{AllocError, Global};
@@ -25,13 +26,14 @@ pub struct Worker {
     pub desk: Desk,
     /// What the turns did that it let blocks take.
     pub tally: Tally,
-    /// The fault that ended its work before no block was left.
+    /// The fault that ended its work before none was left to be drawn.
     pub fault: Option<RunFault>,
 }
 
 /// A worker's promise that what it hands back is of the round that it was started for, and tells what it did there.
 #[derive(Clone, Copy)]
 struct OfRound<'a> {
+    blocks: usize,
     round: &'a Round,
     floor: u64,
     window: u32,
@@ -40,7 +42,7 @@ struct OfRound<'a> {
 impl<'a> Promise<Worker> for OfRound<'a> {
     ghost use Rattle.warp_rounds.specs.Inner.Work.{HasWorked};
 
-    ghost kept_by = { λ promise worker. HasWorked promise.round.now.round promise.floor promise.window worker };
+    ghost kept_by = { λ promise worker. HasWorked promise.blocks promise.round.now.round promise.floor promise.window worker };
 }
 
 /// What a round tells.
@@ -52,10 +54,9 @@ pub struct Played {
     pub tally: Tally,
 }
 
-/// Plays a round: every block takes a turn at the floor, of up to `window` event times, about as far as its tellers or
-/// the lead allow. So many workers let them, the
-/// first in the caller's thread and each other in one of its own. Their desks are taken from `desks`, as far as there
-/// are any, and put back. The least time that is told is above the floor.
+/// Plays a round: every block takes some turns at the floor, each of up to `window` event times, about as far as its tellers or
+/// the lead allow. So many workers let them, the first in the caller's thread and each other in one of its own. Their desks
+/// are taken from `desks`, as far as there are any, and put back. The least time that is told is above the floor.
 ///
 /// The fault is that of a worker, or that a thread didn't start. Every thread has ended by then. Else the round stalled.
 pub fn play_round<G: Gate + Sync, R: Threads + Wait + Sync>(
@@ -75,14 +76,47 @@ pub fn play_round<G: Gate + Sync, R: Threads + Wait + Sync>(
     ensures later { IfOk result (λ played. floor < played.least) }
     ensures fault { IfErr result (IsRoundFault (length sites.now) workers floor window) }
 {
-    let (round, seats) = Round::new(alloc, sites.len() as u32, workers)?;
+    let pace = Pace::at(lead, floor);
+    play_laps(rt, alloc, sites, desks, workers, floor, window, &pace, gate)
+}
+
+// Plays a round at a pace.
+fn play_laps<G: Gate + Sync, R: Threads + Wait + Sync>(
+    rt: &R,
+    alloc: Global,
+    sites: &[Site],
+    desks: &mut Vec<Desk>,
+    workers: u32,
+    floor: u64,
+    window: u32,
+    pace: &Pace,
+    gate: &G,
+) -> Result<Played, RunFault>
+    requires blocks { length sites.now < 2 ^ 32 }
+    requires workers { 1 ≤ workers }
+    requires floor { floor < never }
+    ensures later { IfOk result (λ played. floor < played.least) }
+    ensures fault { IfErr result (IsRoundFault (length sites.now) workers floor window) }
+{
+    let draws = draws_of(sites.len() as u32, pace.laps(workers));
+    let (round, seats) = Round::new(alloc, draws, workers)?;
     let ready = seated(alloc, seats, desks)?;
-    let done = work_all(rt, alloc, &round, sites, ready, floor, window, lead, gate)?;
+    let done = work_all(rt, alloc, &round, sites, ready, floor, window, pace, gate)?;
     let tally = tally_of(done.as_slice());
     let seats = unseated(alloc, done, desks)?;
     match round.end(seats) {
         Ok(least) if floor < least => Ok(Played { least, tally }),
         _ => Err(RunFault::Stalled { time: floor }),
+    }
+}
+
+// How many draws there are where each block is drawn some times, or once where they are too many.
+fn draws_of(blocks: u32, laps: u32) -> u32
+    ensures { (result ≡ blocks * laps) ⊎ (result ≡ blocks) }
+{
+    match blocks.checked_mul(laps) {
+        Some(draws) => draws,
+        None => blocks,
     }
 }
 
@@ -125,8 +159,8 @@ fn unseated(
     desks: &mut Vec<Desk>,
 ) -> Result<Vec<RoundSeat>, RunFault>
     ensures count { IfOk result (λ seats. vec_len seats ≡ vec_len workers) }
-    ensures played { IfOk result (λ seats. (r : _) (floor window : _) → All (HasWorked r floor window) workers.items → All (IsPlayedOut r floor window) seats.items) }
-    ensures fault { IfErr result (λ f. (r : _) (floor window : _) → All (HasWorked r floor window) workers.items → IsWorkFault r.blocks floor window f) }
+    ensures played { IfOk result (λ seats. (blocks : _) (r : _) (floor window : _) → All (HasWorked blocks r floor window) workers.items → All (IsPlayedOut r floor window) seats.items) }
+    ensures fault { IfErr result (λ f. (blocks : _) (r : _) (floor window : _) → All (HasWorked blocks r floor window) workers.items → IsWorkFault blocks floor window f) }
 {
     let mut seats = Vec::new(alloc);
     for worker in workers {
@@ -155,13 +189,13 @@ fn work_all<G: Gate + Sync, R: Threads + Wait + Sync>(
     workers: Vec<Worker>,
     floor: u64,
     window: u32,
-    lead: Lead,
+    pace: &Pace,
     gate: &G,
 ) -> Result<Vec<Worker>, RunFault>
     requires workers { All (IsReady round.now.round) workers.items }
-    requires blocks { round.now.round.blocks ≡ length sites.now }
+    requires laps { HasLaps (length sites.now) round.now.round }
     ensures count { IfOk result (λ done. vec_len done ≡ vec_len workers) }
-    ensures worked { IfOk result (λ done. All (HasWorked round.now.round floor window) done.items) }
+    ensures worked { IfOk result (λ done. All (HasWorked (length sites.now) round.now.round floor window) done.items) }
     ensures fault { IfErr result (IsStartFault (vec_len workers)) }
 {
     let mut others = workers;
@@ -172,9 +206,9 @@ fn work_all<G: Gate + Sync, R: Threads + Wait + Sync>(
         thread::scope_env(),
         rt,
         |scope| -> Result<Vec<Worker>, RunFault>
-            requires { All (IsReady round.now.round) others.items × IsReady round.now.round own × (round.now.round.blocks ≡ length sites.now) }
+            requires { All (IsReady round.now.round) others.items × IsReady round.now.round own × HasLaps (length sites.now) round.now.round }
             ensures count { IfOk result (λ done. vec_len done ≡ vec_len others + 1) }
-            ensures worked { IfOk result (λ done. All (HasWorked round.entry.now.round floor window) done.items) }
+            ensures worked { IfOk result (λ done. All (HasWorked (length sites.entry.now) round.entry.now.round floor window) done.items) }
             ensures fault { IfErr result (IsStartFault (vec_len others + 1)) }
         {
             let count = others.len();
@@ -182,21 +216,22 @@ fn work_all<G: Gate + Sync, R: Threads + Wait + Sync>(
             for worker in others {
                 let started = scope.spawn_with(
                     OfRound {
+                        blocks: sites.len(),
                         round,
                         floor,
                         window,
                     },
                     move || -> Worker
-                        requires { IsReady round.now.round worker × (round.now.round.blocks ≡ length sites.now) }
-                        ensures { HasWorked round.entry.now.round floor window result }
-                    { work(rt, round, sites, worker, floor, window, lead, gate) },
+                        requires { IsReady round.now.round worker × HasLaps (length sites.now) round.now.round }
+                        ensures { HasWorked (length sites.entry.now) round.entry.now.round floor window result }
+                    { work(rt, round, sites, worker, floor, window, pace, gate) },
                 );
                 match started {
                     Ok(handle) => handles.push_reserved(handle),
                     Err(_) => return Err(RunFault::NoThread),
                 }
             }
-            let own = work(rt, round, sites, own, floor, window, lead, gate);
+            let own = work(rt, round, sites, own, floor, window, pace, gate);
             let mut done = joined(rt, handles)?;
             done.push(own)?;
             Ok(done)
@@ -210,7 +245,7 @@ fn joined<'a, R: Threads>(
     handles: Vec<PromisedHandle<Worker, OfRound<'a>>>,
 ) -> Result<Vec<Worker>, RunFault>
     ensures count { IfOk result (λ done. vec_len done ≡ vec_len handles.entry) }
-    ensures worked { IfOk result (λ done. (r : _) (floor window : _) → All (IsPromised r floor window) handles.entry.items → All (HasWorked r floor window) done.items) }
+    ensures worked { IfOk result (λ done. (blocks : _) (r : _) (floor window : _) → All (IsPromised blocks r floor window) handles.entry.items → All (HasWorked blocks r floor window) done.items) }
     ensures fault { IfErr result (λ f. f ≡ fault.Memory) }
 {
     match thread::join_promised(rt, handles) {
@@ -227,17 +262,18 @@ fn work<G: Gate, R: Wait>(
     mut worker: Worker,
     floor: u64,
     window: u32,
-    lead: Lead,
+    pace: &Pace,
     gate: &G,
 ) -> Worker
     requires ready { IsReady round.now.round worker }
-    requires count { round.now.round.blocks ≡ length sites.now }
-    ensures { HasWorked round.now.round floor window result }
+    requires count { HasLaps (length sites.now) round.now.round }
+    ensures { HasWorked (length sites.now) round.now.round floor window result }
 {
     for _ in rt.forever() {
-        let Some(block) = round.draw(&mut worker.seat) else {
+        let Some(number) = round.draw(&mut worker.seat) else {
             return worker;
         };
+        let block = block_of(number, sites.len());
         match play(
             rt,
             sites,
@@ -245,7 +281,7 @@ fn work<G: Gate, R: Wait>(
             &mut worker.desk,
             floor,
             window,
-            lead,
+            pace,
             gate,
         ) {
             Ok(played) => {
@@ -261,7 +297,15 @@ fn work<G: Gate, R: Wait>(
     unreachable!()
 }
 
-// Lets a block take a turn, and delivers what it sent.
+// The block that a number stands for: the blocks are gone over again and again.
+fn block_of(number: u32, blocks: usize) -> u32
+    requires { 0 < blocks }
+    ensures { result < blocks }
+{
+    (number as usize % blocks) as u32
+}
+
+// Lets a block take a turn, and delivers what it sent. As a lap begins, all are asked how far they have come.
 fn play<G: Gate, R: Wait>(
     rt: &R,
     sites: &[Site],
@@ -269,7 +313,7 @@ fn play<G: Gate, R: Wait>(
     desk: &mut Desk,
     floor: u64,
     window: u32,
-    lead: Lead,
+    pace: &Pace,
     gate: &G,
 ) -> Result<Played, RunFault>
     requires { block < length sites.now }
@@ -279,8 +323,11 @@ fn play<G: Gate, R: Wait>(
     desk.sent.clear();
     let site = &sites[block as usize];
     let sure = site.sure(sites, floor);
-    let until = Some(lead.above(floor).max(sure));
-    let turned = site.visit_through(rt, floor, window, until, gate, &mut desk.sent)?;
+    if block == 0 {
+        pace.meet(sites);
+    }
+    let reach = Some(pace.reach(sure));
+    let turned = site.visit_through(rt, floor, window, reach, gate, &mut desk.sent)?;
     let tally = Tally::of(&turned, desk.sent.len());
     desk.deliver(rt, sites)?;
     site.settle(turned.next.unwrap_or(sure).min(sure));

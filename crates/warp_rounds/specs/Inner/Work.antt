@@ -1,5 +1,5 @@
 -- What the workers of a round have done, and whose round a seat, and a worker, is of.
-use Rattle.std.specs.Prelude.{◌≡◌, ℕ, ◌<◌, ◌≤◌, min, true, List, [], length, fold, Option, Some, None}
+use Rattle.std.specs.Prelude.{◌≡◌, ℕ, ◌<◌, ◌≤◌, ◌*◌, min, true, List, [], length, fold, Option, Some, None}
 use Rattle.std.specs.List.{All, Any}
 use Rattle.std.specs.declared.thread.PromisedHandle.{PromisedHandle}
 use Rattle.warp_process.specs.declared.message.Message.{Message}
@@ -65,18 +65,25 @@ IsWorkFault blocks floor window _ = ⊥
 abbrev pub IsPlayedOut : RoundId → ℕ → ℕ → SeatView → Type 0
 IsPlayedOut round floor window s = HasPlayed round floor window s × (s.marked ≡ true)
 
--- A worker's round is over: by a fault, or since no block is left, and then it has made a visit for each one that it drew.
-abbrev pub IsOver : RoundId → ℕ → ℕ → SeatView → Option RunFault → Type 0
-IsOver round floor window s None = IsPlayedOut round floor window s
-IsOver round floor window s (Some fault) = (s.round ≡ round) × IsWorkFault round.blocks floor window fault
+-- A worker's round over so many blocks is over: by a fault, or since none is left to be drawn, and then it has made a visit for
+-- each one that it drew.
+abbrev pub IsOver : ℕ → RoundId → ℕ → ℕ → SeatView → Option RunFault → Type 0
+IsOver blocks round floor window s None = IsPlayedOut round floor window s
+IsOver blocks round floor window s (Some fault) = (s.round ≡ round) × IsWorkFault blocks floor window fault
 
-abbrev pub HasWorked : RoundId → ℕ → ℕ → Worker → Type 0
-HasWorked round floor window w = IsOver round floor window w.seat w.fault
+abbrev pub HasWorked : ℕ → RoundId → ℕ → ℕ → Worker → Type 0
+HasWorked blocks round floor window w = IsOver blocks round floor window w.seat w.fault
 
 -- ---- a round
 
+-- A round that goes over so many blocks some times.
+pub record HasLaps (blocks : ℕ) (round : RoundId) : Type 0 where
+  pub laps : ℕ
+  pub each : round.blocks ≡ blocks * laps
+
 -- A thread's handle, whose worker is to hand back what it did in this round.
-pub record IsPromised (round : RoundId) (floor window : ℕ) (handle : PromisedHandle Worker OfRound) : Type 0 where
+pub record IsPromised (blocks : ℕ) (round : RoundId) (floor window : ℕ) (handle : PromisedHandle Worker OfRound) : Type 0 where
+  pub blocks_is : handle.promise.blocks ≡ blocks
   pub round_is : handle.promise.round.now.round ≡ round
   pub floor_is : handle.promise.floor ≡ floor
   pub window_is : handle.promise.window ≡ window

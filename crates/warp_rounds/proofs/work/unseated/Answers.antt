@@ -13,10 +13,10 @@ loop-worker-preserved c =
       can_next = tt;
       is_finite = tt;
       count = omega (arith, longer, ap length steps.0, c.loop-worker.invariant.count);
-      played = λ r floor window all.
-          let both = c.loop-worker.invariant.played r floor window all in let rest = rw steps.0 at both.1 in
-          let here = subst (IsOver r floor window c.in-Some.worker.seat) c.in_default.is (All-head (HasWorked r floor window) c.in-Some.worker _ rest) in (
+      played = λ blocks r floor window all.
+          let both = c.loop-worker.invariant.played blocks r floor window all in let rest = rw steps.0 at both.1 in
+          let here = subst (IsOver blocks r floor window c.in-Some.worker.seat) c.in_default.is (All-head (HasWorked blocks r floor window) c.in-Some.worker _ rest) in (
             All-same (IsPlayedOut r floor window) _ _ pushed (All-push (IsPlayedOut r floor window) _ c.in-Some.worker.seat both.0 here),
-            All-tail (HasWorked r floor window) c.in-Some.worker _ rest,
+            All-tail (HasWorked blocks r floor window) c.in-Some.worker _ rest,
           );
     }

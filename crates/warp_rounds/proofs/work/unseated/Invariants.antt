@@ -9,6 +9,6 @@ invariant-loop-worker l = record {
   can_next : (goal.iterator-loop-worker).can_next l.worker-iterator;
   is_finite : (goal.iterator-loop-worker).is_finite l.worker-iterator;
   count : length l.seats.items + length (into_iter_items l.worker-iterator) ≡ length l.fn.workers.items;
-  played : (r : RoundId) (floor window : ℕ) → All (HasWorked r floor window) l.fn.workers.items
-      → All (IsPlayedOut r floor window) l.seats.items × All (HasWorked r floor window) (into_iter_items l.worker-iterator);
+  played : (blocks : ℕ) (r : RoundId) (floor window : ℕ) → All (HasWorked blocks r floor window) l.fn.workers.items
+      → All (IsPlayedOut r floor window) l.seats.items × All (HasWorked blocks r floor window) (into_iter_items l.worker-iterator);
 }

@@ -1,5 +1,5 @@
 use Rattle.std.proofs.Common.{rules}
-use Rattle.warp_rounds.proofs.Working.{visited_none, visited_more, visited_over, visited_faulty}
+use Rattle.warp_rounds.proofs.Working.{visited_none, visited_more, visited_over, visited_faulty, some_block}
 use Rattle.warp_rounds.proofs.work.work.Goals as goal
 
 pub loop-init : goal.loop-init
@@ -11,7 +11,10 @@ loop-preserved g c =
     search rules
 
 pub returns-in_default : goal.returns-in_default
-returns-in_default g c = visited_over _ _ _ _ _ _ c.loop.invariant.played c.in_default.ensures.marked c.loop.invariant.well
+returns-in_default g c = visited_over _ _ _ _ _ _ _ c.loop.invariant.played c.in_default.ensures.marked c.loop.invariant.well
 
 pub returns-in-Err : goal.returns-in-Err
-returns-in-Err g c = visited_faulty _ _ _ _ _ _ _ _ c.loop.invariant.played c.in-Some-draw.ensures.drawn c.requires.count c.in-Err.ensures.fault
+returns-in-Err g c = visited_faulty _ _ _ _ _ _ _ _ c.loop.invariant.played c.in-Some-draw.ensures.drawn c.in-Err.ensures.fault
+
+pub block_of-block-requires : goal.block_of-block-requires
+block_of-block-requires g c = some_block _ _ _ c.requires.count c.in-Some-draw.ensures.below

@@ -1,6 +1,6 @@
 use Rattle.std.proofs.Common.{◌≡◌, ◌+◌, ◌≤◌, All, length, vec_capacity}
 use Rattle.std.specs.Vec.Iter.{into_iter_items}
-use Rattle.warp_rounds.specs.Inner.Work.{IsReady, IsPromised}
+use Rattle.warp_rounds.specs.Inner.Work.{IsReady, HasLaps, IsPromised}
 use Rattle.warp_rounds.proofs.work.fn.work_all.scope.Given as goal
 
 abbrev pub invariant-loop-worker : goal.invariant-loop-worker
@@ -9,9 +9,9 @@ invariant-loop-worker g l = record {
   is_finite : (goal.iterator-loop-worker g).is_finite l.worker-iterator;
   ready : All (IsReady l.round.now.round) (into_iter_items l.worker-iterator);
   own : IsReady l.round.now.round l.own;
-  as_many : l.round.now.round.blocks ≡ length l.sites.now;
+  laps : HasLaps (length l.sites.now) l.round.now.round;
   same : l.round ≡ l.initial.round;
   count : length l.handles.items + length (into_iter_items l.worker-iterator) ≡ l.count;
   room : l.count ≤ vec_capacity l.handles;
-  promised : All (IsPromised l.round.now.round l.floor l.window) l.handles.items;
+  promised : All (IsPromised (length l.sites.now) l.round.now.round l.floor l.window) l.handles.items;
 }
