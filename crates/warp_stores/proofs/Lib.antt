@@ -20,3 +20,4 @@ pub mod Marking
 pub mod Ordering
 pub mod Tournaments
 pub mod Seats
+pub mod Spanning

@@ -21,13 +21,13 @@ use Rattle.warp_stores.proofs.Stops.{total-append, total-take, total-more}
 use Rattle.warp_stores.proofs.Telling.{dated-append, undated-dated}
 use Rattle.warp_stores.proofs.Growing.{one_stop}
 
-eq_cases : (i j : ℕ) → (i ≡ j) ⊎ (i ≢ j)
+pub eq_cases : (i j : ℕ) → (i ≡ j) ⊎ (i ≢ j)
 eq_cases i j = grind arith
 
 eqb_same : (i : ℕ) → eqb i i ≡ true
 eqb_same i = grind (arith, common_steps)
 
-eqb_other : (i j : ℕ) → i ≢ j → eqb i j ≡ false
+pub eqb_other : (i j : ℕ) → i ≢ j → eqb i j ≡ false
 eqb_other i j h = grind (arith, common_steps)
 
 pub words_at-append : (place : ℕ) (a b : List Move) → words_at place (a ++ b) ≡ words_at place a ++ words_at place b
@@ -143,10 +143,10 @@ all_part P xs i j all = All-take P (j - i) (drop i xs) (All-drop P i xs all)
 pub err_within : (ws us : List Move) (count many more : ℕ) → count + many ≤ length ws → us ≡ between count (count + many) ws → more ≤ length us → count + more ≤ length ws
 err_within ws us count many more within is few = let len : length us ≡ (count + many) - count = ap length is ∙ length-between ws count (count + many) within in omega arith
 
--- the words of one stop more
-pub longer_stop : (ss : List Tally) (ws us : List Move) (i count : ℕ) (s : Tally) (old mid new : List (List Change)) → i < length ss → s ≡ get_or ss i s → total (take i ss) ≡ count → total ss ≡ length ws → us ≡ between count (count + s.count) ws → AreLonger (dated (take i ss) (take count ws)) old mid → AreLonger (at s.time us) mid new
-    → (total (take (i + 1) ss) ≡ count + s.count) × AreLonger (dated (take (i + 1) ss) (take (count + s.count) ws)) old new
-longer_stop ss ws us i count s old mid new l is many whole are first second =
+-- what one stop more tells
+pub stop_told : (ss : List Tally) (ws us : List Move) (i count : ℕ) (s : Tally) → i < length ss → s ≡ get_or ss i s → total (take i ss) ≡ count → total ss ≡ length ws → us ≡ between count (count + s.count) ws
+    → (total (take (i + 1) ss) ≡ count + s.count) × (dated (take (i + 1) ss) (take (count + s.count) ws) ≡ dated (take i ss) (take count ws) ++ at s.time us)
+stop_told ss ws us i count s l is many whole are =
     let more : take (i + 1) ss ≡ take i ss ++ s ∷ [] = take_more ss i s l ∙ ap (λ (x : Tally). take i ss ++ x ∷ []) (sym is) in
     let sum : total (take (i + 1) ss) ≡ count + s.count = (let e : total (take (i + 1) ss) ≡ total (take i ss) + (s.count + 0) = ap total more ∙ total-append (take i ss) (s ∷ []) in omega arith) in
     let fits : count + s.count ≤ length ws = omega (arith, total-take ss (i + 1)) in
@@ -155,7 +155,14 @@ longer_stop ss ws us i count s old mid new l is many whole are first second =
     let told : dated (take (i + 1) ss) (take (count + s.count) ws) ≡ dated (take i ss) (take count ws) ++ at s.time us =
     rw (more, parts) (dated-append (take i ss) (s ∷ []) (take count ws) us (many ∙ sym (length-take-le count ws (omega arith)))
     ∙ ap (λ (ds : List (Dated Move)). dated (take i ss) (take count ws) ++ ds) (one_stop s.time s.count us len)) in
-    (sum, subst (λ (ds : List (Dated Move)). AreLonger ds old new) (sym told) (AreLonger-append (dated (take i ss) (take count ws)) (at s.time us) old mid new first second))
+    (sum, told)
+
+-- the words of one stop more
+pub longer_stop : (ss : List Tally) (ws us : List Move) (i count : ℕ) (s : Tally) (old mid new : List (List Change)) → i < length ss → s ≡ get_or ss i s → total (take i ss) ≡ count → total ss ≡ length ws → us ≡ between count (count + s.count) ws → AreLonger (dated (take i ss) (take count ws)) old mid → AreLonger (at s.time us) mid new
+    → (total (take (i + 1) ss) ≡ count + s.count) × AreLonger (dated (take (i + 1) ss) (take (count + s.count) ws)) old new
+longer_stop ss ws us i count s old mid new l is many whole are first second =
+    let told = stop_told ss ws us i count s l is many whole are in
+    (told.0, subst (λ (ds : List (Dated Move)). AreLonger ds old new) (sym told.1) (AreLonger-append (dated (take i ss) (take count ws)) (at s.time us) old mid new first second))
 
 -- words of places within stand at times within
 pub within_undated : (n : ℕ) (ss : List Tally) (ws : List Move) → total ss ≡ length ws → All (λ d. d.1.place < n) (dated ss ws) → All (λ w. w.place < n) ws

@@ -8,6 +8,7 @@ ghost use Rattle.warp_stores.specs.Inner.Stops.{total, dated};
 
 use crate::batch::Batch;
 use crate::place::part;
+use crate::spans::{cut_all, note_lens, push_spans};
 use crate::stop::Stop;
 use crate::word::Word;
 use gate_values::Change;
@@ -18,6 +19,8 @@ use std::marker::Model;
 #[derive(Debug, Drop)]
 pub struct Lists {
     lists: Vec<Vec<Change>>,
+    // how long they were before many words came
+    lens: Vec<usize>,
 }
 
 impl Model for Lists {
@@ -39,7 +42,8 @@ impl Lists {
         ensures { IfOk result (λ lists. lists ≡ replicate count []) }
     {
         let lists = empty_lists(alloc, count)?;
-        Ok(Lists { lists })
+        let lens = Vec::new(alloc);
+        Ok(Lists { lists, lens })
     }
 
     /// The changes of a place.
@@ -73,6 +77,18 @@ impl Lists {
         ensures ok { OnOk result (AreLonger batch.now self.old self.new) }
         ensures err { OnErr result (self.new ≡ self.old) }
     {
+        if batch.words.len() < self.lists.len() {
+            return self.append_few(batch);
+        }
+        self.append_many(batch)
+    }
+
+    /// The same where there are few words: they are put as they come.
+    fn append_few(&mut self, batch: &Batch<Word>) -> Result<(), AllocError>
+        requires { All (λ d. d.1.place < length self.old) batch.now }
+        ensures ok { OnOk result (AreLonger batch.now self.old self.new) }
+        ensures err { OnErr result (self.new ≡ self.old) }
+    {
         match push_batch(
             &mut self.lists,
             batch.stops.as_slice(),
@@ -86,12 +102,33 @@ impl Lists {
         }
     }
 
+    /// The same where there are many: they are put by spans of places.
+    fn append_many(&mut self, batch: &Batch<Word>) -> Result<(), AllocError>
+        requires { All (λ d. d.1.place < length self.old) batch.now }
+        ensures ok { OnOk result (AreLonger batch.now self.old self.new) }
+        ensures err { OnErr result (self.new ≡ self.old) }
+    {
+        note_lens(&mut self.lens, self.lists.as_slice())?;
+        match push_spans(
+            &mut self.lists,
+            batch.stops.as_slice(),
+            batch.words.as_slice(),
+        ) {
+            Ok(()) => Ok(()),
+            Err(error) => {
+                cut_all(&mut self.lists, self.lens.as_slice());
+                Err(error)
+            }
+        }
+    }
+
     /// The same lists once more. An error is a refused growth.
     pub fn copy(&self, alloc: Global) -> Result<Lists, AllocError>
         ensures { IfOk result (λ lists. lists ≡ self.now) }
     {
         let lists = copies(alloc, self.lists.as_slice())?;
-        Ok(Lists { lists })
+        let lens = Vec::new(alloc);
+        Ok(Lists { lists, lens })
     }
 
     /// Gives the lists away.
@@ -135,7 +172,11 @@ fn copies(alloc: Global, lists: &[Vec<Change>]) -> Result<Vec<Vec<Change>>, Allo
 }
 
 /// Puts a word of a time behind the list of its place.
-fn push_one(lists: &mut Vec<Vec<Change>>, time: u64, word: Word) -> Result<(), AllocError>
+pub(crate) fn push_one(
+    lists: &mut Vec<Vec<Change>>,
+    time: u64,
+    word: Word,
+) -> Result<(), AllocError>
     requires { word.place < length lists.old.items }
     ensures ok { OnOk result (AreLonger ((time, word) ∷ []) (lists_of lists.old.items) (lists_of lists.new.items)) }
     ensures err { OnErr result (lists_of lists.new.items ≡ lists_of lists.old.items) }

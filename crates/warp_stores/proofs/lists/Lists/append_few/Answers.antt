@@ -9,7 +9,7 @@ use Rattle.warp_stores.specs.Words.{Move}
 use Rattle.warp_stores.specs.Inner.Stops.{dated}
 use Rattle.warp_stores.specs.Inner.Lists.{lists_of, ArePut}
 use Rattle.warp_stores.proofs.Listing.{within_undated, shorter_again}
-use Rattle.warp_stores.proofs.lists.Lists.append_batch.Goals as goal
+use Rattle.warp_stores.proofs.lists.Lists.append_few.Goals as goal
 
 pub push_batch-requires-clause-within : goal.push_batch-requires-clause-within
 push_batch-requires-clause-within c =

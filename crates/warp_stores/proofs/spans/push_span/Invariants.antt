@@ -1,0 +1,10 @@
+use Rattle.std.proofs.Common.{◌≡◌, take}
+use Rattle.warp_stores.specs.Lists.{AreLonger}
+use Rattle.warp_stores.specs.Inner.Lists.{lists_of}
+use Rattle.warp_stores.specs.Inner.Stops.{total, dated}
+use Rattle.warp_stores.specs.Inner.Spans.{words_within}
+use Rattle.warp_stores.proofs.spans.push_span.Given as goal
+
+abbrev pub invariant-loop-stop : goal.invariant-loop-stop
+invariant-loop-stop l =
+    (total (take l.stop-index l.stops) ≡ l.read) × AreLonger (words_within l.from l.to (dated (take l.stop-index l.stops) (take l.read l.words))) (lists_of l.initial.lists.items) (lists_of l.lists.items)
