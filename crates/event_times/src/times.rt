@@ -4,6 +4,7 @@ ghost use Rattle.std.specs.List.{All, filter};
 ghost use Rattle.event_times.specs.Marks.{IsKept, IsRising};
 
 use std::alloc::{AllocError, Global};
+use std::collections::VecDeque;
 use std::marker::Model;
 
 /// A state is saved at a first mark, and after this many event times since the newest.
@@ -13,7 +14,7 @@ pub const SAVE_EVERY: usize = 8;
 #[derive(Debug, Drop)]
 pub struct Times {
     first: u64,
-    times: Vec<u64>,
+    times: VecDeque<u64>,
 }
 
 impl Model for Times {
@@ -33,7 +34,7 @@ impl Times {
     {
         Times {
             first: 0,
-            times: Vec::new(alloc),
+            times: VecDeque::new(alloc),
         }
     }
 
@@ -50,7 +51,7 @@ impl Times {
         ensures ok { OnOk result (self.new ≡ record self.old { times = self.old.times ++ time ∷ [] }) }
         ensures err { OnErr result (self.new ≡ self.old) }
     {
-        self.times.push(time)?;
+        self.times.push_back(time)?;
         Ok(())
     }
 
@@ -58,7 +59,7 @@ impl Times {
     pub fn cut_from(&mut self, time: u64)
         ensures { self.new ≡ record self.old { times = filter (λ t. nat_lt t time) self.old.times } }
     {
-        let left = count_before(self.times.as_slice(), time);
+        let left = count_before(&self.times, time);
         self.times.truncate(left);
     }
 
@@ -80,10 +81,10 @@ impl Times {
 }
 
 /// How many of ascending times are before one, sought from the last.
-fn count_before(times: &[u64], time: u64) -> usize
-    requires { IsRising 0 times.now }
-    ensures within { result ≤ length times.now }
-    ensures before { take result times.now ≡ filter (λ t. nat_lt t time) times.now }
+fn count_before(times: &VecDeque<u64>, time: u64) -> usize
+    requires { IsRising 0 times.now.items }
+    ensures within { result ≤ length times.now.items }
+    ensures before { take result times.now.items ≡ filter (λ t. nat_lt t time) times.now.items }
 {
     let mut left = times.len();
     while left > 0 && times[left - 1] >= time {
@@ -92,12 +93,11 @@ fn count_before(times: &[u64], time: u64) -> usize
     left
 }
 
-/// Drops the first few items.
-fn drop_front(items: &mut Vec<u64>, count: usize)
-    requires { count ≤ length items.old.items }
+/// Drops the first few items. The others stay where they are, since they may be many more.
+fn drop_front(items: &mut VecDeque<u64>, count: usize)
     ensures { items.new.items ≡ drop count items.old.items }
 {
-    let left = items.len() - count;
-    items.copy_within(count.., 0);
-    items.truncate(left);
+    for _ in 0..count {
+        items.pop_front();
+    }
 }
