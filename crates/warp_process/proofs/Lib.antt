@@ -1,5 +1,5 @@
 -- Queues of entries (`Rising`, `QueueOrder`, `QueueEdits`, `QueueOpening`, `Copying`, `Settled`, `Unsettled`, `Agreeing`), what is heard (`Hearing`, `Putting`,
--- `Listing`, `Opened`, `Finding`, `Settling`, `Committing`, `Asking`), logs of runs and what they show (`Running`, `LogOrder`, `Views`, `Rows`, `Quiet`, `Next`,
+-- `Listing`, `Opened`, `Finding`, `Settling`, `Sure`, `Committing`, `Asking`), logs of runs and what they show (`Running`, `LogOrder`, `Views`, `Rows`, `Quiet`, `Next`,
 -- `Playing`), busy times and saved states (`SavingTimes`, `SavingBusy`, `SavingStates`, `SavingStep`, `SavingAdvance`, `Going`), what is sent (`Told`,
 -- `Sends`), and calls (`Receiving`, `Committed`, `Laws`).
 pub mod Agreeing
@@ -33,6 +33,7 @@ pub mod SavingTimes
 pub mod Sends
 pub mod Settled
 pub mod Settling
+pub mod Sure
 pub mod Told
 pub mod Unsettled
 pub mod Views

@@ -35,6 +35,8 @@ pub struct Heard {
     part: Part,
     horizon: u64,
     floor: u64,
+    /// Below it every entry is known to be settled. It may be past the floor.
+    sure: u64,
     queues: Vec<Vec<Timed>>,
     agenda: Agenda,
 }
@@ -69,13 +71,15 @@ impl Heard {
             queues.push(opening_queue(alloc, &part, stimulus, horizon, slot)?)?;
         }
         let agenda = opening_agenda(alloc, queues.as_slice())?;
-        Ok(Heard {
+        let heard = Heard {
             part,
             horizon,
             floor: 0,
+            sure: 0,
             queues,
             agenda,
-        })
+        };
+        Ok(heard.made_sure())
     }
 
     /// What is true of all that is received. It does nothing.
@@ -187,6 +191,7 @@ impl Heard {
         match queue::put(&mut self.queues[slot], time, entry) {
             Ok(()) => {
                 self.agenda.unlist(time, slot as u32, entry.is_empty());
+                self.sure = still_sure(self.sure, time, entry);
                 Ok(())
             }
             Err(error) => {
@@ -272,6 +277,7 @@ impl Heard {
     {
         self.agenda.forget_below(floor);
         self.floor = floor;
+        self.sure = self.sure.max(floor);
     }
 
     /// Copies of the part and of the queues. An error is a refused growth.
@@ -284,6 +290,7 @@ impl Heard {
             part: self.part.copy()?,
             horizon: self.horizon,
             floor: self.floor,
+            sure: self.sure,
             queues,
             agenda,
         })
@@ -294,6 +301,16 @@ impl Heard {
         ensures { result ≡ self.part }
     {
         self.part
+    }
+
+    /// The same, where it is known up to the horizon that all is settled, if it is.
+    fn made_sure(mut self) -> Heard
+        ensures { result ≡ self }
+    {
+        if self.are_settled(self.horizon + 1) {
+            self.sure = self.horizon + 1;
+        }
+        self
     }
 
     /// The place of a net that a message to the block may name.
@@ -320,10 +337,14 @@ impl Heard {
         false
     }
 
-    /// Whether the entries below a time are settled: those of the places that are listed from the floor on.
+    /// Whether the entries below a time are settled. Where it isn't known, those of the places that are listed from the floor on
+    /// are looked at.
     fn are_settled(&self, end: u64) -> bool
         ensures { IsTrue result → (n t : ℕ) → IsUnsettledBelow self.now end n t → ⊥ }
     {
+        if end <= self.sure {
+            return true;
+        }
         let mut from = self.floor;
         while from < end {
             let Some((time, places)) = self.agenda.next(from) else {
@@ -352,6 +373,17 @@ impl Heard {
         }
         true
     }
+}
+
+/// Below which time every entry is still known to be settled, once an entry stands at a time.
+fn still_sure(sure: u64, time: u64, entry: Entry) -> u64
+    ensures within { result ≤ sure }
+    ensures settled { time < result → IsTrue (is_settled entry) }
+{
+    if entry.is_settled() {
+        return sure;
+    }
+    sure.min(time)
 }
 
 /// What a block holds of the net at a place before any message: the changes of an input up to the horizon.

@@ -2,7 +2,7 @@
 use Rattle.std.specs.Prelude.{◌≢◌, ℕ, ◌<◌, ◌≤◌, IsTrue, List, length, get_or}
 use Rattle.warp_part.specs.Inner.Building.{has}
 use Rattle.warp_process.specs.declared.heard.Heard.TheInside.{Inside}
-use Rattle.warp_process.specs.Entries.{no_messages}
+use Rattle.warp_process.specs.Entries.{no_messages, is_settled}
 use Rattle.warp_process.specs.View.{View, entry_of}
 use Rattle.warp_process.specs.Heard.{IsReceived}
 use Rattle.warp_process.specs.Shown.Heard.{heard_by}
@@ -17,3 +17,4 @@ pub record IsListed (v : View) (places : ℕ → List ℕ) : Type 0 where
 pub record IsHeld (heard : Inside) : Type 0 where
   pub received : IsReceived (heard_by heard)
   pub listed : IsListed (heard_by heard) (places_at heard.agenda)
+  pub sure : (n t : ℕ) → t < heard.sure → IsTrue (is_settled (entry_of (heard_by heard) n t))

@@ -26,13 +26,14 @@ loop-slot-preserved c =
       ordered = All-same IsQueue (lists_in c.push.new.self.items) (lists_in c.loop-slot.queues.items ++ queue.items ∷ []) queues (All-push IsQueue (lists_in c.loop-slot.queues.items) queue.items c.loop-slot.invariant.ordered c.in_ok-opening_queue.ensures.queue);
     }
 
-pub invariant_of-result : goal.invariant_of-result
-invariant_of-result c =
+pub invariant_of-heard : goal.invariant_of-heard
+invariant_of-heard c =
     let end : length c.args.part.nets ≤ c.loop-slot.slot = omega (arith, c.len-slot-end.ensures.count, c.loop-slot-test.false) in
     let queues = map_all (opening_queue c.args.part c.args.stimulus.now c.args.horizon) c.args.part.nets (lists_in c.loop-slot.queues.items) c.loop-slot.slot end c.loop-slot.invariant.queues in
-    let opened : Inside = record { part = c.args.part; horizon = c.args.horizon; floor = 0; queues = c.loop-slot.queues; agenda = c.in_ok-agenda.agenda } in
+    let opened : Inside = record { part = c.args.part; horizon = c.args.horizon; floor = 0; sure = 0; queues = c.loop-slot.queues; agenda = c.in_ok-agenda.agenda } in
     let is : IsReceived (heard_by opened) = rw queues (opening_received c.args.part c.law.ensures c.args.stimulus.now c.args.horizon c.requires (rw queues at c.loop-slot.invariant.ordered)) in
     record {
       received = is;
       listed = agenda_listed opened is c.as_slice.result.now c.as_slice.ensures.value c.in_ok-agenda.ensures.received c.in_ok-agenda.ensures.within;
+      sure = λ n t h. absurd (omega arith);
     }

@@ -12,6 +12,7 @@ use Rattle.warp_process.specs.Shown.Heard.{heard_by}
 use Rattle.warp_process.specs.View.{View, entry_of}
 use Rattle.warp_process.proofs.Hearing.{in_heard, queue_row, heard_ordered, seen_listed}
 use Rattle.warp_process.proofs.Putting.{put_is, put_received, put_listed, new_listed, back_listed}
+use Rattle.warp_process.proofs.Sure.{sure_put}
 use Rattle.warp_process.proofs.Rows.{queues_kept}
 use Rattle.warp_process.proofs.heard.Heard.put.Goals as goal
 
@@ -22,7 +23,7 @@ put-requires c =
     (heard_ordered (heard_by c.self.inside) c.self.invariant.received c.args.slot in_nets)
 
 -- what was put
-put_row : (c : goal.After-unlist) (t : ℕ) → entry_in c.put.new.queue.items t ≡ cond (t == c.args.time) c.args.entry (entry_in (get_or (lists_in c.self.inside.queues.items) c.args.slot []) t)
+put_row : (c : goal.After-self-in-Ok-1) (t : ℕ) → entry_in c.put.new.queue.items t ≡ cond (t == c.args.time) c.args.entry (entry_in (get_or (lists_in c.self.inside.queues.items) c.args.slot []) t)
 put_row c t =
     let in_nets = in_heard c.self.inside c.args.self.now c.args.slot c.self.view_is c.requires.slot in
     c.in-Ok.ensures.ok t
@@ -50,6 +51,8 @@ invariant_of-self-in-Ok c =
           (rw (← c.self.view_is) at c.requires.heard) (rw (← c.self.view_is) at c.requires.from) (rw (← c.self.view_is) at c.requires.until));
       listed = rw map-set (put_listed v is c.args.slot in_nets c.args.time c.args.entry c.put.new.queue.items c.put.ensures.queue (put_row c) (places_at c.self.inside.agenda) (places_at c.unlist.new.self) c.self.invariant.listed
           (λ t i differ h. c.unlist.ensures.kept t i differ ∙ c.in_ok-list.ensures.kept t i h) there (λ t i h. c.in_ok-list.ensures.more t i (c.unlist.ensures.within t i h)));
+      sure = rw map-set (sure_put v _ (get_or v.part.nets c.args.slot 0) c.args.time c.self.inside.sure c.still_sure-self-inside.result c.args.entry
+          (put_is v is c.args.slot in_nets c.args.time c.args.entry c.put.new.queue.items c.put.ensures.queue (put_row c)) c.self.invariant.sure c.still_sure-self-inside.ensures.within c.still_sure-self-inside.ensures.settled);
     }
 
 pub invariant_of-self-in-Err : goal.invariant_of-self-in-Err
@@ -67,6 +70,7 @@ invariant_of-self-in-Err c =
       received = rw same c.self.invariant.received;
       listed = rw same (back_listed v (places_at c.self.inside.agenda) (places_at c.unlist-in-Err.new.self) (places_at c.unlist-in-Err.new.self) c.args.slot c.args.time c.self.invariant.listed in_nets (rw (← c.self.view_is) at c.requires.from)
           (λ t i differ h. c.unlist-in-Err.ensures.kept t i differ ∙ c.in_ok-list.ensures.kept t i h) there (λ t i h. c.in_ok-list.ensures.more t i (c.unlist-in-Err.ensures.within t i h)));
+      sure = rw same c.self.invariant.sure;
     }
 
 pub returns-in-Ok-clause-put : goal.returns-in-Ok-clause-put
