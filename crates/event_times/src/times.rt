@@ -1,5 +1,5 @@
 //! Event times since the oldest saved state.
-ghost use Rattle.std.specs.Prelude.{◌≡◌, ◌≤◌, ◌<◌, ◌++◌, ◌∷◌, [], OnOk, OnErr, nat_lt, take, drop, length};
+ghost use Rattle.std.specs.Prelude.{◌≡◌, ◌≤◌, ◌<◌, ◌-◌, ◌++◌, ◌∷◌, [], OnOk, OnErr, nat_lt, take, drop, length};
 ghost use Rattle.std.specs.List.{All, filter};
 ghost use Rattle.event_times.specs.Marks.{IsKept, IsRising};
 
@@ -53,6 +53,13 @@ impl Times {
     {
         self.times.push_back(time)?;
         Ok(())
+    }
+
+    /// How many event times there are from a time on.
+    pub fn count_from(&self, time: u64) -> usize
+        ensures { result ≡ length self.now.times - length (filter (λ t. nat_lt t time) self.now.times) }
+    {
+        self.times.len() - count_before(&self.times, time)
     }
 
     /// Takes back the event times from a time on.

@@ -158,7 +158,7 @@ module _ (v : View) (run : Run) (played : Played) (rest : IsAtRest v run played)
   marks_end mark [] h = h.0
   marks_end mark (k ∷ ms) h = (let on = h.0 in let rest = marks_end k ms h.3 in omega (arith, on, rest))
 
-  count_same : (a b : ℕ) → b ≤ mark_by v run → busy_times (seen_by v run) a b ≡ marks.counted (was_busy v) a b
+  pub count_same : (a b : ℕ) → b ≤ mark_by v run → busy_times (seen_by v run) a b ≡ marks.counted (was_busy v) a b
   count_same a b within = times-agree (is_busy (seen_by v run)) (was_busy v) a b (λ t f g. seen_was t (omega (arith, g, within)))
 
   spaced_seen : (mark : ℕ) (ms : List ℕ) → marks.AreSpaced (was_busy v) (mark_by v run) mark ms → AreSpaced (seen_by v run) mark (map (state_of run.book) ms)

@@ -4,7 +4,8 @@ use Rattle.std.specs.List.{filter}
 use Rattle.std.proofs.lemmas.Bool.{cases_lt, true≢false}
 use Rattle.std.proofs.lemmas.Grind.{common_steps}
 use Rattle.std.proofs.lemmas.List.Elements.{All-nil, All-cons}
-use Rattle.event_times.specs.Marks.{Played, AreTimes, later_marks, mark_after}
+use Rattle.event_times.specs.Marks.{Played, AreTimes, counted, later_marks, mark_after}
+use Rattle.warp_process.proofs.SavingTimes.{times-split, times-none, times-one}
 use Rattle.event_times.specs.declared.times.TheConstants.{SAVE_EVERY}
 
 test_yes : (t time : ℕ) → t < time → nat_lt t time ≡ true
@@ -131,3 +132,26 @@ mark_is p zero l = refl
 mark_is p (suc n) l =
     let e : suc n * SAVE_EVERY ≡ suc (n * SAVE_EVERY + (SAVE_EVERY - 1)) = omega arith in
     sym (ap (after p.first p.times) e ∙ after_is p.first (n * SAVE_EVERY + (SAVE_EVERY - 1)) p.times (omega (arith, l)))
+
+-- as many as pass the test
+pub times_counted : (busy : ℕ → Bool) (from end : ℕ) (ts : List ℕ) → AreTimes busy from end ts → counted busy from end ≡ length ts
+times_counted busy from end [] h = times-none busy from end (λ t a b on. true≢false (sym on ∙ h.1 t a b))
+times_counted busy from end (t ∷ ts) h =
+    let first = h.0 in
+    let until : suc t ≤ end = times_end busy (suc t) end ts h.3 in
+    let all : counted busy from end ≡ counted busy from t + counted busy t end = times-split busy from t end first (omega (arith, until)) in
+    let none : counted busy from t ≡ 0 = times-none busy from t (λ s a b on. true≢false (sym on ∙ h.2 s a b)) in
+    let some : counted busy t end ≡ counted busy t (suc t) + counted busy (suc t) end = times-split busy t (suc t) end (omega arith) until in
+    let one : counted busy t (suc t) ≡ 1 = times-one busy t (suc t) (omega arith) h.1 in
+    let rest : counted busy (suc t) end ≡ length ts = times_counted busy (suc t) end ts h.3 in
+    omega (arith, all, none, some, one, rest)
+
+-- those from a time on
+pub times_from_cut : (busy : ℕ → Bool) (from end cut : ℕ) (ts : List ℕ) → AreTimes busy from end ts → from ≤ cut → cut ≤ end
+    → length ts - length (filter (λ t. nat_lt t cut) ts) ≡ counted busy cut end
+times_from_cut busy from end cut ts h low high =
+    let all : counted busy from end ≡ length ts = times_counted busy from end ts h in
+    let before : counted busy from cut ≡ length (filter (λ t. nat_lt t cut) ts) =
+    times_counted busy from cut (filter (λ t. nat_lt t cut) ts) (times_cut busy from end cut cut ts h low (omega arith) high (λ t a b. absurd (omega (arith, a, b)))) in
+    let split : counted busy from end ≡ counted busy from cut + counted busy cut end = times-split busy from cut end low high in
+    omega (arith, all, before, split)

@@ -6,7 +6,7 @@ ghost use Rattle.warp_part.specs.Portion.{owns};
 ghost use Rattle.warp_process.specs.Limits.{most_horizon};
 ghost use Rattle.warp_process.specs.declared.message.Sign.TheVariants.{Plus, Minus};
 ghost use Rattle.warp_process.specs.Entries.{no_messages, is_settled};
-ghost use Rattle.warp_process.specs.View.{IsLeast, IsEventTime, IsDone, entry_of, effective_at, log_of};
+ghost use Rattle.warp_process.specs.View.{IsLeast, IsEventTime, IsDone, busy_times, entry_of, effective_at, log_of};
 ghost use Rattle.warp_process.specs.Lawful.{IsLawfulProcess};
 ghost use Rattle.warp_process.specs.Opening.{silent_view, opening_view, opening_messages};
 ghost use Rattle.warp_process.specs.Receive.{refusal_of, IsRefusal, IsTaken};
@@ -236,6 +236,15 @@ impl Block {
         ensures { IsLeast (IsEventTime self.now.seen) result }
     {
         next_time(&self.heard, &self.engine, self.begins)
+    }
+
+    /// How many event times from a time on are finished; the time isn't below the floor nor past the mark.
+    pub fn finished_from(&self, time: u64) -> u64
+        requires floor { self.now.seen.floor ≤ time }
+        requires mark { time ≤ self.now.seen.mark }
+        ensures { result ≡ busy_times self.now.seen time self.now.seen.mark }
+    {
+        self.times.count_from(time) as u64
     }
 
     /// Whether no event time is left.

@@ -54,7 +54,7 @@ module _ (v w : View) (isv : IsLawful v) (isw : IsLawful w) (part : w.part ≡ v
     | inr quiet ↦ (t, (from, until, busy_is-next v isv t from until quiet ∙ (happens_agree v w isv part horizon t agree ∙ busy)), (let l : t ≤ t = omega arith in l))
   ]
 
-same_effective_of : (a b : Entry) → ((x : Logic) → number_of a x ≡ number_of b x) → effective_of a ≡ effective_of b
+pub same_effective_of : (a b : Entry) → ((x : Logic) → number_of a x ≡ number_of b x) → effective_of a ≡ effective_of b
 same_effective_of a b h =
     let zeros : a.zero ≡ b.zero = h Zero in
     let ones : a.one ≡ b.one = h One in
@@ -63,7 +63,7 @@ same_effective_of a b h =
     rw (zeros, ones, xs, zs) refl
 
 -- a message changes no effective value at another time
-taken_elsewhere : (old new : View) (m : Message) → IsTaken old new m → (n t : ℕ) → m.time ≢ t → effective_at old n t ≡ effective_at new n t
+pub taken_elsewhere : (old new : View) (m : Message) → IsTaken old new m → (n t : ℕ) → m.time ≢ t → effective_at old n t ≡ effective_at new n t
 taken_elsewhere old new m taken n t other =
     same_effective_of (entry_of old n t) (entry_of new n t) (λ x.
     (let untold : does_tell m n t x ≡ false = and_right (m.net == n) ((m.time == t) && same m.value x) (and_left (m.time == t) (same m.value x) (ne_eqb m.time t other)) in
