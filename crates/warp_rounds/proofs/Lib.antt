@@ -3,6 +3,7 @@ mod Ends
 mod Faulting
 mod Pending
 mod Receiving
+mod Resting
 mod Sharing
 mod Steps
 mod Sums

@@ -1,7 +1,7 @@
 //! How far the blocks of a run go ahead. What stands here sets the speed of a run; no promise rests on it.
 
-ghost use Rattle.std.specs.Prelude.{◌≤◌};
-ghost use Rattle.warp_rounds.specs.Visit.{Fits};
+ghost use Rattle.std.specs.Prelude.{◌≤◌, ◌<◌, ◌⊎◌};
+ghost use Rattle.warp_rounds.specs.Inner.Turn.{IsFirstPast};
 
 use crate::site::Site;
 use crate::turns::Turned;
@@ -104,12 +104,14 @@ pub(crate) struct Reach {
     pub(crate) changes: u64,
 }
 
-/// How many event times a block had lately, in how long, and how many changes it made at them.
+/// How many event times a block had lately, in how long, and how many changes it made at them; and for how long it had none
+/// since.
 #[derive(Clone, Copy)]
 pub(crate) struct Density {
     times: u64,
     span: u64,
     changes: u64,
+    quiet: u64,
 }
 
 impl Density {
@@ -119,6 +121,7 @@ impl Density {
             times: 1,
             span: 1,
             changes: 1,
+            quiet: 0,
         }
     }
 
@@ -132,27 +135,48 @@ impl Density {
         changes.saturating_mul(self.times) / self.changes.max(1)
     }
 
-    /// A window of up to `most` for a turn whose first event time is `start`, if it has one: all of it, or where a reach
-    /// is given, as many event times as are to be expected within it.
-    pub(crate) fn window(self, start: Option<u64>, reach: Option<Reach>, most: u32) -> u32
-        ensures { Fits result most }
+    /// A window of up to `most` for a turn at a floor, where `start` is the least time at which something is left, if any is: all
+    /// of it, or where a reach is given, as many event times as are to be expected within it. It has none where nothing is left
+    /// within the reach, nor at the floor.
+    pub(crate) fn window(
+        self,
+        start: Option<u64>,
+        floor: u64,
+        reach: Option<Reach>,
+        most: u32,
+    ) -> u32
+        ensures within { result ≤ most }
+        ensures floor { 0 < most → (0 < result) ⊎ IsFirstPast start floor }
     {
-        match (start, reach) {
-            (Some(start), Some(reach)) => {
+        let Some(reach) = reach else {
+            return most;
+        };
+        match start {
+            Some(start) if start <= floor || start < reach.until => {
                 let times = self.expected(reach.until.saturating_sub(start));
                 fitting(times.min(self.needed(reach.changes)), most)
             }
-            _ => most,
+            _ => 0,
         }
     }
 
     /// The density after a turn that finished some event times as the mark rose by a span, and made some changes: what was
     /// before counts half.
     pub(crate) fn after(self, times: u32, span: u64, changes: u64) -> Density {
+        let span = span.saturating_add(self.quiet);
         Density {
             times: (self.times / 2).saturating_add(u64::from(times) * NEWER),
             span: (self.span / 2).saturating_add(span.saturating_mul(NEWER)),
             changes: (self.changes / 2).saturating_add(changes.saturating_mul(NEWER)),
+            quiet: 0,
+        }
+    }
+
+    /// The density after a turn that finished none as the mark rose by a span. It counts with that of the next turn that does.
+    pub(crate) fn after_rest(self, span: u64) -> Density {
+        Density {
+            quiet: self.quiet.saturating_add(span),
+            ..self
         }
     }
 }
@@ -170,9 +194,10 @@ pub(crate) fn logged(block: &Block) -> u64 {
     changes.saturating_mul(stride as u64)
 }
 
-/// A window for so many event times, if possible.
+/// A window for so many event times, if possible, and for one at least.
 fn fitting(times: u64, most: u32) -> u32
-    ensures { Fits result most }
+    ensures within { result ≤ most }
+    ensures some { 0 < most → 0 < result }
 {
     if times >= u64::from(most) {
         return most;
@@ -205,7 +230,7 @@ impl Tally {
             .saturating_add((sent as u64).saturating_mul(BEHIND));
         Tally {
             finished,
-            undone: turned.fallen.saturating_mul(finished.max(1)) / turned.risen.max(1),
+            undone: undone_in(turned),
             work,
             most: work,
         }
@@ -235,6 +260,14 @@ impl Tally {
     pub(crate) fn is_for_one(self) -> bool {
         self.work < LITTLE || self.most > self.work / 2
     }
+}
+
+/// About how many event times a turn took back: by how densely it found them, and one where it found none.
+fn undone_in(turned: &Turned) -> u64 {
+    if turned.finished == 0 {
+        return turned.fallen.min(1);
+    }
+    turned.fallen.saturating_mul(u64::from(turned.finished)) / turned.risen.max(1)
 }
 
 /// How far blocks go in a round: up to a time above what all have come to, whoever may still take back what they were told, in

@@ -1,6 +1,9 @@
-ghost use Rattle.std.specs.Prelude.{◌≡◌, ℕ, IfOk, IfErr, OnOk, []};
+ghost use Rattle.std.specs.Prelude.{◌≡◌, ℕ, IfOk, IfErr, OnOk, List, [], length};
+ghost use Rattle.warp_process.specs.declared.message.Message.{Message};
+ghost use Rattle.warp_process.specs.View.{IsLeast};
 ghost use Rattle.warp_process.specs.Lawful.{IsLawful, IsLawfulProcess};
-ghost use Rattle.warp_rounds.specs.Turn.{IsTurn, StaysInFront};
+ghost use Rattle.warp_process.specs.Sends.{Sends};
+ghost use Rattle.warp_rounds.specs.Turn.{IsTurn, IsFaultyTurn, IsPending, IsAfterPending, IsLeastPending, StaysInFront, put_behind};
 ghost use Rattle.warp_rounds.specs.Visit.{Fits, IsVisit, IsFaultyVisit};
 
 use crate::gate::Gate;
@@ -50,7 +53,7 @@ impl Held {
         reach: Option<Reach>,
         out: &mut Vec<Message>,
     ) -> Result<Turned, BlockFault>
-        ensures turn { OnOk result ((own : ℕ) × Fits own most × IsTurn self.old.block self.new.block self.old.messages.items floor own) }
+        ensures turn { OnOk result ((own : ℕ) × Fits self.old.block.seen self.old.messages.items floor most own × IsTurn self.old.block self.new.block self.old.messages.items floor own) }
         ensures taken { self.new.messages.items ≡ [] }
         ensures front { StaysInFront out.old.items out.new.items }
         ensures visit { IfOk result (λ turned. IsVisit floor most out.old.items out.new.items turned.report.least) }
@@ -58,14 +61,22 @@ impl Held {
     {
         self.block.law();
         let start = least_pending(&self.block, self.messages.as_slice());
-        let window = self.density.window(start, reach, most);
+        let window = self.window(start, floor, reach, most);
         let messages = self.messages.as_slice();
-        let turned = turn_through(&mut self.block, messages, floor, window, out);
+        let turned = turn_from(&mut self.block, start, messages, floor, window, out);
         self.messages.clear();
         match turned {
             Ok(turned) => Ok(self.noted(turned)),
             Err(fault) => Err(fault),
         }
+    }
+
+    /// A window for a turn at a floor, where it is known when something is left first.
+    fn window(&self, start: Option<u64>, floor: u64, reach: Option<Reach>, most: u32) -> u32
+        requires { IsLeast (IsPending self.now.block.seen self.now.messages.items) start }
+        ensures { Fits self.now.block.seen self.now.messages.items floor most result }
+    {
+        self.density.window(start, floor, reach, most)
     }
 
     /// Notes how the event times of a turn lay, and answers the turn with about how many changes were made at them.
@@ -74,12 +85,69 @@ impl Held {
         ensures messages { self.new.messages.items ≡ self.old.messages.items }
         ensures report { result.report ≡ turned.report }
     {
+        if turned.finished == 0 && turned.fallen == 0 {
+            self.density = self.density.after_rest(turned.risen);
+            return turned;
+        }
         let before = self.logged;
         self.logged = logged(&self.block);
         let changes = self.logged.saturating_sub(before);
         self.density = self.density.after(turned.finished, turned.risen, changes);
         Turned { changes, ..turned }
     }
+}
+
+/// A turn of a block, where it is known when something is left first. It is short where there is nothing to receive and to
+/// finish.
+fn turn_from(
+    block: &mut Block,
+    start: Option<u64>,
+    messages: &[Message],
+    floor: u64,
+    window: u32,
+    out: &mut Vec<Message>,
+) -> Result<Turned, BlockFault>
+    requires { IsLeast (IsPending block.old.seen messages.now) start }
+    ensures turn { OnOk result (IsTurn block.old block.new messages.now floor window) }
+    ensures least { IfOk result (λ turned. IsLeastPending block.new.seen (put_behind out.old.items out.new.items) turned.report.least) }
+    ensures fault { IfErr result (IsFaultyTurn block.old block.new messages.now floor window) }
+    ensures sends { Sends block.old.seen block.new.seen (IsAfterPending block.old.seen messages.now) out.old.items out.new.items }
+{
+    if window == 0 && messages.is_empty() {
+        return rest(block, start, messages, floor, window);
+    }
+    turn_through(block, messages, floor, window, out)
+}
+
+/// A turn of a block that receives and finishes nothing, where its next time is known: it commits at the floor.
+fn rest(
+    block: &mut Block,
+    next: Option<u64>,
+    messages: &[Message],
+    floor: u64,
+    window: u32,
+) -> Result<Turned, BlockFault>
+    requires none { length messages.now ≡ 0 }
+    requires short { window ≡ 0 }
+    requires next { IsLeast (IsPending block.old.seen messages.now) next }
+    ensures turn { OnOk result (IsTurn block.old block.new messages.now floor window) }
+    ensures least { IfOk result (λ turned. (out : List Message) → IsLeastPending block.new.seen (put_behind out out) turned.report.least) }
+    ensures fault { IfErr result (IsFaultyTurn block.old block.new messages.now floor window) }
+    ensures sends { (out : List Message) → Sends block.old.seen block.new.seen (IsAfterPending block.old.seen messages.now) out out }
+{
+    let mark = block.mark();
+    block.commit(floor)?;
+    block.law();
+    Ok(Turned {
+        report: TurnReport {
+            least: next.unwrap_or(block.horizon() + 1),
+        },
+        fallen: 0,
+        risen: block.mark().saturating_sub(mark),
+        finished: 0,
+        changes: 0,
+        next,
+    })
 }
 
 impl Site {
@@ -143,7 +211,7 @@ impl Site {
     /// A turn of the block with what the inbox holds, at a floor, under one hold of the block's lock. The gate is lent the
     /// block before it and after it. What is sent goes behind `out`.
     ///
-    /// The turn finishes up to `window` event times, and one at least, if there is one and the window isn't 0.
+    /// The turn finishes up to `window` event times, and one at least, if the window isn't 0 and one is left at the floor.
     ///
     /// After a fault the messages that were taken out of the inbox are gone, and what the turn did before stands.
     pub fn visit<R: Wait, G: Gate>(

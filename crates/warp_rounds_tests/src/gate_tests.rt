@@ -194,19 +194,23 @@ impl Gate for First {
     }
 }
 
-/// Runs the swing by one worker up to 500, by a window that is larger.
-fn run_swing<R: Threads + Wait + Sync>(
+/// Runs the swing by one worker up to 500.
+fn run_swing<G: Gate + Sync, R: Threads + Wait + Sync>(
     rt: &R,
     alloc: Global,
     circuit: &Circuit,
-    gate: &First,
-) -> Result<(), Fail> {
+    stimulus: &str,
+    window: u32,
+    gate: &G,
+) -> Result<(), Fail>
+    requires { (1 ≤ window) × (window ≤ 1000000) }
+{
     let cut = circuit.cut().ok_or("a cut")?;
     if !cut.fits(circuit) {
         return Err(Fail::from("a cut of another circuit"));
     }
-    let stimulus = read_stimulus(alloc, TOLD_STIMULUS.as_bytes(), circuit)?;
-    let waves = run(rt, alloc, circuit, cut, &stimulus, 500, 1, 1000, gate);
+    let stimulus = read_stimulus(alloc, stimulus.as_bytes(), circuit)?;
+    let waves = run(rt, alloc, circuit, cut, &stimulus, 500, 1, window, gate);
     drop(stimulus);
     drop(waves?);
     Ok(())
@@ -220,10 +224,69 @@ fn a_block_waits_for_what_it_is_told(rt: HostRuntime) -> Result<(), Fail> {
     };
     let bench = read_bench(rt.alloc(), TOLD.as_bytes())?;
     let circuit = Circuit::of(rt.alloc(), bench, TOLD_SETTINGS.as_bytes())?;
-    let ran = run_swing(&rt, rt.alloc(), &circuit, &gate);
+    let ran = run_swing(&rt, rt.alloc(), &circuit, TOLD_STIMULUS, 1000, &gate);
     drop(circuit);
     ran?;
     let mark = gate.mark.load(SeqCst);
     assert!(rt; 32 < mark && mark < 128, "{mark}");
+    Ok(())
+}
+
+/// C of block 0 stays Zero, while B swings there from 1 on. Block 1 reads C, and has nothing to do from 2 on until P rises.
+const IDLE: &str = "INPUT(P)\nINPUT(Q)\nB = NAND(B, Q)\nC = AND(B, P)\nA = AND(C, P)\n";
+
+const IDLE_SETTINGS: &str = "[block]\nB = 0\nC = 0\nA = 1\n";
+
+const IDLE_STIMULUS: &str = "$var wire 1 p P $end $var wire 1 q Q $end
+$enddefinitions $end
+#0 0p 0q #1 1q #450 1p";
+
+/// Looks for turns that leave something at the floor, and counts those of block 1 that leave its next time as it is.
+#[derive(Drop)]
+struct Floors {
+    /// The next time of block 1 when its turn began.
+    next: AtomicU64,
+    rests: AtomicU64,
+    left: AtomicBool,
+}
+
+/// The next time of a block, 0 where there is none.
+fn next_of(block: &Block) -> u64 {
+    block.next_time().unwrap_or(0)
+}
+
+impl Gate for Floors {
+    fn entered(&self, block: &Block) {
+        if block.part().block() == 1 {
+            self.next.store(next_of(block), SeqCst);
+        }
+    }
+
+    fn leaving(&self, block: &Block) {
+        let next = next_of(block);
+        if next != 0 && next <= block.floor() {
+            self.left.store(true, SeqCst);
+        }
+        if block.part().block() == 1 && next != 0 && next == self.next.load(SeqCst) {
+            self.rests.fetch_add(1, SeqCst);
+        }
+    }
+}
+
+/// A turn finishes what is left at its floor. It may finish none where nothing is.
+#[test]
+fn a_turn_may_rest_past_its_floor_alone(rt: HostRuntime) -> Result<(), Fail> {
+    let gate = Floors {
+        next: AtomicU64::new(0),
+        rests: AtomicU64::new(0),
+        left: AtomicBool::new(false),
+    };
+    let bench = read_bench(rt.alloc(), IDLE.as_bytes())?;
+    let circuit = Circuit::of(rt.alloc(), bench, IDLE_SETTINGS.as_bytes())?;
+    let ran = run_swing(&rt, rt.alloc(), &circuit, IDLE_STIMULUS, 1, &gate);
+    drop(circuit);
+    ran?;
+    assert!(rt; !gate.left.load(SeqCst));
+    assert!(rt; gate.rests.load(SeqCst) > 2);
     Ok(())
 }

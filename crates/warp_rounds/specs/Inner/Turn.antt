@@ -1,5 +1,5 @@
 -- What only proofs need beside `Turn`.
-use Rattle.std.specs.Prelude.{◌≡◌, ℕ, ◌-◌, ◌≤◌, List}
+use Rattle.std.specs.Prelude.{◌≡◌, ℕ, ◌-◌, ◌<◌, ◌≤◌, Option, IfSome, List}
 use Rattle.warp_process.specs.declared.message.Message.{Message}
 use Rattle.warp_process.specs.View.{View, IsEventTime}
 use Rattle.warp_process.specs.Lawful.{IsLawful}
@@ -20,3 +20,7 @@ pub record HasReceived (old new : View) (all some : List Message) (before out : 
   pub lawful : IsLawful new
   pub pending : (t : ℕ) → IsEventTime new t → IsFromPending old all t
   pub sends : Sends old new (IsAfterPending old all) before out
+
+-- the first of some times, if there is one, is past a floor
+abbrev pub IsFirstPast : Option ℕ → ℕ → Type 0
+IsFirstPast first floor = IfSome first (λ t. floor < t)
