@@ -7,7 +7,9 @@
 //! until none is left, and reports a time for each. Drawing and reporting are one atomic step each, and wait for
 //! nobody. [`Round::end`] takes all the seats back: it answers the least time reported, where every block was drawn.
 //!
-//! [`run`] plays rounds until nothing is left, and answers the circuit's waves.
+//! [`run`] plays rounds until nothing is left, and answers the circuit's waves. A round of it goes over the blocks in laps: a number
+//! that is drawn stands for the block that it leaves when it is divided by the number of blocks, so that a block may take
+//! several turns between two floors.
 //!
 //! Times are whole numbers in units of the stimulus's timescale. The definitions stand in `specs/`: `Turn` says what a
 //! turn does to a block, what it reports, and what it has done where it meets a fault; `Visit` what is known of a turn under

@@ -280,16 +280,17 @@ pub(crate) struct Lead {
 }
 
 impl Lead {
-    /// That of the first round.
-    pub(crate) fn first() -> Lead {
+    /// That of the first round over so many blocks. One block alone goes as far as its window lets it.
+    pub(crate) fn first(blocks: usize) -> Lead {
+        let changes = if blocks > 1 { TURN } else { u64::MAX };
         Lead {
             time: FIRST,
-            changes: TURN,
+            changes,
             laps: 1,
         }
     }
 
-    /// That of the next round: half as far, where more than a sixteenth of what was done in this one was undone, else a
+    /// That of the next round: half as far, where more than a tenth of what was done in this one was undone, else a
     /// quarter further. Turns are twice as long where one worker had better play, else half as long. There are twice as many
     /// laps where there was little work, else half as many.
     pub(crate) fn after(self, tally: Tally) -> Lead {
@@ -302,16 +303,19 @@ impl Lead {
 
     /// How far blocks go above what all have come to, in the next round.
     fn time_after(self, tally: Tally) -> u64 {
-        if tally.undone > tally.finished / 16 {
+        if tally.undone > tally.finished / 10 {
             return self.time / 2;
         }
         self.time.saturating_add(self.time / 4).saturating_add(1)
     }
 
-    /// About how many changes a turn makes at most in the next round.
+    /// About how many changes a turn makes at most in the next round. Where that has no end it stays so.
     fn changes_after(self, tally: Tally) -> u64 {
+        if self.changes > LONG_TURN {
+            return self.changes;
+        }
         if tally.is_for_one() {
-            return self.changes.saturating_mul(2).min(LONG_TURN);
+            return (self.changes * 2).min(LONG_TURN);
         }
         (self.changes / 2).max(TURN)
     }

@@ -103,7 +103,7 @@ fn play_rounds<G: Gate + Sync, R: Threads + Wait + Sync>(
     let all = workers.min(sites.len() as u32).max(1);
     let mut desks = Vec::new(alloc);
     let mut floor = 0;
-    let mut lead = Lead::first();
+    let mut lead = Lead::first(sites.len());
     let mut is_alone = false;
     while floor <= horizon {
         let seats = if is_alone { 1 } else { all };
