@@ -8,6 +8,7 @@ ghost use Rattle.bit_compare.specs.Inner.Steps.{AreSmall};
 ghost use Rattle.bit_compare.specs.Inner.Until.{AreTogether, IsUntil};
 
 use crate::cursor::Cursor;
+use crate::same::are_same;
 use crate::shown::Shown;
 use crate::times::Times;
 use gate_values::Logic;
@@ -79,8 +80,8 @@ fn agreed_until(how: &Tolerance, expected: &Cursor, actual: &Cursor) -> u128
     }
 }
 
-/// The first compared time at which two bits don't agree, if there is one.
-pub fn first_difference(
+/// The first compared time at which two bits don't agree that are gone over, if there is one.
+fn difference_between(
     how: &Tolerance,
     times: &Times,
     expected: &Shown,
@@ -109,4 +110,23 @@ pub fn first_difference(
         next = times.next(until);
     }
     None
+}
+
+/// The first compared time at which two bits don't agree, if there is one.
+pub fn first_difference(
+    how: &Tolerance,
+    times: &Times,
+    expected: &Shown,
+    actual: &Shown,
+) -> Option<Difference>
+    requires within { how.now.within < 2 ^ 126 }
+    requires times { AreSmall times.now }
+    requires expected { IsShown expected.now }
+    requires actual { IsShown actual.now }
+    ensures { IsFinding how.now times.now (shown expected.now) (shown actual.now) result }
+{
+    if are_same(expected, actual) {
+        return None;
+    }
+    difference_between(how, times, expected, actual)
 }

@@ -8,6 +8,7 @@
 mod cursor;
 mod difference;
 mod recent;
+mod same;
 mod shown;
 mod times;
 

@@ -1,5 +1,5 @@
 -- A bit as it is compared: its value from time 0 on, and its later changes in the common unit.
-use Rattle.std.specs.Prelude.{ℕ, Bool, nat_le, zero, suc, ◌+◌, ◌-◌, ◌*◌, ◌<◌, ◌≤◌, ◌^◌, List, [], ◌∷◌, map, length, slice_index_or}
+use Rattle.std.specs.Prelude.{◌≡◌, ℕ, Bool, nat_le, zero, suc, ◌+◌, ◌-◌, ◌*◌, ◌<◌, ◌≤◌, ◌^◌, List, [], ◌∷◌, map, length, slice_index_or}
 use Rattle.gate_values.specs.declared.logic.Logic.{Logic}
 use Rattle.gate_values.specs.declared.logic.Change.{Change}
 use Rattle.gate_values.specs.Changes.{latest}
@@ -58,6 +58,14 @@ abbrev pub value_after : Logic → List Change → ℕ → Logic
 value_after v cs zero = v
 value_after v [] (suc n) = v
 value_after v (c ∷ cs) (suc n) = value_after c.value cs n
+
+-- two bits have the same changes, seen alike
+pub record IsSame (s r : Shown) : Type 0 where
+  pub first : s.first ≡ r.first
+  pub scale : s.scale ≡ r.scale
+  pub later : s.later ≡ r.later
+  pub earlier : s.earlier ≡ r.earlier
+  pub changes : s.changes.now ≡ r.changes.now
 
 -- so many changes, the first ones, are known not to be later than a time
 pub record IsPassed (cs : List Change) (t n : ℕ) : Type 0 where

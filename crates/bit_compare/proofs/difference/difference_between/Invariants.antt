@@ -3,7 +3,7 @@ use Rattle.std.specs.Option.{option_map_or}
 use Rattle.bit_compare.specs.Inner.Moments.{shown}
 use Rattle.bit_compare.specs.Inner.Cursors.{IsReady}
 use Rattle.bit_compare.specs.Inner.Until.{Stands}
-use Rattle.bit_compare.proofs.difference.first_difference.Given as goal
+use Rattle.bit_compare.proofs.difference.difference_between.Given as goal
 
 -- both cursors are ready for the next time, up to which the bits agree
 abbrev pub invariant-loop-next : goal.invariant-loop-next
