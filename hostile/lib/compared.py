@@ -129,7 +129,7 @@ class Dump:
 def bits_in(size, reference):
     """The bits of a variable, the leftmost first: of each its name, and how far it is from the right."""
     if size == 1:
-        return [(reference, 0)]
+        return [(reference.removesuffix(b"[0:0]"), 0)]
     found = re.fullmatch(rb"(.+)\[([0-9]+):([0-9]+)\]", reference, re.S)
     base, left, right = (found[1], int(found[2]), int(found[3])) if found else (reference, size - 1, 0)
     if abs(left - right) + 1 != size or not base or re.fullmatch(rb"\[[0-9]+:[0-9]+\]", reference):
@@ -212,7 +212,7 @@ def told(options, found, pairs, span, only_expected, only_actual):
 
 # ------------------------------------------------------------------ the drawing
 VARIABLES = [b"wire 1 %s A", b"reg 1 %s B", b"wire 3 %s V [2:0]", b"wire 3 %s V [0:2]", b"wire 2 %s W", b"wire 2 %s W [5:4]", b"wire 1 %s V[1]",
-             b"wire 1 %s \\C", b"real 64 %s R", b"wire 3 %s U [1:0]", b"integer 2 %s I", b"wire 1 %s A", b"string 1 %s S"]
+             b"wire 1 %s \\C", b"real 64 %s R", b"wire 3 %s U [1:0]", b"integer 2 %s I", b"wire 1 %s A", b"string 1 %s S", b"wire 1 %s A [0:0]"]
 CODES = (b"!", b'"', b"#", b"$", b"%&")
 
 

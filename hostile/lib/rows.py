@@ -1,5 +1,6 @@
 """Small cases whose answers are known: of the program, and of the tests of the crates."""
 import os
+import re
 from dataclasses import dataclass, field
 
 from play import TOP
@@ -128,6 +129,11 @@ def replay_rows():
     ]
 
 
+def in_picoseconds(text):
+    """The same dump of nanoseconds in a finer unit."""
+    return re.sub(rb"#([0-9]+)", lambda found: b"#%d" % (1000 * int(found[1])), text).replace(b"1 ns", b"1 ps")
+
+
 def compare_rows():
     dumps = {"expected": example("inverter.dump.vcd"), "actual": example("inverter.dump.vcd").replace(b"#1\n", b"#2\n").replace(b"#6", b"#7")}
 
@@ -137,6 +143,13 @@ def compare_rows():
     return [
         row("an inverter and a slower one", status=5, out=b"1 Y: expected 1, found x\n1 of 2 bits differ from 0 to 10 (1 ns)\n"),
         row("an inverter and one that is slower by 1", "--within 1", out=b"2 bits agree from 0 to 10 (1 ns)\n"),
+        row("strobes where both are quiet", "--at 3:5", out=b"2 bits agree from 0 to 10 (1 ns)\n"),
+        row("a strobe between the edges", "--at 6:5", status=5,
+            out=b"6 Y: expected 0, found 1\n1 of 2 bits differ from 0 to 10 (1 ns)\n"),
+        row("looked at 1 later, from 1 on", "--offset 1 --from 1", status=5,
+            out=b"4 A: expected 0, found 1\n1 of 2 bits differ from 1 to 10 (1 ns)\n"),
+        Row("an inverter in picoseconds", "compare {expected} {actual}", dumps | {"actual": in_picoseconds(dumps["expected"])},
+            out=b"2 bits agree from 0 to 10000 (1 ps)\n"),
         row("an inverter's input by a map", pairs=b"# the input\nA A\n", out=b"1 bits agree from 0 to 10 (1 ns)\n"),
         row("a map of three names", pairs=b"A A\nY A Y\n", status=1, err=b"map line 2: BadLine\n"),
         row("no time to compare", "--from 11", status=1, err=b"nothing to compare\n"),

@@ -11,7 +11,7 @@ use Rattle.gate_vcd.specs.Stimulus.{has_code}
 use Rattle.gate_vcd.specs.declared.source.Source.{Source as Held}
 use Rattle.gate_vcd.specs.Inner.Known.{source}
 use Rattle.gate_vcd.specs.Vectors.{Vector, vector_of}
-use Rattle.vcd_bits.specs.Names.{Bit, all_bits, below, bits_below, bits_if, bits_in, bits_of, is_named, named_in, named_source, vector_bits, with_bit, with_bits}
+use Rattle.vcd_bits.specs.Names.{Bit, all_bits, below, bits_below, bits_if, bits_in, bits_of, is_named, named_in, named_source, single_name, vector_bits, with_bit, with_bits}
 use Rattle.vcd_bits.specs.Scopes.{Scoped}
 use Rattle.vcd_bits.specs.Bits.{bits_declared}
 
@@ -40,7 +40,7 @@ coded-in vs path code (Some v) h = coded-vector vs path code v (abs_diff v.left 
 
 coded-of : (vs : List Variable) (path : List ℕ) (v : Variable) → has_code vs v.code ≡ true → AreCoded vs (bits_of path v)
 coded-of vs path v h =
-    elim (nat_eq v.size 1) as (λ t. AreCoded vs (cond t (record { name = named_in path v.reference; source = record { code = v.code; place = 0 } } ∷ []) (bits_in path v.code (vector_of v))))
+    elim (nat_eq v.size 1) as (λ t. AreCoded vs (cond t (record { name = named_in path (single_name v.reference); source = record { code = v.code; place = 0 } } ∷ []) (bits_in path v.code (vector_of v))))
     [ true ↦ (h, tt) | false ↦ coded-in vs path v.code (vector_of v) h ]
 
 coded-if : (vs : List Variable) (b : Bool) (o : Option (List ℕ)) (v : Variable) → has_code vs v.code ≡ true → AreCoded vs (bits_if b o v)

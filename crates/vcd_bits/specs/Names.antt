@@ -1,7 +1,7 @@
 -- The bits of a dump, by their names.
 use Rattle.std.specs.Prelude.{ℕ, zero, suc, ◌+◌, ◌-◌, Bool, nat_eq, nat_le, if◌then◌else◌, List, [], ◌∷◌, ◌++◌, length, take, drop, codes, decimal, Option, Some, None, position}
 use Rattle.std.specs.Int.{abs_diff}
-use Rattle.std.specs.List.{list_any}
+use Rattle.std.specs.List.{ends_with, list_any}
 use Rattle.std.specs.Str.{bytes_eq}
 use Rattle.gate_vcd.specs.Declarations.{Variable}
 use Rattle.gate_vcd.specs.Changes.{Source}
@@ -50,9 +50,13 @@ abbrev pub bits_in : List ℕ → List ℕ → Option Vector → List Bit
 bits_in path code None = []
 bits_in path code (Some v) = vector_bits path code v (abs_diff v.left v.right + 1)
 
+-- the name of a variable of one bit: its reference, without a range from 0 to 0
+abbrev pub single_name : List ℕ → List ℕ
+single_name reference = if ends_with nat_eq reference (codes "[0:0]") then take (length reference - 5) reference else reference
+
 -- the bits of a variable in a path: one of its name where its size is 1
 abbrev pub bits_of : List ℕ → Variable → List Bit
-bits_of path v = if nat_eq v.size 1 then record { name = named_in path v.reference; source = record { code = v.code; place = 0 } } ∷ [] else bits_in path v.code (vector_of v)
+bits_of path v = if nat_eq v.size 1 then record { name = named_in path (single_name v.reference); source = record { code = v.code; place = 0 } } ∷ [] else bits_in path v.code (vector_of v)
 
 -- the same, where the variable has bits and stands in the scope
 abbrev pub bits_if : Bool → Option (List ℕ) → Variable → List Bit

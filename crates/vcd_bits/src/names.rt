@@ -3,7 +3,7 @@ ghost use Rattle.gate_vcd.specs.Faults.{out_of_memory};
 ghost use Rattle.gate_vcd.specs.Inner.Commands.{variable as variable_of};
 ghost use Rattle.gate_vcd.specs.Inner.Scalars.{vector as vector_in};
 ghost use Rattle.gate_vcd.specs.Vectors.{last_bit};
-ghost use Rattle.vcd_bits.specs.Names.{after_scope, below, named_in, number_from_left};
+ghost use Rattle.vcd_bits.specs.Names.{after_scope, below, named_in, number_from_left, single_name};
 
 use gate_vcd::{StimFault, Variable, Vector, number_up_to};
 use itoa::Buffer;
@@ -30,6 +30,16 @@ pub fn below<'p>(scope: &[u8], path: &'p [u8]) -> Option<&'p [u8]>
     match path.strip_prefix(scope) {
         Some(rest) => after_scope(rest),
         None => None,
+    }
+}
+
+/// The name of a variable of one bit, by its reference.
+pub fn single_name(reference: &[u8]) -> &[u8]
+    ensures { result.now ≡ single_name reference.now }
+{
+    match reference.strip_suffix(b"[0:0]") {
+        Some(name) => name,
+        None => reference,
     }
 }
 

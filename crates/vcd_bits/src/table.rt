@@ -9,7 +9,7 @@ ghost use Rattle.vcd_bits.specs.Names.{all_bits, bits_below, bits_of, named_sour
 ghost use Rattle.vcd_bits.specs.Inner.Held.{texts_in};
 ghost use Rattle.vcd_bits.specs.Inner.Tables.{bit_by, bit_of, bits_in};
 
-use crate::names::{below, bit_named_in, is_one, named_in, number_from_left};
+use crate::names::{below, bit_named_in, is_one, named_in, number_from_left, single_name};
 use crate::scoped::Scoped;
 use gate_netlist::TextSeed;
 use gate_vcd::{Source, StimFault, Variable, Vector, vector_of};
@@ -69,7 +69,7 @@ impl<'a> Table<'a> {
     {
         let code = variable.code;
         if is_one(variable) {
-            let name = named_in(alloc, path, variable.reference.as_slice())?;
+            let name = named_in(alloc, path, single_name(variable.reference.as_slice()))?;
             return self.put(name, Source { code, place: 0 });
         }
         match vector_of(variable) {

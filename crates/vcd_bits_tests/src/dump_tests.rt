@@ -4,7 +4,7 @@ use std::test::Fail;
 use vcd_bits::Dump;
 
 const TEXT: &str =
-    "$timescale 10 ps $end $scope module top $end $var wire 1 ! CK $end $scope module u $end $var wire 3 v A [2:0] $end $var wire 1 w A [1] $end $var real 64 r f $end $upscope $end $scope module use $end $var wire 1 e E $end $enddefinitions $end #0 1! #4 b10 v #7 bx v #9";
+    "$timescale 10 ps $end $scope module top $end $var wire 1 ! CK $end $scope module u $end $var wire 3 v A [2:0] $end $var wire 1 w A [1] $end $var wire 1 o O [0:0] $end $var real 64 r f $end $upscope $end $scope module use $end $var wire 1 e E $end $enddefinitions $end #0 1! #4 b10 v #7 bx v #9";
 
 /// The names of the bits of a scope, each behind a blank.
 fn names(alloc: Global, scope: Option<&[u8]>) -> Result<Vec<u8>, Fail> {
@@ -22,11 +22,11 @@ fn names(alloc: Global, scope: Option<&[u8]>) -> Result<Vec<u8>, Fail> {
 #[test]
 fn bits_by_their_names(rt: HostRuntime) -> Result<(), Fail> {
     let first = names(rt.alloc(), None)?;
-    assert!(rt; first.as_slice() == b" CK u.A[2] u.A[1] u.A[0] use.E".as_slice());
+    assert!(rt; first.as_slice() == b" CK u.A[2] u.A[1] u.A[0] u.O use.E".as_slice());
     let inner = names(rt.alloc(), Some(b"top.u"))?;
-    assert!(rt; inner.as_slice() == b" A[2] A[1] A[0]".as_slice());
+    assert!(rt; inner.as_slice() == b" A[2] A[1] A[0] O".as_slice());
     let all = names(rt.alloc(), Some(b""))?;
-    assert!(rt; all.as_slice() == b" top.CK top.u.A[2] top.u.A[1] top.u.A[0] top.use.E".as_slice());
+    assert!(rt; all.as_slice() == b" top.CK top.u.A[2] top.u.A[1] top.u.A[0] top.u.O top.use.E".as_slice());
     Ok(())
 }
 
