@@ -26,7 +26,9 @@ fn bits_by_their_names(rt: HostRuntime) -> Result<(), Fail> {
     let inner = names(rt.alloc(), Some(b"top.u"))?;
     assert!(rt; inner.as_slice() == b" A[2] A[1] A[0] O".as_slice());
     let all = names(rt.alloc(), Some(b""))?;
-    assert!(rt; all.as_slice() == b" top.CK top.u.A[2] top.u.A[1] top.u.A[0] top.u.O top.use.E".as_slice());
+    assert!(rt;
+        all.as_slice() == b" top.CK top.u.A[2] top.u.A[1] top.u.A[0] top.u.O top.use.E".as_slice()
+    );
     Ok(())
 }
 
