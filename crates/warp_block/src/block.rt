@@ -1,15 +1,17 @@
-ghost use Rattle.std.specs.Prelude.{◌≡◌, ◌≢◌, ◌+◌, ◌++◌, ◌-◌, ◌≤◌, ◌<◌, ◌↔◌, ◌⊎◌, ℕ, false, vec_len, IsTrue, IfOk, IfErr, OnOk, OnErr, Some, None};
+ghost use Rattle.std.specs.Prelude.{◌≡◌, ◌≢◌, ◌+◌, ◌++◌, ◌-◌, ◌≤◌, ◌<◌, ◌↔◌, ◌⊎◌, ℕ, false, vec_len, List, IsTrue, IfOk, IfErr, OnOk, OnErr, Some, None};
 ghost use Rattle.std.specs.List.{All, AllPairs};
 ghost use Rattle.gate_values.specs.Changes.{pair_at};
 ghost use Rattle.gate_vcd.specs.Waves.{lists_in, wave_of};
 ghost use Rattle.warp_part.specs.Portion.{owns};
 ghost use Rattle.warp_process.specs.Limits.{most_horizon};
 ghost use Rattle.warp_process.specs.declared.message.Sign.TheVariants.{Plus, Minus};
-ghost use Rattle.warp_process.specs.Entries.{no_messages, is_settled};
+ghost use Rattle.warp_process.specs.Entries.{no_messages, one_message, is_settled};
 ghost use Rattle.warp_process.specs.View.{IsLeast, IsEventTime, IsDone, busy_times, entry_of, effective_at, log_of};
 ghost use Rattle.warp_process.specs.Lawful.{IsLawfulProcess};
 ghost use Rattle.warp_process.specs.Opening.{silent_view, opening_view, opening_messages};
+ghost use Rattle.warp_process.specs.declared.message.Message.{Message};
 ghost use Rattle.warp_process.specs.Receive.{refusal_of, IsRefusal, IsTaken};
+ghost use Rattle.warp_process.specs.Inner.Receive.{IsAdmitted};
 ghost use Rattle.warp_process.specs.Advance.{IsAdvanced, IsAfterEvent};
 ghost use Rattle.warp_process.specs.Commit.{IsCommittable, IsCommitted, IsCommitRefusal};
 ghost use Rattle.warp_process.specs.Sends.{SendsOnce};
@@ -109,6 +111,12 @@ impl Block {
         ensures err { OnErr result (self.new ≡ self.old) }
         ensures untold { OnErr result (out.new.items ≡ out.old.items) }
     {
+        if message.time >= self.engine.mark() {
+            if let Some(slot) = self.heard.first_place(message) {
+                self.take_first(slot, message)?;
+                return Ok(());
+            }
+        }
         let (slot, entry) = self.heard.admit(message)?;
         if is_late(&self.heard, &self.engine, slot, message.time, entry) {
             roll_back(
@@ -124,6 +132,24 @@ impl Block {
             return Ok(());
         }
         self.heard.put(slot, message.time, entry)?;
+        self.heard.law();
+        Ok(())
+    }
+
+    /// Takes a message that is the first of its net and time, and for what isn't processed. An error is a refused growth; then
+    /// nothing has changed.
+    fn take_first(&mut self, slot: usize, message: Message) -> Result<(), BlockFault>
+        requires admitted { IsAdmitted self.old.seen message slot (one_message message.value) }
+        requires first { entry_of self.old.seen message.net message.time ≡ no_messages }
+        requires ahead { self.old.seen.mark ≤ message.time }
+        ensures accepted { OnOk result (refusal_of self.old.seen message ≡ None) }
+        ensures taken { OnOk result (IsTaken self.old.seen self.new.seen message) }
+        ensures sends { OnOk result ((out : List Message) → SendsOnce self.old.seen self.new.seen Minus (λ t. message.time < t) out out) }
+        ensures refused { IfErr result (IsRefusal (refusal_of self.old.seen message)) }
+        ensures err { OnErr result (self.new ≡ self.old) }
+    {
+        self.heard
+            .put_first(slot, message.time, Entry::one_message(message.value))?;
         self.heard.law();
         Ok(())
     }

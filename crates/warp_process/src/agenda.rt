@@ -9,7 +9,6 @@ ghost use Rattle.warp_process.specs.Inner.Agenda.{places_at, is_listed};
 
 use std::alloc::{AllocError, Global};
 use std::collections::BTreeMap;
-use std::collections::btree_map::Entry;
 
 /// For each time the places that may have an entry at it.
 #[derive(Debug, Drop)]
@@ -66,16 +65,14 @@ impl Agenda {
         ensures ok { OnOk result ((t : ℕ) → places_at self.new t ≡ (if t == time then places_at self.old t ++ place ∷ [] else places_at self.old t)) }
         ensures err { OnErr result ((t : ℕ) → places_at self.new t ≡ places_at self.old t) }
     {
-        match self.times.entry(time)? {
-            Entry::Occupied(entry) => {
-                entry.into_mut().push(place)?;
-                Ok(())
-            }
-            Entry::Vacant(entry) => {
-                entry.insert(Vec::new(self.alloc)).push(place)?;
-                Ok(())
-            }
+        if let Some(places) = self.times.get_mut(&time) {
+            places.push(place)?;
+            return Ok(());
         }
+        let mut places = Vec::new(self.alloc);
+        places.push(place)?;
+        self.times.insert(time, places)?;
+        Ok(())
     }
 
     /// Takes a place from the list of a time once, if it is gone from there.

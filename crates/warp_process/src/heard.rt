@@ -1,12 +1,12 @@
 //! What a block has heard.
-ghost use Rattle.std.specs.Prelude.{◌≡◌, ◌≢◌, ◌≤◌, ◌<◌, ◌↔◌, ◌⊎◌, ℕ, [], IsTrue, IsSome, IfOk, IfErr, IfSome, IfNone, OnOk, OnErr, None, if◌then◌else◌, length, get_or, slice_index};
+ghost use Rattle.std.specs.Prelude.{◌≡◌, ◌≢◌, ◌≤◌, ◌<◌, ◌↔◌, ◌⊎◌, ℕ, [], IsTrue, IsSome, IfOk, IfErr, IfSome, IfNone, OnOk, OnErr, Some, None, if◌then◌else◌, length, get_or, slice_index};
 ghost use Rattle.std.specs.List.{All, AllPairs};
 ghost use Rattle.std.specs.List.Sorted.{IsStrictlyIncreasing};
 ghost use Rattle.gate_values.specs.Changes.{pair_at};
 ghost use Rattle.warp_part.specs.Portion.{slot_of, hears};
 ghost use Rattle.warp_part.specs.Inner.Building.{has};
 ghost use Rattle.warp_process.specs.Limits.{most_horizon};
-ghost use Rattle.warp_process.specs.Entries.{no_messages, is_settled, entry_in, IsQueue};
+ghost use Rattle.warp_process.specs.Entries.{no_messages, one_message, is_settled, entry_in, IsQueue};
 ghost use Rattle.warp_process.specs.Shown.Received.{lists_in};
 ghost use Rattle.warp_process.specs.View.{IsLeast, entry_of, effective_at};
 ghost use Rattle.warp_process.specs.Heard.{IsReceived, IsHeardFrom};
@@ -19,7 +19,7 @@ ghost use Rattle.warp_process.specs.Inner.Agenda.{places_at};
 use crate::agenda::Agenda;
 use crate::entry::Entry;
 use crate::fault::BlockFault;
-use crate::message::Message;
+use crate::message::{Message, Sign};
 use crate::timed::Timed;
 use crate::{agenda, agree, queue};
 use gate_values::{Change, Logic};
@@ -136,7 +136,7 @@ impl Heard {
         requires { slot < length self.now.part.nets }
         ensures { result ≡ effective_at self.now (slice_index self.now.part.nets slot) time }
     {
-        self.entry_at(slot, time).effective()
+        queue::effective_at(&self.queues[slot], time)
     }
 
     /// The least time from a time on at which a place has an effective value.
@@ -173,6 +173,56 @@ impl Heard {
         match old.bump(message.value, message.sign) {
             Some(entry) => Ok((slot, entry)),
             None => Err(BlockFault::CountLimit),
+        }
+    }
+
+    /// The place of a message, and no antimessage, that isn't refused, where nothing has been received for its net and time.
+    /// [`Heard::put_first`] takes it in. Nearly all messages are such.
+    pub fn first_place(&self, message: Message) -> Option<usize>
+        ensures { IfSome result (λ slot. IsAdmitted self.now message slot (one_message message.value) × (entry_of self.now message.net message.time ≡ no_messages)) }
+    {
+        let slot = self.hearing(message)?;
+        if self.is_first(slot, message) {
+            return Some(slot);
+        }
+        None
+    }
+
+    /// Whether it is a message, no antimessage, from the floor to the horizon, and nothing has been received for its net and time.
+    fn is_first(&self, slot: usize, message: Message) -> bool
+        requires slot { slot < length self.now.part.nets }
+        requires named { slice_index self.now.part.nets slot ≡ message.net }
+        requires place { (if is_for self.now.part message then slot_of self.now.part.nets message.net else None) ≡ Some slot }
+        ensures { IsTrue result → IsAdmitted self.now message slot (one_message message.value) × (entry_of self.now message.net message.time ≡ no_messages) }
+    {
+        match message.sign {
+            Sign::Plus => self.floor <= message.time
+                && message.time <= self.horizon
+                && queue::is_free(&self.queues[slot], message.time),
+            Sign::Minus => false,
+        }
+    }
+
+    /// Takes in a settled entry at a place and a time at which there is none. An error is a refused growth; then nothing has
+    /// changed.
+    pub fn put_first(&mut self, slot: usize, time: u64, entry: Entry) -> Result<(), AllocError>
+        requires slot { slot < length self.old.part.nets }
+        requires heard { IsTrue (hears self.old.part (slice_index self.old.part.nets slot)) }
+        requires from { self.old.floor ≤ time }
+        requires until { time ≤ self.old.horizon }
+        requires none { entry_of self.old (slice_index self.old.part.nets slot) time ≡ no_messages }
+        requires settled { IsTrue (is_settled entry) }
+        ensures put { OnOk result (IsPut self.old self.new (slice_index self.old.part.nets slot) time entry) }
+        ensures mark { self.new.mark ≡ self.old.mark }
+        ensures err { OnErr result (self.new ≡ self.old) }
+    {
+        self.agenda.list(time, slot as u32, true)?;
+        match queue::put(&mut self.queues[slot], time, entry) {
+            Ok(()) => Ok(()),
+            Err(error) => {
+                self.agenda.unlist(time, slot as u32, true);
+                Err(error)
+            }
         }
     }
 

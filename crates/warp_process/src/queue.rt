@@ -1,7 +1,7 @@
 ghost use Rattle.std.specs.Prelude.{◌≡◌, ◌≢◌, ◌<◌, ◌≤◌, ◌+◌, ℕ, ◌==◌, if◌then◌else◌, IsSome, IsTrue, OnOk, OnErr, IfOk, IfErr, map, length};
 ghost use Rattle.std.specs.List.{HoldsAt};
 ghost use Rattle.std.specs.List.Sorted.{IsPartitionPoint};
-ghost use Rattle.gate_values.specs.Changes.{held, before_time};
+ghost use Rattle.gate_values.specs.Changes.{before_time};
 ghost use Rattle.gate_vcd.specs.Inner.Lists.{IsRising};
 ghost use Rattle.warp_process.specs.Opening.{message_of};
 ghost use Rattle.warp_process.specs.Entries.{entry_in, no_messages, is_settled, IsQueue};
@@ -46,15 +46,6 @@ fn search_before(queue: &[Timed], time: u64) -> usize
     queue.partition_point(|timed| timed.time() < time)
 }
 
-/// How many entries of a queue aren't past a time.
-fn count_until(queue: &[Timed], time: u64) -> usize
-    requires { IsQueue queue.now }
-    ensures within { result ≤ length queue.now }
-    ensures split { IsPartitionPoint (λ e. e.time ≤ time) (λ e. time < e.time) queue.now result }
-{
-    queue.partition_point(|timed| timed.time() <= time)
-}
-
 /// The place of a time's entry in a queue, or the place where it belongs.
 fn place_of(queue: &[Timed], time: u64) -> Result<usize, usize>
     requires { IsQueue queue.now }
@@ -79,19 +70,26 @@ pub(crate) fn entry_at(queue: &[Timed], time: u64) -> Entry
     }
 }
 
-/// The effective value of the latest time of a queue that has one and isn't past a time.
-pub(crate) fn held_at(queue: &[Timed], time: u64) -> Logic
+/// The effective value of a queue at a time.
+pub(crate) fn effective_at(queue: &[Timed], time: u64) -> Option<Logic>
     requires { IsQueue queue.now }
-    ensures { result ≡ held (effective_in queue.now) time }
+    ensures { result ≡ effective_in queue.now time }
 {
-    let mut index = count_until(queue, time);
-    while index > 0 {
-        index -= 1;
-        if let Some(value) = queue[index].entry().effective() {
-            return value;
-        }
+    match place_of(queue, time) {
+        Ok(place) => queue[place].effective(),
+        Err(_) => None,
     }
-    Logic::X
+}
+
+/// Whether a queue has no entry at a time.
+pub(crate) fn is_free(queue: &[Timed], time: u64) -> bool
+    requires { IsQueue queue.now }
+    ensures { IsTrue result → entry_in queue.now time ≡ no_messages }
+{
+    match place_of(queue, time) {
+        Ok(_) => false,
+        Err(_) => true,
+    }
 }
 
 /// The least time from a time on at which a queue has an effective value.

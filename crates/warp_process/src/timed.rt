@@ -1,7 +1,9 @@
 ghost use Rattle.std.specs.Prelude.{◌≡◌, IfOk, IfSome};
+ghost use Rattle.warp_process.specs.Entries.{effective_of};
 ghost use Rattle.warp_process.specs.Shown.Received.{received_of};
 
 use crate::entry::Entry;
+use gate_values::Logic;
 use std::alloc::{AllocError, Global};
 use std::marker::Model;
 use std::mem::size_of;
@@ -83,6 +85,20 @@ impl Timed {
                 z: i128::from(*z),
             },
             Numbers::Large(large) => large.entry,
+        }
+    }
+
+    /// The value that the net takes.
+    pub(crate) fn effective(&self) -> Option<Logic>
+        ensures { result ≡ effective_of self.now.entry }
+    {
+        match &self.numbers {
+            Numbers::Small { zero, .. } if *zero > 0 => Some(Logic::Zero),
+            Numbers::Small { one, .. } if *one > 0 => Some(Logic::One),
+            Numbers::Small { x, .. } if *x > 0 => Some(Logic::X),
+            Numbers::Small { z, .. } if *z > 0 => Some(Logic::Z),
+            Numbers::Small { .. } => None,
+            Numbers::Large(large) => large.entry.effective(),
         }
     }
 

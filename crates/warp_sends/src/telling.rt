@@ -85,12 +85,11 @@ fn push_told(part: &Part, time: u64, word: Word, told: &mut Vec<Telling>) -> Res
 }
 
 /// Puts words into the order of the event times that made them, then of their places.
-pub(crate) fn sort_by_event(told: &mut Vec<Telling>) -> Result<(), AllocError>
+pub(crate) fn sort_by_event(told: &mut Vec<Telling>)
     ensures same { IsPermutation told.old.items told.new.items }
-    ensures sorted { OnOk result (IsSortedByKey event_of by_pair told.new.items) }
+    ensures sorted { IsSortedByKey event_of by_pair told.new.items }
 {
-    told.sort_by_key(|telling| (telling.made, telling.word.place()))?;
-    Ok(())
+    told.sort_unstable_by_key(|telling| (telling.made, telling.word.place()));
 }
 
 /// Puts words into the order of their places, then of their times.

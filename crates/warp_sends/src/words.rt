@@ -27,7 +27,7 @@ pub fn tell(
     ensures err { OnErr result (out.new.items ≡ out.old.items) }
 {
     let mut told = tellings(alloc, part, batch)?;
-    sort_by_event(&mut told)?;
+    sort_by_event(&mut told);
     send_all(part, Sign::Plus, told.as_slice(), out)
 }
 

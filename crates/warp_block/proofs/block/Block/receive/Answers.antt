@@ -1,8 +1,7 @@
-use Rattle.std.proofs.Common.{◌≡◌, ◌≢◌, ◌<◌, ◌≤◌, ◌⊎◌, ℕ, List, get_or, refl, ap, sym, ◌∙◌, subst}
+use Rattle.std.proofs.Common.{◌≡◌, ◌<◌, ◌≤◌, ◌⊎◌, get_or, refl, ap, sym, ◌∙◌, subst}
 use Rattle.std.specs.Result.{IfErr}
 use Rattle.std.proofs.lemmas.Bool.{iff_false}
 use Rattle.warp_engine.specs.Runs.{Run}
-use Rattle.warp_part.specs.Portion.{Portion}
 use Rattle.warp_process.specs.declared.message.Sign.TheVariants.{Minus}
 use Rattle.warp_process.specs.Entries.{effective_of}
 use Rattle.warp_process.specs.View.{View, Process, effective_at}
@@ -73,3 +72,6 @@ returns-clause-sends c =
     let P : Process → Type 0 = λ p. SendsOnce p.seen (seen_by c.put.new.self c.self.inside.engine) Minus (λ t. c.args.message.time < t) c.args.out.now.items c.args.out.now.items in
     subst P c.self.view_is
     (once_nothing old new Minus (λ t. c.args.message.time < t) c.args.out.now.items c.args.out.now.items (same_standing old new c.in_ok-put.ensures.put.part (same_logs old new c.in_ok-put.ensures.put.part refl)) refl)
+
+pub returns-in-Some-clause-sends : goal.returns-in-Some-clause-sends
+returns-in-Some-clause-sends c = c.in_ok-take_first.ensures.sends c.args.out.now.items
