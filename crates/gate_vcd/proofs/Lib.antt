@@ -27,6 +27,7 @@ pub mod DeclarationLaws
 pub mod Settling
 pub mod Links
 pub mod Keeping
+pub mod Bundling
 pub mod Reaching
 pub mod Holding
 pub mod SettleLaws

@@ -1,5 +1,5 @@
 -- Which places digits reach, and the digits that a code has.
-use Rattle.std.proofs.Common.{◌≡◌, ℕ, zero, suc, ◌<◌, ◌≤◌, inl, inr, Bool, true, false, not, cond, ◌||◌, nat_le, nat_lt, List, [], ◌∷◌, ◌++◌, length, map, set, filter, get_or, slice_get, replicate, Some, refl, ap, sym, ◌∙◌, arith, get_or-set_same, get_or-set_other, length-set}
+use Rattle.std.proofs.Common.{◌≡◌, ℕ, zero, suc, ◌<◌, ◌≤◌, inl, inr, Bool, true, false, not, cond, ◌&&◌, ◌||◌, nat_le, nat_lt, List, [], ◌∷◌, ◌++◌, length, map, set, filter, get_or, slice_get, replicate, Some, refl, ap, sym, ◌∙◌, arith, get_or-set_same, get_or-set_other, length-set}
 use Rattle.std.proofs.lemmas.List.{length-replicate}
 use Rattle.std.proofs.lemmas.Bool.Decides.{nat_tests}
 use Rattle.std.proofs.lemmas.Option.{same_Some}
@@ -11,7 +11,7 @@ use Rattle.gate_values.specs.declared.logic.Change.{Change}
 use Rattle.gate_values.specs.Changes.{last_value, latest, same}
 use Rattle.gate_values.proofs.ChangeLists.{same_is}
 use Rattle.gate_vcd.specs.Changes.{Event, Source, changes_with, change_of, past_end, value_at_place}
-use Rattle.gate_vcd.specs.Inner.Items.{AreGiven, given_after, last_of, reaches}
+use Rattle.gate_vcd.specs.Inner.Items.{AreGiven, given_after, last_of, makes, reaches}
 use Rattle.gate_vcd.specs.Inner.Known.{is_of}
 use Rattle.gate_vcd.proofs.Compared.{cases_eq, le_true, lt_false}
 use Rattle.gate_vcd.proofs.Keeping.{same_bytes}
@@ -45,6 +45,19 @@ unfolding reaches
 reaches-same had digits place e =
     let (a, b, c) = either (nat_lt place (length had)) (nat_lt place (length digits)) (not (same (past_end had) (past_end digits))) e in
     rw (a, b) (sym (same_is (past_end had) (past_end digits) (not_true (same (past_end had) (past_end digits)) c)))
+
+-- a place of which digits make no change keeps its value
+pub makes-same : (had digits : List ℕ) (place : ℕ) → (reaches had digits place && makes had digits place) ≡ false → value_at_place place digits ≡ value_at_place place had
+unfolding makes
+makes-same had digits place e = go (reaches had digits place) refl e
+  where
+    by : (a b : Bool) → (a || not b) ≡ false → b ≡ true
+    by true b e = cc
+    by false b e = not_true b e
+
+    go : (r : Bool) → reaches had digits place ≡ r → (r && (nat_le (length digits) 1 || not (same (value_at_place place had) (value_at_place place digits)))) ≡ false → value_at_place place digits ≡ value_at_place place had
+    go false is e = reaches-same had digits place is
+    go true is e = sym (same_is (value_at_place place had) (value_at_place place digits) (by (nat_le (length digits) 1) (same (value_at_place place had) (value_at_place place digits)) e))
 
 -- the last value of a source is that of the digits that its code has
 value-given : (source : Source) (had : List ℕ) (es : List Event) → last_value (value_at_place source.place had) (changes_with source es) ≡ value_at_place source.place (given_after source.code had es)

@@ -1,6 +1,6 @@
 -- The lists of the sources of a code, settled one after another from the last one on.
-use Rattle.std.proofs.Common.{◌≡◌, ◌≢◌, ℕ, suc, ◌<◌, ◌≤◌, Bool, true, false, cond, ◌&&◌, nat_le, List, [], ◌∷◌, ◌++◌, length, map, set, get_or, slice_get, Option, Some, None, Result, Ok, Err, IfErr, OnOk, Vec, Global, refl, ap, sym, ◌∙◌, arith, inl, inr, get_or-set_same, get_or-set_other, length-set}
-use Rattle.std.proofs.lemmas.List.{length-map, map-set, get_or-map}
+use Rattle.std.proofs.Common.{◌≡◌, ◌≢◌, ℕ, suc, ◌<◌, ◌≤◌, Bool, true, false, cond, ◌&&◌, nat_le, List, [], ◌∷◌, ◌++◌, length, map, set, get_or, slice_get, Option, Some, None, Result, Ok, Err, IfErr, OnOk, refl, ap, sym, ◌∙◌, arith, inl, inr, get_or-set_same, get_or-set_other, length-set}
+use Rattle.std.proofs.lemmas.List.{length-map, get_or-map}
 use Rattle.std.proofs.lemmas.Option.{same_Some}
 use Rattle.gate_values.specs.declared.logic.Change.{Change}
 use Rattle.gate_vcd.specs.declared.fault.StimFault.{StimFault}
@@ -9,9 +9,9 @@ use Rattle.gate_vcd.specs.declared.source.Source.{Source as Held}
 use Rattle.gate_vcd.specs.Faults.{out_of_memory}
 use Rattle.gate_vcd.specs.Tokens.{Token}
 use Rattle.gate_vcd.specs.Changes.{Event, Source, value_at_place}
-use Rattle.gate_vcd.specs.Inner.Items.{AreHeld, AreSettled, IsTaken, Taken, moves, reaches, settled}
+use Rattle.gate_vcd.specs.Inner.Items.{AreHeld, AreSettled, IsTaken, Taken, makes, moves, reaches}
+use Rattle.gate_vcd.specs.Inner.Settled.{settled}
 use Rattle.gate_vcd.specs.Inner.Known.{AreFalling, AreLinked, is_of, knows, last_below, source, sources_in}
-use Rattle.gate_vcd.specs.Waves.{lists_in}
 use Rattle.gate_vcd.proofs.Compared.{cases_eq, cases_lt, le_true, le_false}
 use Rattle.gate_vcd.proofs.Keeping.{same_bytes}
 use Rattle.gate_vcd.proofs.Reaching.{reaches-less}
@@ -49,12 +49,13 @@ module _ (sources : List Source) (now : ℕ) (code had digits : List ℕ) (old :
 
   -- the list of the next source is settled
   pub settling-step : (last : List ℕ → Option ℕ) (before : List (Option ℕ)) (lists : List (List Change)) (j : ℕ) (source : Source) → AreLinked last before sources → slice_get sources j ≡ Some source → reaches had digits source.place ≡ true → length old ≡ length sources
-      → IsSettling sources now code had digits old lists (Some j) → IsSettling sources now code had digits old (set lists j (settled (get_or lists j []) (change_for now digits source))) (get_or before j None)
+      → IsSettling sources now code had digits old lists (Some j)
+      → IsSettling sources now code had digits old (cond (makes had digits source.place) (set lists j (settled (get_or lists j []) (change_for now digits source))) lists) (get_or before j None)
   settling-step last before lists j source linked at reach long s = record {
     bound = j;
     within = omega (arith, s.within, less);
     last = linked.links j source at ∙ ap (λ c. last_below (is_of c) sources j) (same_bytes source.code code passes);
-    count = length-set lists j _ ∙ s.count;
+    count = counted (makes had digits source.place) ∙ s.count;
     changes = changes;
   }
     where
@@ -64,15 +65,30 @@ module _ (sources : List Source) (now : ℕ) (code had digits : List ℕ) (old :
       passes : is_of code source ≡ true
       passes = last_below-passes (is_of code) sources s.bound j source (sym s.last) at
 
+      counted : (m : Bool) → length (cond m (set lists j (settled (get_or lists j []) (change_for now digits source))) lists) ≡ length lists
+      counted true = length-set lists j (settled (get_or lists j []) (change_for now digits source))
+      counted false = refl
+
+      mine : get_or lists j [] ≡ get_or old j []
+      mine = s.changes j source at ∙ rw (le_false s.bound j less) refl
+
+      here : (m : Bool) → get_or (cond m (set lists j (settled (get_or lists j []) (change_for now digits source))) lists) j [] ≡ cond m (settled (get_or old j []) (change_for now digits source)) (get_or old j [])
+      here true =
+          let stands : j < length lists = omega (arith, s.count, long, slice_get-within sources j source at) in
+          get_or-set_same lists j (settled (get_or lists j []) (change_for now digits source)) [] stands ∙ ap (λ cs. settled cs (change_for now digits source)) mine
+      here false = mine
+
+      elsewhere : (m : Bool) (k : ℕ) → k ≢ j → get_or (cond m (set lists j (settled (get_or lists j []) (change_for now digits source))) lists) k [] ≡ get_or lists k []
+      elsewhere true k n = get_or-set_other lists j k (settled (get_or lists j []) (change_for now digits source)) [] n
+      elsewhere false k n = refl
+
       changes : (k : ℕ) (x : Source) → slice_get sources k ≡ Some x
-          → get_or (set lists j (settled (get_or lists j []) (change_for now digits source))) k [] ≡ cond (nat_le j k && moves code had digits x) (settled (get_or old k []) (change_for now digits x)) (get_or old k [])
+          → get_or (cond (makes had digits source.place) (set lists j (settled (get_or lists j []) (change_for now digits source))) lists) k [] ≡ cond (nat_le j k && moves code had digits x) (settled (get_or old k []) (change_for now digits x)) (get_or old k [])
       changes k x there = elim (cases_eq k j) [
         | inl e ↦ (
             let own : source ≡ x = same_Some source x (sym at ∙ ap (slice_get sources) (sym e) ∙ there) in
-            let stands : j < length lists = omega (arith, s.count, long, slice_get-within sources j source at) in
-            let mine : get_or lists j [] ≡ get_or old j [] = s.changes j source at ∙ rw (le_false s.bound j less) refl in
-            rw (e, ← own, get_or-set_same lists j (settled (get_or lists j []) (change_for now digits source)) [] stands, le_true j j (omega arith), passes, reach, mine) refl)
-        | inr n ↦ get_or-set_other lists j k (settled (get_or lists j []) (change_for now digits source)) [] n ∙ s.changes k x there ∙ others k x there n
+            rw (e, ← own, le_true j j (omega arith), passes, reach) (here (makes had digits source.place)))
+        | inr n ↦ elsewhere (makes had digits source.place) k n ∙ s.changes k x there ∙ others k x there n
       ]
         where
           others : (k : ℕ) (x : Source) → slice_get sources k ≡ Some x → k ≢ j
@@ -129,19 +145,8 @@ module _ (sources : List Source) (now : ℕ) (code had digits : List ℕ) (old :
         | inr before ↦ rw (reaches-less had digits source.place x.place (falls k j x source before there at) stops) (and_false (is_of code x))
       ]
 
--- the same of the vectors that hold the lists
-pub vectors-step : (sources : List Source) (now : ℕ) (code had digits : List ℕ) (first : List (List Change)) (last : List ℕ → Option ℕ) (before : List (Option ℕ)) (vs : List (Vec Change Global)) (old new : Vec Change Global) (j : ℕ) (source : Source)
-    → AreLinked last before sources → slice_get sources j ≡ Some source → reaches had digits source.place ≡ true → length first ≡ length sources → j < length vs → old ≡ get_or vs j old → new.items ≡ settled old.items (change_for now digits source)
-    → IsSettling sources now code had digits first (lists_in vs) (Some j) → IsSettling sources now code had digits first (lists_in (set vs j new)) (get_or before j None)
-vectors-step sources now code had digits first last before vs old new j source linked at reach long within eo en s =
-    let read : old.items ≡ get_or (lists_in vs) j [] = ap (λ (w : Vec Change Global). w.items) eo ∙ sym (get_or-map (λ (w : Vec Change Global). w.items) vs j old [] within) in
-    rw (map-set (λ (w : Vec Change Global). w.items) vs j new, en, read) (settling-step sources now code had digits first last before (lists_in vs) j source linked at reach long s)
-
 pub no_source : Held
 no_source = record { code = record { now = []; ref_ptr = (0, 0) }; place = 0 }
-
-pub lists-length : (vs : List (Vec Change Global)) → length (lists_in vs) ≡ length vs
-lists-length vs = length-map vs (λ (v : Vec Change Global). v.items)
 
 -- the place of a source that stands at a number
 pub place-of : (sources : List Held) (number : ℕ) (s : Source) (d : Held) → number < length sources → slice_get (map source sources) number ≡ Some s → (get_or sources number d).place ≡ s.place

@@ -9,7 +9,7 @@ use Rattle.gate_values.specs.declared.logic.Logic.TheVariants.{X}
 use Rattle.gate_values.specs.declared.logic.Change.{Change}
 use Rattle.gate_values.specs.Changes.{changes, change_at, just_before, latest, last_value, same}
 use Rattle.gate_values.proofs.ChangeLists.{changes-agree, changes-quiet, last_value-changes}
-use Rattle.gate_vcd.specs.Inner.Items.{value_after, ends_at, undone, settled}
+use Rattle.gate_vcd.specs.Inner.Settled.{value_after, ends_at, undone, settled}
 
 abbrev pub AreUpTo : ℕ → List Change → Type 0
 AreUpTo t cs = AllByRecursion (λ (c : Change). c.time ≤ t) cs

@@ -1,5 +1,6 @@
 -- What only the proofs of this crate need: no contract of a public call speaks of it.
 pub mod Buckets
+pub mod Bundles
 pub mod ByTime
 pub mod Commands
 pub mod Grown
@@ -18,6 +19,7 @@ pub mod Reading
 pub mod Runs
 pub mod Scalars
 pub mod Scopes
+pub mod Settled
 pub mod Sink
 pub mod Sought
 pub mod Table

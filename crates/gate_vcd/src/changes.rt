@@ -1,14 +1,16 @@
-ghost use Rattle.std.specs.Prelude.{◌≡◌, ◌<◌, ◌-◌, ◌++◌, ◌∷◌, List, [], Some, length, map, slice_get, replicate, not, IfErr, IfOk, MatchResult, OnOk};
+ghost use Rattle.std.specs.Prelude.{◌≡◌, ◌<◌, ◌-◌, ◌++◌, ◌∷◌, List, [], Some, get_or, length, map, set, slice_get, replicate, not, if◌then◌else◌, IfErr, IfOk, MatchResult, OnOk};
 ghost use Rattle.gate_values.specs.Changes.{same};
-ghost use Rattle.gate_vcd.specs.Changes.{Event, Source as TextSource, Item as TextItem, events_from, items, last_time, nothing, stamped};
+ghost use Rattle.gate_vcd.specs.Changes.{Event, Source as TextSource, Item as TextItem, events_from, items, last_time, nothing, stamped, value_at_place};
 ghost use Rattle.gate_vcd.specs.Faults.{out_of_memory};
-ghost use Rattle.gate_vcd.specs.Inner.Items.{AreHeld, AreSettled, AreTaken, IsTaken, TakesItem, ends_at, item_of, last_of, reaches, settled, taken_in, undone, value_after};
+ghost use Rattle.gate_vcd.specs.Inner.Items.{AreHeld, AreSettled, AreTaken, IsTaken, TakesItem, item_of, last_of, makes, reaches, taken_in};
+ghost use Rattle.gate_vcd.specs.Inner.Settled.{settled};
 ghost use Rattle.gate_vcd.specs.Inner.Known.{IsLinked, knows, source, sources_in};
 ghost use Rattle.gate_vcd.specs.Waves.{lists_in};
 ghost use Rattle.gate_vcd.specs.Reading.{Fails};
 ghost use Rattle.gate_vcd.specs.Inner.Reading.{Reads};
 ghost use Rattle.gate_vcd.specs.Inner.Words.{bytes_of, texts, token_of};
 
+use crate::bundles::Bundles;
 use crate::digits::{past_end, value_at_place};
 use crate::fault::{StimCause, StimFault};
 use crate::form::after_first;
@@ -27,50 +29,9 @@ const LAST_STAMP: u64 = 1_000_000_000_000_000_000;
 #[derive(Drop)]
 struct Taken<'a> {
     /// Of each source the list of its changes.
-    lists: Vec<Vec<Change>>,
+    lists: Bundles,
     /// Of each code, at its last source, the digits that it has.
     given: Vec<&'a [u8]>,
-}
-
-/// The value that changes leave.
-fn value_after(list: &[Change]) -> Logic
-    ensures { result ≡ value_after list.now }
-{
-    match list.last() {
-        Some(change) => change.value,
-        None => Logic::X,
-    }
-}
-
-fn ends_at(time: u64, list: &[Change]) -> bool
-    ensures { result ≡ ends_at time (slice_get list.now (length list.now - 1)) }
-{
-    match list.last() {
-        Some(change) => change.time == time,
-        None => false,
-    }
-}
-
-/// Takes the change at this time back, the last one if there is one.
-fn undo(list: &mut Vec<Change>, time: u64)
-    ensures { list.new.items ≡ undone time list.old.items }
-{
-    if ends_at(time, list.as_slice()) {
-        list.pop();
-    }
-}
-
-/// Takes in a change after others that aren't later: the last one at a time counts, where it changes the
-/// value.
-fn settle(list: &mut Vec<Change>, change: Change) -> Result<(), StimFault>
-    ensures ok { OnOk result (list.new.items ≡ settled list.old.items change) }
-    ensures err { IfErr result (λ e. e ≡ out_of_memory) }
-{
-    undo(list, change.time);
-    if change.value != value_after(list.as_slice()) {
-        list.push(change)?;
-    }
-    Ok(())
 }
 
 /// The time of a stamp after this time.
@@ -82,18 +43,6 @@ fn next_stamp(now: u64, word: Word) -> Result<u64, StimFault>
         Some(next) => Ok(next),
         None => Err(word.fault(StimCause::StampTooLarge)),
     }
-}
-
-/// So many lists of no change.
-fn empty_lists(alloc: Global, count: usize) -> Result<Vec<Vec<Change>>, StimFault>
-    ensures ok { IfOk result (λ lists. lists_in lists.items ≡ replicate count []) }
-    ensures err { IfErr result (λ e. e ≡ out_of_memory) }
-{
-    let mut lists = Vec::new(alloc);
-    for _ in 0..count {
-        lists.push(Vec::new(alloc))?;
-    }
-    Ok(lists)
 }
 
 /// So many times no digits.
@@ -110,12 +59,12 @@ fn no_digits<'a>(alloc: Global, count: usize) -> Result<Vec<&'a [u8]>, StimFault
 
 /// No change of so many sources.
 fn nothing_taken<'a>(alloc: Global, count: usize) -> Result<Taken<'a>, StimFault>
-    ensures lists { IfOk result (λ taken. lists_in taken.lists.items ≡ replicate count []) }
+    ensures lists { IfOk result (λ taken. taken.lists ≡ replicate count []) }
     ensures given { IfOk result (λ taken. texts taken.given.items ≡ replicate count []) }
     ensures err { IfErr result (λ e. e ≡ out_of_memory) }
 {
     Ok(Taken {
-        lists: empty_lists(alloc, count)?,
+        lists: Bundles::new(alloc, count)?,
         given: no_digits(alloc, count)?,
     })
 }
@@ -144,11 +93,40 @@ fn reaches(had: &[u8], digits: &[u8], place: u64) -> bool
         || differ(past_end(had), past_end(digits))
 }
 
+/// Whether digits make a change at a place that they reach. Of several most say what stands there already; a single one
+/// is taken as it is, since the ones before lie far off in the text.
+#[tactic(auto, unfolding(crate::specs::Inner::Items::makes))]
+fn makes(had: &[u8], digits: &[u8], place: u64) -> bool
+    ensures { result ≡ makes had.now digits.now place }
+{
+    digits.len() <= 1 || differ(value_at_place(place, had), value_at_place(place, digits))
+}
+
+/// Takes in the change that digits make at the place of the source of a number, if they make one.
+fn settle_source(
+    lists: &mut Bundles,
+    number: usize,
+    now: u64,
+    had: &[u8],
+    digits: &[u8],
+    place: u64,
+) -> Result<(), StimFault>
+    requires { number < length lists.old }
+    ensures ok { OnOk result (lists.new ≡ (if makes had.now digits.now place then set lists.old number (settled (get_or lists.old number []) (record { time = now; value = value_at_place place digits.now })) else lists.old)) }
+    ensures err { IfErr result (λ e. e ≡ out_of_memory) }
+{
+    if !makes(had, digits, place) {
+        return Ok(());
+    }
+    let value = value_at_place(place, digits);
+    lists.settle(number, Change { time: now, value })
+}
+
 /// Takes in the digits of a change at a time, for the source of this number and those before it of the same
 /// code, as far as the digits reach.
 fn settle_code(
     codes: &KnownCodes,
-    lists: &mut Vec<Vec<Change>>,
+    lists: &mut Bundles,
     now: u64,
     code: &[u8],
     last: usize,
@@ -156,9 +134,9 @@ fn settle_code(
     digits: &[u8],
 ) -> Result<(), StimFault>
     requires linked { IsLinked codes.now }
-    requires count { length lists.old.items ≡ length codes.now.used.keys }
+    requires count { length lists.old ≡ length codes.now.used.keys }
     requires last { last_of (sources_in codes.now) code.now ≡ Some last }
-    ensures ok { OnOk result (AreSettled (sources_in codes.now) now code.now had.now digits.now (lists_in lists.old.items) (lists_in lists.new.items)) }
+    ensures ok { OnOk result (AreSettled (sources_in codes.now) now code.now had.now digits.now lists.old lists.new) }
     ensures err { IfErr result (λ e. e ≡ out_of_memory) }
 {
     let sources = codes.used.as_slice();
@@ -168,8 +146,7 @@ fn settle_code(
         if !reaches(had, digits, place) {
             return Ok(());
         }
-        let value = value_at_place(place, digits);
-        settle(&mut lists[number], Change { time: now, value })?;
+        settle_source(lists, number, now, had, digits, place)?;
         next = codes.before[number];
     }
     Ok(())
@@ -284,7 +261,7 @@ pub fn read_changes<'a>(
         now = take_item(codes, &mut taken, now, item)?;
     }
     Ok(Read {
-        lists: taken.lists,
+        lists: taken.lists.into_lists()?,
         last: now,
     })
 }

@@ -10,6 +10,7 @@
 #![tactic(auto)]
 
 mod buckets;
+mod bundles;
 mod by_time;
 mod changes;
 mod codes;

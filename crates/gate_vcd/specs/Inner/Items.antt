@@ -1,5 +1,5 @@
 -- What a reader of changes answers, and what it keeps.
-use Rattle.std.specs.Prelude.{◌≡◌, ◌⊎◌, ℕ, ◌+◌, ◌-◌, ◌≤◌, Bool, true, false, not, ◌&&◌, ◌||◌, nat_lt, nat_eq, if◌then◌else◌, List, [], ◌∷◌, ◌++◌, length, take, get_or, slice_get, Option, Some, None, Result, Ok, Err}
+use Rattle.std.specs.Prelude.{◌≡◌, ◌⊎◌, ℕ, ◌+◌, ◌-◌, ◌≤◌, Bool, true, false, not, ◌&&◌, ◌||◌, nat_le, nat_lt, nat_eq, if◌then◌else◌, List, [], ◌∷◌, ◌++◌, length, take, get_or, slice_get, Option, Some, None, Result, Ok, Err}
 use Rattle.std.specs.Option.{option_map_or}
 use Rattle.std.specs.List.{AllByRecursion}
 use Rattle.std.specs.Str.{bytes_eq}
@@ -19,7 +19,7 @@ use Rattle.gate_vcd.specs.Tokens.{Token, fault_at}
 use Rattle.gate_vcd.specs.Inner.Words.{token_of, bytes_of, texts}
 use Rattle.gate_vcd.specs.Changes.{Item, stamp, change, wrong, nothing, items, Event, Source, event_at, events_from, last_time, value_with, past_end, value_at_place, last_stamp}
 use Rattle.gate_vcd.specs.Inner.Known.{is_of, knows, last_below, sources_in}
-use Rattle.gate_vcd.specs.Waves.{lists_in}
+use Rattle.gate_vcd.specs.Inner.Settled.{settled}
 use Rattle.gate_vcd.specs.declared.changes.Taken.{Taken as Held}
 
 -- an item, without where it lies in memory
@@ -43,22 +43,6 @@ abbrev pub IsPassed : List Token → Result (Unit {0}) StimFault → List Item �
 IsPassed rest (Ok _) is = is ≡ items nothing rest
 IsPassed rest (Err e) is = fault_of is ≡ Some e
 
--- the value before a further change
-abbrev pub value_after : List Change → Logic
-value_after cs = option_map_or (λ (c : Change). c.value) (slice_get cs (length cs - 1)) logic.X
-
-abbrev pub ends_at : ℕ → Option Change → Bool
-ends_at time None = false
-ends_at time (Some c) = nat_eq c.time time
-
--- without the change at this time, the last one if there is one
-abbrev pub undone : ℕ → List Change → List Change
-undone time cs = if ends_at time (slice_get cs (length cs - 1)) then take (length cs - 1) cs else cs
-
--- a change after others that aren't later: the last one at a time counts, where it changes the value
-abbrev pub settled : List Change → Change → List Change
-settled cs c = undone c.time cs ++ (if same c.value (value_after (undone c.time cs)) then [] else c ∷ [])
-
 -- For each source there is a list of the changes that its values make, as far as the events are read.
 pub record AreKept (sources : List Source) (now : ℕ) (es : List Event) (lists : List (List Change)) : Type 0 where
   pub count : length lists ≡ length sources
@@ -71,11 +55,20 @@ pub record AreKept (sources : List Source) (now : ℕ) (es : List Event) (lists 
 unfoldable pub reaches : List ℕ → List ℕ → ℕ → Bool
 reaches had digits place = (nat_lt place (length had) || nat_lt place (length digits)) || not (same (past_end had) (past_end digits))
 
--- a source of the code that digits reach, after those that it had
-abbrev pub moves : List ℕ → List ℕ → List ℕ → Source → Bool
-moves code had digits source = is_of code source && reaches had digits source.place
+-- a place has another value under new digits than under those before
+abbrev pub differs : List ℕ → List ℕ → ℕ → Bool
+differs had digits place = not (same (value_at_place place had) (value_at_place place digits))
 
--- the same lists, each with a change of the digits where they reach its source
+-- Digits make a change at a place: a single one always does, which may be to the value that stands there, and of others
+-- one that gives the place another value than it had.
+unfoldable pub makes : List ℕ → List ℕ → ℕ → Bool
+makes had digits place = nat_le (length digits) 1 || differs had digits place
+
+-- a source of the code to which digits make a change, which they reach, after those that it had
+abbrev pub moves : List ℕ → List ℕ → List ℕ → Source → Bool
+moves code had digits source = is_of code source && (reaches had digits source.place && makes had digits source.place)
+
+-- the same lists, each with a change of the digits where they make one
 pub record AreSettled (sources : List Source) (now : ℕ) (code had digits : List ℕ) (old new : List (List Change)) : Type 0 where
   pub count : length new ≡ length old
   pub changes : (k : ℕ) (source : Source) → slice_get sources k ≡ Some source
@@ -101,7 +94,7 @@ pub record Taken : Type 0 where
   pub given : List (List ℕ)
 
 abbrev pub taken_in : Held → Taken
-taken_in taken = record { lists = lists_in taken.lists.items; given = texts taken.given.items }
+taken_in taken = record { lists = taken.lists; given = texts taken.given.items }
 
 -- what is kept is that of these events
 pub record AreHeld (sources : List Source) (now : ℕ) (es : List Event) (taken : Taken) : Type 0 where

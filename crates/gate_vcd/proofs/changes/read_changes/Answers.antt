@@ -28,4 +28,4 @@ loop-taken-preserved c =
 pub returns : goal.returns
 returns c =
     let over = rw c.in_default.is at c.in_ok-item.ensures.items in
-    goes-out c.args.codes.now c.loop-taken.now (taken_in c.loop-taken.taken) (items nothing c.loop-taken.words) (events_from (knows c.args.codes.now) 0 (items nothing c.args.words.now)) (last_time 0 (items nothing c.args.words.now)) over c.loop-taken.invariant
+    rw c.in_ok-into_lists.ensures.ok (goes-out c.args.codes.now c.loop-taken.now (taken_in c.loop-taken.taken) (items nothing c.loop-taken.words) (events_from (knows c.args.codes.now) 0 (items nothing c.args.words.now)) (last_time 0 (items nothing c.args.words.now)) over c.loop-taken.invariant)

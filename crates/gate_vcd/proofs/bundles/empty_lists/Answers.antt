@@ -1,6 +1,6 @@
 use Rattle.std.proofs.Common.{◌≡◌, arith}
 use Rattle.gate_vcd.proofs.Keeping.{one_list_more, all_lists}
-use Rattle.gate_vcd.proofs.changes.empty_lists.Goals as goal
+use Rattle.gate_vcd.proofs.bundles.empty_lists.Goals as goal
 
 pub loop-preserved : goal.loop-preserved
 loop-preserved c = one_list_more c.loop.lists.items c.push.new.self.items c.new.result c.loop.counter c.new.ensures.items c.in_ok-push.ensures.items c.loop.invariant
