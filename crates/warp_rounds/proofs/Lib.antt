@@ -1,3 +1,4 @@
+mod Accounting
 mod Counting
 mod Ends
 mod Faulting

@@ -9,15 +9,18 @@
 //!
 //! [`run`] plays rounds until nothing is left, and answers the circuit's waves. A round of it goes over the blocks in laps: a number
 //! that is drawn stands for the block that it leaves when it is divided by the number of blocks, so that a block may take
-//! several turns between two floors.
+//! several turns between two floors. [`run_watched`] plays the same, counts what its blocks do, and tells a [`Watch`] how far it
+//! has come.
 //!
 //! Times are whole numbers in units of the stimulus's timescale. The definitions stand in `specs/`: `Turn` says what a
 //! turn does to a block, what it reports, and what it has done where it meets a fault; `Visit` what is known of a turn under
-//! a lock; `Runs` where each fault of a run comes from; `Seats` what callers see of a round and of its seats; and in
+//! a lock; `Runs` where each fault of a run comes from; `Counts` what is counted of turns; `Seats` what callers see of a round and
+//! of its seats; and in
 //! `specs/Inner/` `Work` says what workers have done, and `Rule` the rule of a round's two shared words, and what each step
 //! does to a seat.
 #![tactic(auto)]
 
+mod counts;
 mod desk;
 mod fault;
 mod gate;
@@ -27,11 +30,14 @@ mod round;
 mod runs;
 mod site;
 mod turns;
+mod watch;
 mod work;
 
+pub use counts::{Counts, RunCounts};
 pub use fault::RunFault;
 pub use gate::{Gate, NoGate};
 pub use round::{EndFault, Round, RoundSeat};
-pub use runs::run;
+pub use runs::{Watched, run, run_watched};
 pub use site::Site;
 pub use turns::{TurnReport, turn};
+pub use watch::{NoWatch, Watch};

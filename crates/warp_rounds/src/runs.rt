@@ -7,13 +7,16 @@ ghost use Rattle.warp_process.specs.Lawful.{IsLawfulProcess};
 ghost use Rattle.warp_core.specs.Values.{AreCircuitWaves};
 ghost use Rattle.warp_rounds.specs.declared.fault.RunFault.TheVariants as fault;
 ghost use Rattle.warp_rounds.specs.Runs.{IsRunFault};
+ghost use Rattle.warp_rounds.specs.Counts.{AreCounted, AccountsFor};
 ghost use Rattle.warp_rounds.specs.Inner.Work.{IsRoundsFault};
 
+use crate::counts::{Counts, RunCounts};
 use crate::desk::Desk;
 use crate::fault::RunFault;
 use crate::gate::Gate;
 use crate::pace::{Lead, tellers_of};
 use crate::site::Site;
+use crate::watch::{NoWatch, Watch};
 use crate::work::play_round;
 use gate_netlist::{Circuit, Cut};
 use gate_vcd::{Stimulus, Waves};
@@ -51,10 +54,74 @@ pub fn run<G: Gate + Sync, R: Threads + Wait + Sync>(
     ensures waves { IfOk result (AreCircuitWaves circuit.now stimulus.now horizon) }
     ensures fault { IfErr result (IsRunFault circuit.now cut.now stimulus.now horizon workers window) }
 {
+    let watched = run_watched(
+        rt,
+        alloc,
+        circuit,
+        cut,
+        stimulus,
+        horizon,
+        workers,
+        window,
+        gate,
+        &mut NoWatch,
+    )?;
+    Ok(watched.waves)
+}
+
+/// What a run that is watched answers.
+#[derive(Drop)]
+pub struct Watched {
+    /// The circuit's waves.
+    pub waves: Waves,
+    /// What is counted of the run.
+    pub counts: RunCounts,
+}
+
+/// A run, as [`run`] plays it, that is watched: after each round it is told the floor that it led to, and what its blocks did is
+/// counted. Of the event times of each block that its turns finished, those that weren't taken back are those of the block whose
+/// log is that of the circuit's values.
+pub fn run_watched<G: Gate + Sync, W: Watch, R: Threads + Wait + Sync>(
+    rt: &R,
+    alloc: Global,
+    circuit: &Circuit,
+    cut: &Cut,
+    stimulus: &Stimulus,
+    horizon: u64,
+    workers: u32,
+    window: u32,
+    gate: &G,
+    watch: &mut W,
+) -> Result<Watched, RunFault>
+    requires cut { CutFits circuit.now cut.now }
+    requires stimulus { Fits stimulus.now circuit.now }
+    requires horizon { horizon ≤ most_horizon }
+    requires workers { (1 ≤ workers) × (workers ≤ 64) }
+    requires window { (1 ≤ window) × (window ≤ 1000000) }
+    ensures waves { IfOk result (λ watched. AreCircuitWaves circuit.now stimulus.now horizon watched.waves) }
+    ensures counts { IfOk result (λ watched. AccountsFor circuit.now cut.now stimulus.now horizon watched.counts.blocks.items) }
+    ensures fault { IfErr result (IsRunFault circuit.now cut.now stimulus.now horizon workers window) }
+{
     let sites = sites_of(rt, alloc, circuit, cut, stimulus, horizon)?;
-    play_rounds(rt, alloc, sites.as_slice(), horizon, workers, window, gate)?;
-    let blocks = blocks_of(alloc, sites)?;
-    Ok(gather(alloc, circuit, cut, stimulus, horizon, blocks)?)
+    let rounds = play_rounds(
+        rt,
+        alloc,
+        sites.as_slice(),
+        horizon,
+        workers,
+        window,
+        gate,
+        watch,
+    )?;
+    let taken = taken_out(alloc, sites)?;
+    let waves = gather(alloc, circuit, cut, stimulus, horizon, taken.blocks)?;
+    Ok(Watched {
+        waves,
+        counts: RunCounts {
+            rounds,
+            blocks: taken.counts,
+        },
+    })
 }
 
 // The blocks of a cut, each behind its locks; what they send at the start is in the inboxes.
@@ -77,16 +144,18 @@ fn sites_of<R: Wait>(
     for number in 0..cut.blocks() {
         let part = Part::of(alloc, circuit, cut, number)?;
         let tellers = tellers_of(alloc, circuit, cut, &part)?;
+        let before = desk.sent.len();
         let block = Block::new(alloc, part, stimulus, horizon, &mut desk.sent)?;
-        sites.push(Site::told_by(alloc, block, tellers))?;
+        let told = desk.sent.len().saturating_sub(before);
+        sites.push(Site::told_by(alloc, block, tellers, told))?;
     }
     desk.deliver(rt, sites.as_slice())?;
     Ok(sites)
 }
 
 // Plays rounds until the floor is past the horizon: by all workers, but by one alone where the round before had little work, or
-// most of it in one turn.
-fn play_rounds<G: Gate + Sync, R: Threads + Wait + Sync>(
+// most of it in one turn. The answer is how many.
+fn play_rounds<G: Gate + Sync, W: Watch, R: Threads + Wait + Sync>(
     rt: &R,
     alloc: Global,
     sites: &[Site],
@@ -94,7 +163,8 @@ fn play_rounds<G: Gate + Sync, R: Threads + Wait + Sync>(
     workers: u32,
     window: u32,
     gate: &G,
-) -> Result<(), RunFault>
+    watch: &mut W,
+) -> Result<u64, RunFault>
     requires blocks { length sites.now < 2 ^ 32 }
     requires horizon { horizon ≤ most_horizon }
     requires workers { 1 ≤ workers }
@@ -103,6 +173,7 @@ fn play_rounds<G: Gate + Sync, R: Threads + Wait + Sync>(
     let all = workers.min(sites.len() as u32).max(1);
     let mut desks = Vec::new(alloc);
     let mut floor = 0;
+    let mut rounds: u64 = 0;
     let mut lead = Lead::first(sites.len());
     let mut is_alone = false;
     while floor <= horizon {
@@ -113,18 +184,31 @@ fn play_rounds<G: Gate + Sync, R: Threads + Wait + Sync>(
         floor = played.least;
         lead = lead.after(played.tally);
         is_alone = played.tally.is_for_one();
+        rounds = rounds.saturating_add(1);
+        watch.floor(floor);
     }
-    Ok(())
+    Ok(rounds)
 }
 
-// The blocks, taken out of their sites.
-fn blocks_of(alloc: Global, sites: Vec<Site>) -> Result<Vec<Block>, AllocError>
-    ensures count { IfOk result (λ blocks. vec_len blocks ≡ vec_len sites) }
-    ensures lawful { IfOk result (λ blocks. All IsLawfulProcess blocks.items) }
+// Blocks, and what is counted of each.
+#[derive(Drop)]
+struct Parted {
+    blocks: Vec<Block>,
+    counts: Vec<Counts>,
+}
+
+// The blocks, taken out of their sites, and what is counted of each.
+fn taken_out(alloc: Global, sites: Vec<Site>) -> Result<Parted, AllocError>
+    ensures count { IfOk result (λ parted. vec_len parted.blocks ≡ vec_len sites) }
+    ensures lawful { IfOk result (λ parted. All IsLawfulProcess parted.blocks.items) }
+    ensures counted { IfOk result (λ parted. AreCounted parted.blocks.items parted.counts.items) }
 {
     let mut blocks = Vec::new(alloc);
+    let mut counts = Vec::new(alloc);
     for site in sites {
-        blocks.push(site.into_block())?;
+        let finished = site.finished();
+        counts.push(finished.counts)?;
+        blocks.push(finished.block)?;
     }
-    Ok(blocks)
+    Ok(Parted { blocks, counts })
 }

@@ -5,7 +5,10 @@ ghost use Rattle.warp_process.specs.Lawful.{IsLawful, IsLawfulProcess};
 ghost use Rattle.warp_process.specs.Sends.{Sends};
 ghost use Rattle.warp_rounds.specs.Turn.{IsTurn, IsFaultyTurn, IsPending, IsAfterPending, IsLeastPending, StaysInFront, put_behind};
 ghost use Rattle.warp_rounds.specs.Visit.{Fits, IsVisit, IsFaultyVisit};
+ghost use Rattle.warp_rounds.specs.Counts.{IsCounted};
 
+use crate::counts;
+use crate::counts::Counts;
 use crate::gate::Gate;
 use crate::pace::{Density, Reach, Teller, logged};
 use crate::turns::{TurnReport, Turned, least_pending, turn_through};
@@ -35,12 +38,22 @@ pub struct Site {
 #[derive(Drop)]
 struct Held {
     block: Block,
+    /// What is counted of its turns.
+    counts: Counts,
     /// How its event times have lain.
     density: Density,
     /// About how many changes its logs had after its last visit.
     logged: u64,
     /// The messages of a turn, which are swapped for the inbox's. It is empty between visits, and keeps its memory.
     messages: Vec<Message>,
+    ghost counted: { IsCounted block.seen counts },
+}
+
+/// A block that was taken out of its site, and what is counted of its turns.
+#[derive(Drop)]
+pub(crate) struct Finished {
+    pub(crate) block: Block,
+    pub(crate) counts: Counts,
 }
 
 impl Held {
@@ -63,7 +76,15 @@ impl Held {
         let start = least_pending(&self.block, self.messages.as_slice());
         let window = self.window(start, floor, reach, most);
         let messages = self.messages.as_slice();
-        let turned = turn_from(&mut self.block, start, messages, floor, window, out);
+        let turned = turn_from(
+            &mut self.block,
+            &mut self.counts,
+            start,
+            messages,
+            floor,
+            window,
+            out,
+        );
         self.messages.clear();
         match turned {
             Ok(turned) => Ok(self.noted(turned)),
@@ -101,27 +122,31 @@ impl Held {
 /// finish.
 fn turn_from(
     block: &mut Block,
+    counts: &mut Counts,
     start: Option<u64>,
     messages: &[Message],
     floor: u64,
     window: u32,
     out: &mut Vec<Message>,
 ) -> Result<Turned, BlockFault>
-    requires { IsLeast (IsPending block.old.seen messages.now) start }
+    requires start { IsLeast (IsPending block.old.seen messages.now) start }
+    requires counted { IsCounted block.old.seen counts.old }
+    ensures counted { IsCounted block.new.seen counts.new }
     ensures turn { OnOk result (IsTurn block.old block.new messages.now floor window) }
     ensures least { IfOk result (λ turned. IsLeastPending block.new.seen (put_behind out.old.items out.new.items) turned.report.least) }
     ensures fault { IfErr result (IsFaultyTurn block.old block.new messages.now floor window) }
     ensures sends { Sends block.old.seen block.new.seen (IsAfterPending block.old.seen messages.now) out.old.items out.new.items }
 {
     if window == 0 && messages.is_empty() {
-        return rest(block, start, messages, floor, window);
+        return rest(block, counts, start, messages, floor, window);
     }
-    turn_through(block, messages, floor, window, out)
+    turn_through(block, counts, messages, floor, window, out)
 }
 
 /// A turn of a block that receives and finishes nothing, where its next time is known: it commits at the floor.
 fn rest(
     block: &mut Block,
+    counts: &mut Counts,
     next: Option<u64>,
     messages: &[Message],
     floor: u64,
@@ -130,14 +155,16 @@ fn rest(
     requires none { length messages.now ≡ 0 }
     requires short { window ≡ 0 }
     requires next { IsLeast (IsPending block.old.seen messages.now) next }
+    requires counted { IsCounted block.old.seen counts.old }
+    ensures counted { IsCounted block.new.seen counts.new }
     ensures turn { OnOk result (IsTurn block.old block.new messages.now floor window) }
     ensures least { IfOk result (λ turned. (out : List Message) → IsLeastPending block.new.seen (put_behind out out) turned.report.least) }
     ensures fault { IfErr result (IsFaultyTurn block.old block.new messages.now floor window) }
     ensures sends { (out : List Message) → Sends block.old.seen block.new.seen (IsAfterPending block.old.seen messages.now) out out }
 {
     let mark = block.mark();
-    block.commit(floor)?;
-    block.law();
+    counts::commit(block, counts, floor)?;
+    counts.end_turn(0, 0);
     Ok(Turned {
         report: TurnReport {
             least: next.unwrap_or(block.horizon() + 1),
@@ -154,14 +181,22 @@ impl Site {
     /// The block behind its lock, and no message in the inbox. It takes no memory: what the inbox grows by is asked of the
     /// allocator later.
     pub fn new(alloc: Global, block: Block) -> Site {
-        Site::told_by(alloc, block, Vec::new(alloc))
+        Site::told_by(alloc, block, Vec::new(alloc), 0)
     }
 
-    /// The same, where it is known who tells the block.
-    pub(crate) fn told_by(alloc: Global, block: Block, tellers: Vec<Teller>) -> Site {
+    /// The same, where it is known who tells the block, and that it has sent so many messages.
+    pub(crate) fn told_by(
+        alloc: Global,
+        block: Block,
+        tellers: Vec<Teller>,
+        messages: usize,
+    ) -> Site {
+        let mut counts = Counts::of(&block);
+        counts.tell(messages);
         Site {
             held: Mutex::new(Held {
                 block,
+                counts,
                 density: Density::full(),
                 logged: 0,
                 messages: Vec::new(alloc),
@@ -267,6 +302,14 @@ impl Site {
     pub fn into_block(self) -> Block
         ensures { IsLawfulProcess result }
     {
+        self.finished().block
+    }
+
+    /// The block, and what is counted of its turns.
+    pub(crate) fn finished(self) -> Finished
+        ensures lawful { IsLawfulProcess result.block }
+        ensures counted { IsCounted result.block.seen result.counts }
+    {
         let Site {
             held,
             inbox: _,
@@ -275,11 +318,12 @@ impl Site {
         } = self;
         let Held {
             block,
+            counts,
             density: _,
             logged: _,
             messages: _,
         } = held.into_inner();
         block.law();
-        block
+        Finished { block, counts }
     }
 }

@@ -3,8 +3,11 @@ ghost use Rattle.warp_process.specs.View.{IsEventTime, IsLeast};
 ghost use Rattle.warp_process.specs.Inner.View.{earlier_of};
 ghost use Rattle.warp_process.specs.Sends.{Sends};
 ghost use Rattle.warp_rounds.specs.Turn.{AreReceived, AddsUp, IsPending, IsAfterPending, IsLeastPending, IsRefusedAt, IsTurn, IsFaultyTurn, put_behind};
+ghost use Rattle.warp_rounds.specs.Counts.{IsCounted};
 ghost use Rattle.warp_rounds.specs.Inner.Turn.{IsFromPending, AreFelt};
 
+use crate::counts;
+use crate::counts::Counts;
 use warp_block::{Block, BlockFault, Message};
 
 /// What a turn answers.
@@ -51,18 +54,22 @@ pub fn turn(
     ensures fault { IfErr result (IsFaultyTurn block.old block.new messages.now floor window) }
     ensures sends { Sends block.old.seen block.new.seen (IsAfterPending block.old.seen messages.now) out.old.items out.new.items }
 {
-    let turned = turn_through(block, messages, floor, window, out)?;
+    let mut counts = Counts::of(block);
+    let turned = turn_through(block, &mut counts, messages, floor, window, out)?;
     Ok(turned.report)
 }
 
-/// A turn, with what it did beside what it reports.
+/// A turn, with what it did beside what it reports. It is counted.
 pub(crate) fn turn_through(
     block: &mut Block,
+    counts: &mut Counts,
     messages: &[Message],
     floor: u64,
     window: u32,
     out: &mut Vec<Message>,
 ) -> Result<Turned, BlockFault>
+    requires counted { IsCounted block.old.seen counts.old }
+    ensures counted { IsCounted block.new.seen counts.new }
     ensures part { block.new.seen.part ≡ block.old.seen.part }
     ensures horizon { block.new.seen.horizon ≡ block.old.seen.horizon }
     ensures floor { OnOk result (block.new.seen.floor ≡ floor) }
@@ -75,12 +82,14 @@ pub(crate) fn turn_through(
 {
     let start = out.len();
     let mark = block.mark();
-    receive_all(block, messages, out)?;
+    receive_all(block, counts, messages, out)?;
     let heard = block.mark();
     let fallen = mark.saturating_sub(heard);
-    block.commit(floor)?;
-    block.law();
-    let finished = block.advance(window, out)?;
+    let antimessages = out.len().saturating_sub(start);
+    counts::commit(block, counts, floor)?;
+    let finished = counts::advance(block, counts, window, out)?;
+    let sent = out.len().saturating_sub(start);
+    counts.end_turn(sent.saturating_sub(antimessages), antimessages);
     let least = least_pending(block, &out[start..]);
     Ok(Turned {
         report: TurnReport {
@@ -97,9 +106,12 @@ pub(crate) fn turn_through(
 /// Receives some messages in order, up to one that is refused.
 fn receive_all(
     block: &mut Block,
+    counts: &mut Counts,
     messages: &[Message],
     out: &mut Vec<Message>,
 ) -> Result<(), BlockFault>
+    requires counted { IsCounted block.old.seen counts.old }
+    ensures counted { IsCounted block.new.seen counts.new }
     ensures received { OnOk result (AreReceived block.old.seen block.new.seen messages.now) }
     ensures refused { IfErr result (IsRefusedAt block.old.seen block.new.seen messages.now) }
     ensures pending { (t : ℕ) → IsEventTime block.new.seen t → IsFromPending block.old.seen messages.now t }
@@ -107,8 +119,8 @@ fn receive_all(
 {
     block.law();
     for message in messages {
-        match block.receive(*message, out) {
-            Ok(()) => block.law(),
+        match counts::receive(block, counts, *message, out) {
+            Ok(()) => {}
             Err(fault) => return Err(fault),
         }
     }

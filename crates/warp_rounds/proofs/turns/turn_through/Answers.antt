@@ -5,22 +5,22 @@ use Rattle.warp_rounds.proofs.turns.turn_through.Goals as goal
 
 pub returns-clause-numbers : goal.returns-clause-numbers
 returns-clause-numbers c =
-    turned_numbers c.args.block.now c.receive_all.new.block c.commit.new.self c.advance.new.self.seen _ _ _
+    turned_numbers c.args.block.now c.receive_all.new.block c.commit.new.block c.advance.new.block.seen _ _ _
     c.in_ok-receive_all.ensures.received c.in_ok-commit.ensures.ok c.in_ok-finished.ensures.ok
 
 pub returns-clause-part : goal.returns-clause-part
 returns-clause-part c =
-    turned_part c.args.block.now c.receive_all.new.block c.commit.new.self c.advance.new.self.seen _ _ _
+    turned_part c.args.block.now c.receive_all.new.block c.commit.new.block c.advance.new.block.seen _ _ _
     c.in_ok-receive_all.ensures.received c.in_ok-commit.ensures.ok c.in_ok-finished.ensures.ok
 
 pub returns-clause-horizon : goal.returns-clause-horizon
 returns-clause-horizon c =
-    turned_horizon c.args.block.now c.receive_all.new.block c.commit.new.self c.advance.new.self.seen _ _ _
+    turned_horizon c.args.block.now c.receive_all.new.block c.commit.new.block c.advance.new.block.seen _ _ _
     c.in_ok-receive_all.ensures.received c.in_ok-commit.ensures.ok c.in_ok-finished.ensures.ok
 
 pub returns-clause-sends : goal.returns-clause-sends
 returns-clause-sends c =
-    turned_sends c.args.block.now c.receive_all.new.block c.commit.new.self c.advance.new.self.seen _ _ _ _ _
+    turned_sends c.args.block.now c.receive_all.new.block c.commit.new.block c.advance.new.block.seen _ _ _ _ _
     c.in_ok-receive_all.ensures.received c.in_ok-commit.ensures.ok c.receive_all.ensures.pending c.receive_all.ensures.sends c.advance.ensures.sends
 
 pub returns-in_err-receive_all-clause-part : goal.returns-in_err-receive_all-clause-part
@@ -39,21 +39,21 @@ returns-in_err-commit-clause-horizon c =
 
 pub returns-in_err-commit-clause-fault : goal.returns-in_err-commit-clause-fault
 returns-in_err-commit-clause-fault c =
-    let fault = held_back c.args.block.now c.receive_all.new.block c.commit.new.self c.args.messages.now c.args.floor c.args.window c.in_err-commit.field-0.0
+    let fault = held_back c.args.block.now c.receive_all.new.block c.commit.new.block c.args.messages.now c.args.floor c.args.window c.in_err-commit.field-0.0
     c.in_ok-receive_all.ensures.received c.in_err-commit.ensures.err c.in_err-commit.ensures.refused in
     search rules
 
 pub returns-in_err-finished-clause-part : goal.returns-in_err-finished-clause-part
 returns-in_err-finished-clause-part c =
-    turned_part c.args.block.now c.receive_all.new.block c.commit.new.self c.advance.new.self.seen _ _ _
+    turned_part c.args.block.now c.receive_all.new.block c.commit.new.block c.advance.new.block.seen _ _ _
     c.in_ok-receive_all.ensures.received c.in_ok-commit.ensures.ok c.in_err-finished.ensures.some.2
 
 pub returns-in_err-finished-clause-horizon : goal.returns-in_err-finished-clause-horizon
 returns-in_err-finished-clause-horizon c =
-    turned_horizon c.args.block.now c.receive_all.new.block c.commit.new.self c.advance.new.self.seen _ _ _
+    turned_horizon c.args.block.now c.receive_all.new.block c.commit.new.block c.advance.new.block.seen _ _ _
     c.in_ok-receive_all.ensures.received c.in_ok-commit.ensures.ok c.in_err-finished.ensures.some.2
 
 pub returns-in_err-finished-clause-sends : goal.returns-in_err-finished-clause-sends
 returns-in_err-finished-clause-sends c =
-    turned_sends c.args.block.now c.receive_all.new.block c.commit.new.self c.advance.new.self.seen _ _ _ _ _
+    turned_sends c.args.block.now c.receive_all.new.block c.commit.new.block c.advance.new.block.seen _ _ _ _ _
     c.in_ok-receive_all.ensures.received c.in_ok-commit.ensures.ok c.receive_all.ensures.pending c.receive_all.ensures.sends c.advance.ensures.sends

@@ -1,7 +1,8 @@
 use Rattle.std.proofs.Common.{◌≡◌, ◌+◌, All, length}
 use Rattle.std.specs.Vec.Iter.{into_iter_items}
 use Rattle.warp_process.specs.Lawful.{IsLawfulProcess}
-use Rattle.warp_rounds.proofs.runs.blocks_of.Given as goal
+use Rattle.warp_rounds.specs.Counts.{AreCounted}
+use Rattle.warp_rounds.proofs.runs.taken_out.Given as goal
 
 abbrev pub invariant-loop-site : goal.invariant-loop-site
 invariant-loop-site l = record {
@@ -9,4 +10,5 @@ invariant-loop-site l = record {
   is_finite : (goal.iterator-loop-site).is_finite l.site-iterator;
   count : length l.blocks.items + length (into_iter_items l.site-iterator) ≡ length l.fn.sites.items;
   lawful : All IsLawfulProcess l.blocks.items;
+  counted : AreCounted l.blocks.items l.counts.items;
 }
