@@ -13,7 +13,7 @@ use std::sync::atomic::Ordering::SeqCst;
 use std::test::Fail;
 use std::thread::Threads;
 use warp_block::Block;
-use warp_rounds::{Gate, NoGate, run};
+use warp_rounds::{Gate, NoGate, Watch, Watched, run, run_watched};
 
 const BENCH: &str = "INPUT(P)\nINPUT(Q)\nA = BUFF(P)\nB = BUFF(Q)\nY = AND(A, B)\nZ = NOT(Y)\n";
 
@@ -267,6 +267,83 @@ fn initial_contents_are_told_before_the_first_round(rt: HostRuntime) -> Result<(
         assert_eq!(rt; waves.changes(0), inverses.as_slice(), "{workers}");
         assert_eq!(rt; waves.changes(1), contents.as_slice(), "{workers}");
         drop(waves);
+    }
+    Ok(())
+}
+
+/// Keeps the last floor that it was told of, and whether each was above the one before.
+#[derive(Drop)]
+struct Floors {
+    last: u64,
+    have_risen: bool,
+}
+
+impl Watch for Floors {
+    fn floor(&mut self, floor: u64) {
+        self.have_risen = self.have_risen && floor > self.last;
+        self.last = floor;
+    }
+}
+
+/// Runs a circuit that is cut into two, under a watch.
+fn watched_of<R: Threads + Wait + Sync>(
+    rt: &R,
+    alloc: Global,
+    circuit: &Circuit,
+    cut: &Cut,
+    workers: u32,
+    floors: &mut Floors,
+) -> Result<Watched, Fail>
+    requires cut { CutFits circuit.now cut.now }
+    requires workers { (1 ≤ workers) × (workers ≤ 64) }
+{
+    let stimulus = read_stimulus(alloc, STIMULUS.as_bytes(), circuit)?;
+    let watched = run_watched(
+        rt, alloc, circuit, cut, &stimulus, 10, workers, 5, &NoGate, floors,
+    );
+    drop(stimulus);
+    Ok(watched?)
+}
+
+/// Runs the circuit cut evenly into two, under a watch.
+fn watched<R: Threads + Wait + Sync>(
+    rt: &R,
+    alloc: Global,
+    workers: u32,
+    floors: &mut Floors,
+) -> Result<Watched, Fail>
+    requires { (1 ≤ workers) × (workers ≤ 64) }
+{
+    let circuit = circuit_of(alloc, BENCH, "")?;
+    let cut = Cut::even(alloc, &circuit, 2)?;
+    let watched = watched_of(rt, alloc, &circuit, &cut, workers, floors);
+    drop(cut);
+    drop(circuit);
+    watched
+}
+
+/// The buffers' block has an event time at 0, that of the other gates at 1 and 2, whatever was taken back.
+#[test]
+fn what_blocks_do_is_counted(rt: HostRuntime) -> Result<(), Fail> {
+    for workers in [1, 2] {
+        let mut floors = Floors {
+            last: 0,
+            have_risen: true,
+        };
+        let Watched { waves, counts } = watched(&rt, rt.alloc(), workers, &mut floors)?;
+        assert!(rt; waves_are_right(&waves), "{workers}");
+        drop(waves);
+        assert!(rt; floors.have_risen && floors.last == 11, "{workers}");
+        assert!(rt; counts.rounds > 0 && counts.blocks.len() == 2, "{workers}");
+        for (kept, block) in [1, 2].iter().zip(counts.blocks.as_slice()) {
+            assert_eq!(rt; block.since, 0, "{workers}");
+            assert_eq!(rt;
+                block.steps.saturating_sub(block.undone),
+                *kept,
+                "{workers}"
+            );
+        }
+        drop(counts);
     }
     Ok(())
 }

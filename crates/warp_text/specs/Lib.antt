@@ -6,3 +6,5 @@ pub mod CountLines
 pub mod NetLines
 pub mod Inner
 pub mod Only
+pub mod StatLines
+pub mod Stats

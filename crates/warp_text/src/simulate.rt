@@ -4,18 +4,34 @@ ghost use Rattle.gate_netlist.specs.Circuit.{CutFits};
 ghost use Rattle.gate_vcd.specs.Given.{Fits};
 ghost use Rattle.warp_core.specs.Values.{AreCircuitWaves};
 ghost use Rattle.warp_text.specs.Answer.{IsAnswer, IsCounted, IsListed};
+ghost use Rattle.warp_text.specs.Stats.{dumped, Accounts, IsAccountOf, AreCountsOf};
 ghost use Rattle.warp_text.specs.Inner.Answer.{IsCircuitAnswer, IsDumped};
 
 use crate::dump::dump_of;
 use crate::fault::Fault;
 use crate::nets::nets_text;
 use crate::options::Options;
+use crate::stats::{Stats, stats_of};
 use gate_netlist::{Circuit, Counts, Cut, read_bench};
 use gate_vcd::{Stimulus, Waves, read_stimulus};
 use std::alloc::Global;
 use std::sync::Wait;
 use std::thread::Threads;
-use warp_rounds::{Gate, RunFault, run};
+use warp_rounds::{Gate, NoWatch, RunFault, Watch, run_watched};
+
+/// What a run is answered: a dump, and what is counted of the run.
+#[derive(Debug, Drop)]
+pub struct Simulated {
+    pub dump: Vec<u8>,
+    pub stats: Stats,
+}
+
+/// The waves of a run, and what is counted of it.
+#[derive(Drop)]
+pub(crate) struct Ran {
+    pub(crate) waves: Waves,
+    pub(crate) stats: Stats,
+}
 
 /// The circuit of a bench text and a settings text.
 pub(crate) fn circuit_of(alloc: Global, bench: &[u8], settings: &[u8]) -> Result<Circuit, Fault>
@@ -26,7 +42,7 @@ pub(crate) fn circuit_of(alloc: Global, bench: &[u8], settings: &[u8]) -> Result
 }
 
 /// Runs the blocks of a cut circuit.
-fn run_cut<G: Gate + Sync, R: Threads + Wait + Sync>(
+fn run_cut<G: Gate + Sync, W: Watch, R: Threads + Wait + Sync>(
     rt: &R,
     alloc: Global,
     circuit: &Circuit,
@@ -34,12 +50,14 @@ fn run_cut<G: Gate + Sync, R: Threads + Wait + Sync>(
     stimulus: &Stimulus,
     options: &Options,
     gate: &G,
-) -> Result<Waves, RunFault>
+    watch: &mut W,
+) -> Result<Ran, RunFault>
     requires cut { CutFits circuit.now cut.now }
     requires stimulus { Fits stimulus.now circuit.now }
-    ensures { IfOk result (AreCircuitWaves circuit.now stimulus.now options.now.until) }
+    ensures waves { IfOk result (λ ran. AreCircuitWaves circuit.now stimulus.now options.now.until ran.waves) }
+    ensures counts { IfOk result (λ ran. Accounts circuit.now stimulus.now options.now.until ran.stats) }
 {
-    run(
+    let watched = run_watched(
         rt,
         alloc,
         circuit,
@@ -49,7 +67,13 @@ fn run_cut<G: Gate + Sync, R: Threads + Wait + Sync>(
         options.workers(),
         options.window(),
         gate,
-    )
+        watch,
+    )?;
+    let stats = stats_of(alloc, cut, &watched.waves, &watched.counts)?;
+    Ok(Ran {
+        waves: watched.waves,
+        stats,
+    })
 }
 
 /// The cut that the settings of a circuit give.
@@ -63,40 +87,50 @@ pub(crate) fn settled_cut(circuit: &Circuit) -> Option<&Cut>
 
 /// Runs the blocks of a circuit, which is cut evenly where the options give a number of blocks, else as its settings
 /// say, else not at all.
-pub(crate) fn waves_of<G: Gate + Sync, R: Threads + Wait + Sync>(
+pub(crate) fn run_blocks<G: Gate + Sync, W: Watch, R: Threads + Wait + Sync>(
     rt: &R,
     alloc: Global,
     circuit: &Circuit,
     stimulus: &Stimulus,
     options: &Options,
     gate: &G,
-) -> Result<Waves, RunFault>
+    watch: &mut W,
+) -> Result<Ran, RunFault>
     requires { Fits stimulus.now circuit.now }
-    ensures { IfOk result (AreCircuitWaves circuit.now stimulus.now options.now.until) }
+    ensures waves { IfOk result (λ ran. AreCircuitWaves circuit.now stimulus.now options.now.until ran.waves) }
+    ensures counts { IfOk result (λ ran. Accounts circuit.now stimulus.now options.now.until ran.stats) }
 {
     let blocks = match (options.blocks(), settled_cut(circuit)) {
-        (None, Some(cut)) => return run_cut(rt, alloc, circuit, cut, stimulus, options, gate),
+        (None, Some(cut)) => {
+            return run_cut(rt, alloc, circuit, cut, stimulus, options, gate, watch);
+        }
         (None, None) => 1,
         (Some(blocks), _) => blocks,
     };
     let cut = Cut::even(alloc, circuit, blocks)?;
-    run_cut(rt, alloc, circuit, &cut, stimulus, options, gate)
+    run_cut(rt, alloc, circuit, &cut, stimulus, options, gate, watch)
 }
 
 /// The dump of a circuit's nets under a stimulus text.
-fn dump_under<G: Gate + Sync, R: Threads + Wait + Sync>(
+fn dump_under<G: Gate + Sync, W: Watch, R: Threads + Wait + Sync>(
     rt: &R,
     alloc: Global,
     circuit: &Circuit,
     stimulus: &[u8],
     options: &Options,
     gate: &G,
-) -> Result<Vec<u8>, Fault>
-    ensures { IsDumped circuit.now stimulus.now options.now.until result }
+    watch: &mut W,
+) -> Result<Simulated, Fault>
+    ensures dump { IsDumped circuit.now stimulus.now options.now.until (dumped result) }
+    ensures counts { IfOk result (λ simulated. IsAccountOf circuit.now options.now.until simulated.stats) }
 {
     let stimulus = read_stimulus(alloc, stimulus, circuit)?;
-    let waves = waves_of(rt, alloc, circuit, &stimulus, options, gate)?;
-    Ok(dump_of(alloc, circuit, &stimulus, &waves, options.until())?)
+    let ran = run_blocks(rt, alloc, circuit, &stimulus, options, gate, watch)?;
+    let dump = dump_of(alloc, circuit, &stimulus, &ran.waves, options.until())?;
+    Ok(Simulated {
+        dump,
+        stats: ran.stats,
+    })
 }
 
 /// The dump of every net of a circuit, from time 0 to the options' `until`, in units of the stimulus's timescale: of
@@ -105,7 +139,6 @@ fn dump_under<G: Gate + Sync, R: Threads + Wait + Sync>(
 /// The texts are judged in this order, and the first that is refused is answered, with its fault; then the run's fault.
 /// Want of memory in any part is `Fault::Memory`, and no other fault carries it. The gate is lent each block as its
 /// turns begin and end.
-#[tactic(auto, unfolding(crate::specs::Answer::IsAnswer))]
 pub fn simulate_text<G: Gate + Sync, R: Threads + Wait + Sync>(
     rt: &R,
     alloc: Global,
@@ -117,8 +150,47 @@ pub fn simulate_text<G: Gate + Sync, R: Threads + Wait + Sync>(
 ) -> Result<Vec<u8>, Fault>
     ensures { IsAnswer bench.now settings.now stimulus.now options.now.until result }
 {
+    let answer = simulate_watched(
+        rt,
+        alloc,
+        bench,
+        settings,
+        stimulus,
+        options,
+        gate,
+        &mut NoWatch,
+    );
+    dump_alone(answer)
+}
+
+/// The dump of what is answered.
+pub(crate) fn dump_alone(answer: Result<Simulated, Fault>) -> Result<Vec<u8>, Fault>
+    ensures { result ≡ dumped answer }
+{
+    match answer {
+        Ok(simulated) => Ok(simulated.dump),
+        Err(fault) => Err(fault),
+    }
+}
+
+/// As [`simulate_text`], with what is counted of the run: of the event times of each block that were finished, those that weren't
+/// taken back are those of the block whose log is that of the circuit's values. The watch is told how far the run has come.
+#[tactic(auto, unfolding(crate::specs::Answer::IsAnswer))]
+pub fn simulate_watched<G: Gate + Sync, W: Watch, R: Threads + Wait + Sync>(
+    rt: &R,
+    alloc: Global,
+    bench: &[u8],
+    settings: &[u8],
+    stimulus: &[u8],
+    options: &Options,
+    gate: &G,
+    watch: &mut W,
+) -> Result<Simulated, Fault>
+    ensures dump { IsAnswer bench.now settings.now stimulus.now options.now.until (dumped result) }
+    ensures counts { IfOk result (λ simulated. AreCountsOf bench.now settings.now options.now.until simulated.stats) }
+{
     let circuit = circuit_of(alloc, bench, settings)?;
-    dump_under(rt, alloc, &circuit, stimulus, options, gate)
+    dump_under(rt, alloc, &circuit, stimulus, options, gate, watch)
 }
 
 /// How many parts a circuit has.

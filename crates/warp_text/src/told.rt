@@ -4,10 +4,12 @@ ghost use Rattle.warp_process.specs.Limits.{most_horizon};
 ghost use Rattle.warp_core.specs.Values.{value_under, AreCircuitWaves};
 ghost use Rattle.vcd_only.specs.Told.{told_text};
 ghost use Rattle.warp_text.specs.Only.{IsToldAnswer, IsToldReplay};
+ghost use Rattle.warp_text.specs.Stats.{dumped, IsAccountOf, AreCountsOf};
 ghost use Rattle.warp_text.specs.Inner.Only.{AreTold, IsToldDumped, IsToldReplayed};
 
 use crate::fault::Fault;
 use crate::options::Options;
+use crate::simulate::Simulated;
 use crate::{replay, simulate};
 use gate_netlist::Circuit;
 use gate_vcd::{Stimulus, Waves, read_stimulus};
@@ -17,7 +19,7 @@ use std::sync::Wait;
 use std::thread::Threads;
 use vcd_only::told_text;
 use warp_core::read_schedule;
-use warp_rounds::Gate;
+use warp_rounds::{Gate, NoWatch, Watch};
 
 /// The marks of the nets that are told: of those that a text names, else of the outputs.
 fn told_of(alloc: Global, circuit: &Circuit, names: Option<&[u8]>) -> Result<Vec<bool>, Fault>
@@ -47,7 +49,7 @@ fn told_dump_of(
 }
 
 /// The dump of the nets that are told, under a stimulus text.
-fn told_under<G: Gate + Sync, R: Threads + Wait + Sync>(
+fn told_under<G: Gate + Sync, W: Watch, R: Threads + Wait + Sync>(
     rt: &R,
     alloc: Global,
     circuit: &Circuit,
@@ -55,12 +57,18 @@ fn told_under<G: Gate + Sync, R: Threads + Wait + Sync>(
     stimulus: &[u8],
     options: &Options,
     gate: &G,
-) -> Result<Vec<u8>, Fault>
-    ensures { IsToldDumped circuit.now told.now stimulus.now options.now.until result }
+    watch: &mut W,
+) -> Result<Simulated, Fault>
+    ensures dump { IsToldDumped circuit.now told.now stimulus.now options.now.until (dumped result) }
+    ensures counts { IfOk result (λ simulated. IsAccountOf circuit.now options.now.until simulated.stats) }
 {
     let stimulus = read_stimulus(alloc, stimulus, circuit)?;
-    let waves = simulate::waves_of(rt, alloc, circuit, &stimulus, options, gate)?;
-    Ok(told_dump_of(alloc, circuit, &stimulus, &waves, told, options.until())?)
+    let ran = simulate::run_blocks(rt, alloc, circuit, &stimulus, options, gate, watch)?;
+    let dump = told_dump_of(alloc, circuit, &stimulus, &ran.waves, told, options.until())?;
+    Ok(Simulated {
+        dump,
+        stats: ran.stats,
+    })
 }
 
 /// As [`simulate_text`](crate::simulate_text), but in the dump the nets alone are told that a text names, or the outputs
@@ -68,7 +76,6 @@ fn told_under<G: Gate + Sync, R: Threads + Wait + Sync>(
 /// changes, but 0 and `until`.
 ///
 /// The text of names is judged behind the settings.
-#[tactic(auto, unfolding(crate::specs::Only::IsToldAnswer))]
 pub fn simulate_told<G: Gate + Sync, R: Threads + Wait + Sync>(
     rt: &R,
     alloc: Global,
@@ -81,6 +88,37 @@ pub fn simulate_told<G: Gate + Sync, R: Threads + Wait + Sync>(
 ) -> Result<Vec<u8>, Fault>
     ensures { IsToldAnswer bench.now settings.now (option_map (λ names. names.now) names.entry) stimulus.now options.now.until result }
 {
+    let answer = simulate_told_watched(
+        rt,
+        alloc,
+        bench,
+        settings,
+        names,
+        stimulus,
+        options,
+        gate,
+        &mut NoWatch,
+    );
+    simulate::dump_alone(answer)
+}
+
+/// As [`simulate_told`], with what is counted of the run, and a watch that is told how far it has come, as
+/// [`simulate_watched`](crate::simulate_watched) says.
+#[tactic(auto, unfolding(crate::specs::Only::IsToldAnswer))]
+pub fn simulate_told_watched<G: Gate + Sync, W: Watch, R: Threads + Wait + Sync>(
+    rt: &R,
+    alloc: Global,
+    bench: &[u8],
+    settings: &[u8],
+    names: Option<&[u8]>,
+    stimulus: &[u8],
+    options: &Options,
+    gate: &G,
+    watch: &mut W,
+) -> Result<Simulated, Fault>
+    ensures dump { IsToldAnswer bench.now settings.now (option_map (λ names. names.now) names.entry) stimulus.now options.now.until (dumped result) }
+    ensures counts { IfOk result (λ simulated. AreCountsOf bench.now settings.now options.now.until simulated.stats) }
+{
     let circuit = simulate::circuit_of(alloc, bench, settings)?;
     let told = told_of(alloc, &circuit, names)?;
     told_under(
@@ -91,6 +129,7 @@ pub fn simulate_told<G: Gate + Sync, R: Threads + Wait + Sync>(
         stimulus,
         options,
         gate,
+        watch,
     )
 }
 

@@ -1,5 +1,4 @@
-use Rattle.warp_text.proofs.Simulating.{answered}
 use Rattle.warp_text.proofs.simulate.simulate_text.Goals as goal
 
 pub returns : goal.returns
-returns g c = answered c.args.bench.now c.args.settings.now c.args.stimulus.now c.args.options.now.until c.in_ok-circuit.circuit _ c.in_ok-circuit.ensures c.dump_under.ensures
+returns g c = rw c.dump_alone.ensures c.simulate_watched-answer.ensures.dump

@@ -1,9 +1,4 @@
-use Rattle.std.proofs.Common.{option_map}
-use Rattle.warp_text.proofs.Telling.{told_answered}
 use Rattle.warp_text.proofs.told.simulate_told.Goals as goal
 
 pub returns : goal.returns
-returns g c =
-    let dumped = rw c.as_slice.ensures.value at c.told_under.ensures in
-    told_answered c.args.bench.now c.args.settings.now (option_map (λ names. names.now) c.args.names) c.args.stimulus.now c.args.options.now.until c.in_ok-circuit.circuit c.in_ok-told.told.items _
-    c.in_ok-circuit.ensures c.in_ok-told.ensures dumped
+returns g c = rw c.dump_alone.ensures c.simulate_told_watched-answer.ensures.dump
