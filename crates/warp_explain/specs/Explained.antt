@@ -1,9 +1,12 @@
 -- What is told of a fault.
-use Rattle.std.specs.Prelude.{ℕ, List, ◌⊎◌}
+use Rattle.std.specs.Prelude.{◌≡◌, ℕ, List, [], Option, None, Some, ◌⊎◌}
 use Rattle.gate_vcd.specs.declared.fault.StimFault.{StimFault}
 use Rattle.gate_vcd.specs.declared.fault.StimCause.{StimCause}
 use Rattle.gate_vcd.specs.declared.fault.StimCause.TheVariants as causes
 use Rattle.text_places.specs.declared.told.Source.{Source}
+use Rattle.vcd_compare.specs.declared.fault.CompareFault.{CompareFault}
+use Rattle.vcd_compare.specs.declared.fault.CompareFault.TheVariants as compares
+use Rattle.warp_explain.specs.declared.compared.Compared.{Compared}
 use Rattle.text_places.specs.Places.{IsInLine}
 use Rattle.text_places.specs.Told.{IsTold}
 
@@ -30,3 +33,25 @@ is_explained _ at bench stimulus told = IsToldAt stimulus at told
 
 abbrev pub IsStimulusExplained : (bench stimulus : Source) → StimFault → List ℕ → Type 0
 IsStimulusExplained bench stimulus fault told = is_explained fault.cause fault.at bench stimulus told
+
+-- on some offset of a map, if there is one
+abbrev pub IsToldOfMap : Option Source → List ℕ → Type 0
+IsToldOfMap None told = ⊥
+IsToldOfMap (Some map) told = IsToldOf map told
+
+-- of one of the texts of a comparison
+abbrev pub IsToldOfOne : Compared → List ℕ → Type 0
+IsToldOfOne texts told = IsToldOf texts.expected told ⊎ (IsToldOf texts.actual told ⊎ IsToldOfMap texts.map told)
+
+-- on an offset in the line of this number of a map; nothing where there is no map
+abbrev pub IsMapExplained : Option Source → ℕ → List ℕ → Type 0
+IsMapExplained None line told = told ≡ []
+IsMapExplained (Some map) line told = IsToldInLine map line told
+
+-- on the fault's offset of the dump that is refused, or in the fault's line of the map
+abbrev pub IsComparisonExplained : Compared → CompareFault → List ℕ → Type 0
+IsComparisonExplained texts (compares.Expected fault) told = IsToldAt texts.expected fault.at told
+IsComparisonExplained texts (compares.Actual fault) told = IsToldAt texts.actual fault.at told
+IsComparisonExplained texts (compares.Map fault) told = IsMapExplained texts.map fault.line told
+IsComparisonExplained texts compares.Nothing told = IsToldOfOne texts told
+IsComparisonExplained texts compares.Memory told = told ≡ []

@@ -1,5 +1,5 @@
 //! What is wrong with a bench text.
-use crate::causes::mistaken;
+use crate::causes::{Kind, mistaken};
 use crate::finding::Finding;
 use crate::form::{State, break_of, defined, is_name, pieces, used};
 use crate::look::Look;
@@ -27,7 +27,7 @@ pub(crate) fn of_bench(
 ) -> Result<Finding, AllocError> {
     let look = Look::of(source.text);
     if !matches!(look, Look::Bench | Look::Other) {
-        return Ok(Finding::at_front(mistaken(alloc, look, "bench")?));
+        return Ok(Finding::at_front(mistaken(alloc, look, Kind::Bench)?));
     }
     let line = line_of(source.text, fault.line);
     match fault.cause {

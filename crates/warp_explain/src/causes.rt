@@ -3,17 +3,61 @@ use crate::finding::Said;
 use crate::look::Look;
 use std::alloc::{AllocError, Global};
 
+/// What a text is expected to be.
+#[derive(Clone, Copy, PartialEq, Eq)]
+pub(crate) enum Kind {
+    Bench,
+    Settings,
+    Stimulus,
+    Schedule,
+    Names,
+    Dump,
+    Map,
+}
+
+impl Kind {
+    /// What it is called, with its article.
+    fn name(self) -> &'static str {
+        match self {
+            Kind::Bench => "the bench",
+            Kind::Settings => "the settings' text",
+            Kind::Stimulus => "the stimulus",
+            Kind::Schedule => "the schedule",
+            Kind::Names => "a list of nets",
+            Kind::Dump => "a dump",
+            Kind::Map => "the map",
+        }
+    }
+
+    /// What to do with a text that looks like this.
+    fn advice(self, look: Look) -> &'static str {
+        match (self, look) {
+            (Kind::Dump, Look::Bench) =>
+                "simulate it first: warp_sim run --until T BENCH STIMULUS > DUMP",
+            (Kind::Dump, Look::Verilog | Look::Vhdl) =>
+                "simulate it first: a test bench with $dumpvars writes a dump",
+            (Kind::Dump | Kind::Map, Look::Settings) => "compare reads no settings",
+            (Kind::Map, Look::Dump | Look::PortDump) =>
+                "the dumps are EXPECTED and ACTUAL, which stand behind the options",
+            (Kind::Map, Look::Bench | Look::Verilog | Look::Vhdl) =>
+                "a line of the map is the name in EXPECTED, white space, and the name in ACTUAL",
+            _ => look.advice(),
+        }
+    }
+}
+
 /// A text that looks like this stands where one of that kind is expected.
-pub(crate) fn mistaken(alloc: Global, look: Look, kind: &str) -> Result<Said, AllocError> {
+pub(crate) fn mistaken(alloc: Global, look: Look, kind: Kind) -> Result<Said, AllocError> {
     let name = look.name();
+    let expected = kind.name();
     let cause = match look {
         Look::ByteOrderMark | Look::Utf16 => format!(in alloc;
-            "this is {name}, and the {kind} is expected in UTF-8"
+            "this is {name}, and {expected} is expected in UTF-8"
         )?,
         Look::Gzip => format!(in alloc;
-            "this is {name}, and the {kind} is expected as plain text"
+            "this is {name}, and {expected} is expected as plain text"
         )?,
-        _ => format!(in alloc; "this is {name}, and the {kind} is expected here")?,
+        _ => format!(in alloc; "this is {name}, and {expected} is expected here")?,
     };
-    Ok(Said::new(0, cause, String::from_str(alloc, look.advice())?))
+    Ok(Said::new(0, cause, String::from_str(alloc, kind.advice(look))?))
 }

@@ -1,17 +1,32 @@
 //! From a fault to what is told of it.
-ghost use Rattle.std.specs.Prelude.{IfOk, string_bytes};
-ghost use Rattle.warp_explain.specs.Explained.{IsToldOf, IsToldInLine, IsStimulusExplained};
+ghost use Rattle.std.specs.Prelude.{IfOk, Some, string_bytes};
+ghost use Rattle.warp_explain.specs.Explained.{
+  IsComparisonExplained,
+  IsMapExplained,
+  IsStimulusExplained,
+  IsToldAt,
+  IsToldInLine,
+  IsToldOf,
+  IsToldOfOne,
+};
 
 use crate::bench::of_bench;
+use crate::causes::Kind;
+use crate::compared::Compared;
+use crate::dump::of_dump;
 use crate::finding::Finding;
 use crate::inputs::{Found, of_input};
+use crate::map::of_map;
+use crate::nothing::{Missing, of_empty_map, of_nothing, says_nothing};
+use crate::only::of_only;
 use crate::schedule::{of_event, of_schedule, of_unfinished};
 use crate::settings::of_settings;
-use crate::stimulus::of_stimulus;
 use gate_netlist::{BenchFault, SettingsFault};
 use gate_vcd::{StimCause, StimFault};
+use only_nets::OnlyFault;
 use std::alloc::{AllocError, Global};
 use text_places::{Source, tell, within_line};
+use vcd_compare::{CompareFault, MapFault, Options};
 use warp_core::{PlayFault, ScheduleFault};
 
 fn told(alloc: Global, source: Source<'_>, finding: &Finding) -> Result<String, AllocError>
@@ -30,6 +45,21 @@ fn told_in_line(
 {
     let at = within_line(source.text, line, finding.at);
     tell(alloc, source, at, finding.said.remark())
+}
+
+/// Why a dump is refused that is expected to be of a kind, told at the fault's offset.
+fn told_of_dump(
+    alloc: Global,
+    source: Source<'_>,
+    kind: Kind,
+    cause: StimCause,
+    at: u64,
+) -> Result<String, AllocError>
+    ensures { IfOk result (λ told. IsToldAt source.entry at (string_bytes told)) }
+{
+    let at = at as usize;
+    let said = of_dump(alloc, source, kind, cause, at)?;
+    tell(alloc, source, at, said.remark())
 }
 
 /// Why a bench is refused, told in the line of the fault.
@@ -75,11 +105,7 @@ pub fn explain_stimulus(
                 Found::InBench(finding) => told(alloc, bench, &finding),
             }
         }
-        cause => {
-            let at = fault.at as usize;
-            let said = of_stimulus(alloc, stimulus, cause, at)?;
-            tell(alloc, stimulus, at, said.remark())
-        }
+        cause => { told_of_dump(alloc, stimulus, Kind::Stimulus, cause, fault.at) }
     }
 }
 
@@ -118,4 +144,90 @@ pub fn explain_unfinished(
 {
     let finding = of_unfinished(alloc, schedule, time)?;
     told(alloc, schedule, &finding)
+}
+
+/// Why a text of names is refused, told in the line of the fault.
+pub fn explain_only(
+    alloc: Global,
+    bench: Source<'_>,
+    settings: Source<'_>,
+    names: Source<'_>,
+    fault: &OnlyFault,
+) -> Result<String, AllocError>
+    ensures { IfOk result (λ told. IsToldInLine names.entry fault.now.line (string_bytes told)) }
+{
+    let finding = of_only(alloc, bench, settings.text, names, fault)?;
+    told_in_line(alloc, names, fault.line, &finding)
+}
+
+/// Why a map is refused, if there is one, told in the line of the fault.
+fn explain_map(
+    alloc: Global,
+    options: &Options<'_>,
+    texts: &Compared<'_>,
+    fault: &MapFault,
+) -> Result<String, AllocError>
+    ensures { IfOk result (λ told. IsMapExplained texts.now.map fault.now.line (string_bytes told)) }
+{
+    match texts.map {
+        Some(map) => {
+            let finding = of_map(alloc, options, texts, map, fault)?;
+            told_in_line(alloc, map, fault.line, &finding)
+        }
+        None => Ok(String::new(alloc)),
+    }
+}
+
+/// Why dumps have nothing to compare, told in one of them.
+fn explain_missing(
+    alloc: Global,
+    options: &Options<'_>,
+    texts: &Compared<'_>,
+) -> Result<String, AllocError>
+    ensures { IfOk result (λ told. IsToldOfOne texts.now (string_bytes told)) }
+{
+    match of_nothing(alloc, options, texts)? {
+        Missing::InExpected(finding) => told(alloc, texts.expected, &finding),
+        Missing::InActual(finding) => told(alloc, texts.actual, &finding),
+    }
+}
+
+/// Why there is nothing to compare, told in one of the texts.
+fn explain_nothing(
+    alloc: Global,
+    options: &Options<'_>,
+    texts: &Compared<'_>,
+) -> Result<String, AllocError>
+    ensures { IfOk result (λ told. IsToldOfOne texts.now (string_bytes told)) }
+{
+    match texts.map {
+        Some(map) if says_nothing(map.text) => {
+            let finding = of_empty_map(alloc, map)?;
+            told(alloc, map, &finding)
+        }
+        _ => explain_missing(alloc, options, texts),
+    }
+}
+
+/// Why two dumps aren't compared: told at the fault's offset of the dump that is refused, in the fault's line of the map;
+/// where there is nothing to compare, in one of the texts.
+pub fn explain_comparison(
+    alloc: Global,
+    options: &Options<'_>,
+    texts: &Compared<'_>,
+    fault: &CompareFault,
+) -> Result<String, AllocError>
+    ensures { IfOk result (λ told. IsComparisonExplained texts.now fault.now (string_bytes told)) }
+{
+    match fault {
+        CompareFault::Expected(fault) => {
+            told_of_dump(alloc, texts.expected, Kind::Dump, fault.cause, fault.at)
+        }
+        CompareFault::Actual(fault) => {
+            told_of_dump(alloc, texts.actual, Kind::Dump, fault.cause, fault.at)
+        }
+        CompareFault::Map(fault) => explain_map(alloc, options, texts, fault),
+        CompareFault::Nothing => explain_nothing(alloc, options, texts),
+        CompareFault::Memory => Ok(String::new(alloc)),
+    }
 }

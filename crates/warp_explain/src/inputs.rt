@@ -1,5 +1,5 @@
 //! What is wrong with a stimulus that doesn't give an input.
-use crate::causes::mistaken;
+use crate::causes::{Kind, mistaken};
 use crate::finding::Finding;
 use crate::form::{defined, pieces};
 use crate::look::Look;
@@ -29,7 +29,7 @@ pub(crate) fn of_input(
 ) -> Result<Found, AllocError> {
     let look = Look::of(stimulus.text);
     if !matches!(look, Look::Dump | Look::Other) {
-        let said = mistaken(alloc, look, "stimulus")?;
+        let said = mistaken(alloc, look, Kind::Stimulus)?;
         return Ok(Found::InStimulus(Finding::at_front(said)));
     }
     let name = name_of(alloc, bench.text, settings, net)?;
@@ -68,7 +68,7 @@ pub(crate) fn circuit_of(alloc: Global, bench: &[u8], settings: &[u8]) -> Option
 /// A vector that is declared in place of a scalar.
 fn not_scalar(alloc: Global, text: &[u8], name: &str) -> Result<Finding, AllocError> {
     let shown = quoted(alloc, name.as_bytes())?;
-    let found = find_variable(text, Wanted::Named(name));
+    let found = find_variable(text, Wanted::Named(name.as_bytes()));
     let Some(Variable { size, name: word }) = found else {
         let cause = format!(in alloc; "no variable of one bit gives the input {shown}")?;
         return Ok(Finding::at(&front(text), cause, String::new(alloc)));
@@ -95,11 +95,11 @@ fn missing(
     stimulus: Source<'_>,
     name: &str,
 ) -> Result<Found, AllocError> {
-    if let Some(variable) = find_variable(stimulus.text, Wanted::Named(name)) {
+    if let Some(variable) = find_variable(stimulus.text, Wanted::Named(name.as_bytes())) {
         let finding = in_another_scope(alloc, &variable, name)?;
         return Ok(Found::InStimulus(finding));
     }
-    if let Some(variable) = find_variable(stimulus.text, Wanted::InAnyCase(name)) {
+    if let Some(variable) = find_variable(stimulus.text, Wanted::InAnyCase(name.as_bytes())) {
         let finding = in_another_case(alloc, &variable, name)?;
         return Ok(Found::InStimulus(finding));
     }

@@ -7,21 +7,29 @@
 #![tactic(auto)]
 
 mod bench;
+mod bits;
 mod causes;
+mod compared;
+mod dump;
 mod explain;
 mod finding;
 mod form;
 mod inputs;
 mod keys;
+mod lines;
 mod look;
+mod map;
+mod near;
+mod nothing;
+mod only;
 mod quoted;
 mod schedule;
 mod settings;
-mod stimulus;
 mod variables;
 mod words;
 
+pub use compared::Compared;
 pub use explain::{
-    explain_bench, explain_event, explain_schedule, explain_settings, explain_stimulus,
-    explain_unfinished,
+    explain_bench, explain_comparison, explain_event, explain_only, explain_schedule,
+    explain_settings, explain_stimulus, explain_unfinished,
 };

@@ -50,8 +50,7 @@ impl Look {
         let line = first_line(text);
         let first = word_from(line.text, 0);
         match first.text {
-            [b'$', ..] if has_ports(text) => Look::PortDump,
-            [b'$', ..] => Look::Dump,
+            [b'$', word @ ..] if begins_dump(word) => dump_of(text),
             [b'`', ..] | [b'/', b'/', ..] | [b'/', b'*', ..] | [b'(', b'*', ..] => Look::Verilog,
             [b'-', b'-', ..] => Look::Vhdl,
             [b'[', ..] => Look::Settings,
@@ -111,6 +110,22 @@ fn first_line(text: &[u8]) -> Word<'_> {
         }
     }
     line_around(text, at)
+}
+
+/// Whether a command of this name stands at the beginning of dumps.
+fn begins_dump(command: &[u8]) -> bool {
+    matches!(
+        command,
+        b"date" | b"version" | b"comment" | b"timescale" | b"scope" | b"var" | b"enddefinitions"
+    )
+}
+
+fn dump_of(text: &[u8]) -> Look {
+    if has_ports(text) {
+        Look::PortDump
+    } else {
+        Look::Dump
+    }
 }
 
 /// Whether a dump declares a variable of the type `port`.

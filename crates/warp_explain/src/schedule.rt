@@ -1,5 +1,5 @@
 //! What is wrong with a schedule.
-use crate::causes::mistaken;
+use crate::causes::{Kind, mistaken};
 use crate::finding::Finding;
 use crate::look::Look;
 use crate::quoted::quoted;
@@ -19,7 +19,7 @@ pub(crate) fn of_schedule(
 ) -> Result<Finding, AllocError> {
     let look = Look::of(source.text);
     if look != Look::Other {
-        return Ok(Finding::at_front(mistaken(alloc, look, "schedule")?));
+        return Ok(Finding::at_front(mistaken(alloc, look, Kind::Schedule)?));
     }
     let line = line_of(source.text, fault.line);
     let first = first_word(source.text, line.at);

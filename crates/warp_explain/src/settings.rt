@@ -1,5 +1,5 @@
 //! What is wrong with settings.
-use crate::causes::mistaken;
+use crate::causes::{Kind, mistaken};
 use crate::finding::Finding;
 use crate::inputs::circuit_of;
 use crate::keys::key_at;
@@ -33,14 +33,14 @@ pub(crate) fn of_settings(
 ) -> Result<Finding, AllocError> {
     let look = Look::of(source.text);
     if !matches!(look, Look::Settings | Look::Bench | Look::Other) {
-        return Ok(Finding::at_front(mistaken(alloc, look, "settings' text")?));
+        return Ok(Finding::at_front(mistaken(alloc, look, Kind::Settings)?));
     }
     let table = match toml::table_from_slice(alloc, source.text) {
         Ok(table) => table,
         Err(_) if look == Look::Bench => return Ok(Finding::at_front(mistaken(
             alloc,
             look,
-            "settings' text",
+            Kind::Settings,
         )?)),
         Err(error) => return no_toml(alloc, source, &error),
     };

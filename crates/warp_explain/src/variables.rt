@@ -13,19 +13,16 @@ pub(crate) struct Variable<'a> {
 #[derive(Clone, Copy)]
 pub(crate) enum Wanted<'n> {
     /// One of this name, with a range or without.
-    Named(&'n str),
+    Named(&'n [u8]),
     /// One whose name has these letters, in any case.
-    InAnyCase(&'n str),
+    InAnyCase(&'n [u8]),
 }
 
 impl Wanted<'_> {
     fn is(&self, found: &[u8]) -> bool {
         match self {
-            Wanted::Named(name) => matches!(
-                found.strip_prefix(name.as_bytes()),
-                Some([]) | Some([b'[', ..])
-            ),
-            Wanted::InAnyCase(name) => found.eq_ignore_ascii_case(name.as_bytes()),
+            Wanted::Named(name) => matches!(found.strip_prefix(*name), Some([]) | Some([b'[', ..])),
+            Wanted::InAnyCase(name) => found.eq_ignore_ascii_case(*name),
         }
     }
 }

@@ -1,5 +1,5 @@
-//! What is wrong with a stimulus.
-use crate::causes::mistaken;
+//! What is wrong with a dump: a stimulus, or one that is compared.
+use crate::causes::{Kind, mistaken};
 use crate::finding::Said;
 use crate::look::Look;
 use crate::quoted::quoted;
@@ -8,16 +8,17 @@ use gate_vcd::{StimCause, is_numeral};
 use std::alloc::{AllocError, Global};
 use text_places::Source;
 
-/// What a fault of a stimulus is about that has a place in the text.
-pub(crate) fn of_stimulus(
+/// What a fault of a dump is about that has a place in the text.
+pub(crate) fn of_dump(
     alloc: Global,
     source: Source<'_>,
+    kind: Kind,
     cause: StimCause,
     at: usize,
 ) -> Result<Said, AllocError> {
     let look = Look::of(source.text);
     if !matches!(look, Look::Dump | Look::Other) {
-        return mistaken(alloc, look, "stimulus");
+        return mistaken(alloc, look, kind);
     }
     let word = word_at(source.text, at);
     match cause {
@@ -39,7 +40,7 @@ fn of_command(alloc: Global, cause: StimCause, word: &Word<'_>) -> Result<Said, 
     let (told, advice) = match cause {
         StimCause::UnclosedCommand => (
             format!(in alloc; "the command {shown} has no `$end`")?,
-            "a command goes up to the word $end, with white space around it",
+            "a command goes up to the word $end, with white space around it; where there is none, the dump may be cut off",
         ),
         StimCause::BadTimescale => (
             format!(in alloc; "a timescale is 1, 10 or 100, and s, ms, us, ns, ps or fs")?,
@@ -51,6 +52,13 @@ fn of_command(alloc: Global, cause: StimCause, word: &Word<'_>) -> Result<Said, 
         ),
     };
     Ok(said(word, told, String::from_str(alloc, advice)?))
+}
+
+const CUT_OFF: &str = "the text ends there: the dump may be cut off";
+
+/// Whether a text ends with this word, and not with a line's end.
+fn is_cut_off(text: &[u8], word: &Word<'_>) -> bool {
+    !text.ends_with(b"\n") && word_behind(text, word).text.is_empty()
 }
 
 /// Whether the declarations have ended before an offset.
@@ -91,6 +99,7 @@ fn bad_token(alloc: Global, source: Source<'_>, word: &Word<'_>) -> Result<Said,
         text if has_std_logic(text) => {
             "U, W, L, H and - are values of VHDL's std_logic: examples/std_logic_to_verilog turns them into those of a dump"
         }
+        _ if is_cut_off(source.text, word) => CUT_OFF,
         [b'#', ..] => "a stamp is # and decimal digits",
         [b'0' | b'1' | b'x' | b'X' | b'z' | b'Z'] =>
             "a value of one bit and its code are one word, as 1!",
@@ -135,28 +144,31 @@ fn bad_var(alloc: Global, source: Source<'_>, word: &Word<'_>) -> Result<Said, A
     Ok(said(word, cause, String::new(alloc)))
 }
 
-/// The last stamp before an offset.
-fn stamp_before(text: &[u8], at: usize) -> &[u8] {
-    let before = text.get(..at).unwrap_or(text);
-    let mut stamp: &[u8] = &[];
+/// The last stamp before an offset; no word where there is none.
+pub(crate) fn last_stamp(text: &[u8], end: usize) -> Word<'_> {
+    let before = text.get(..end).unwrap_or(text);
+    let mut stamp = Word { at: 0, text: &[] };
+    let mut at = 0usize;
     for word in before.split(|byte| is_space(*byte)) {
         match word {
-            [b'#', digits @ ..] if is_numeral(digits) => stamp = word,
+            [b'#', digits @ ..] if is_numeral(digits) => stamp = Word { at, text: word },
             _ => {}
         }
+        at = at.saturating_add(word.len()).saturating_add(1);
     }
     stamp
 }
 
 fn stamp_falls(alloc: Global, source: Source<'_>, word: &Word<'_>) -> Result<Said, AllocError> {
     let shown = quoted(alloc, word.text)?;
-    let before = quoted(alloc, stamp_before(source.text, word.at))?;
+    let before = quoted(alloc, last_stamp(source.text, word.at).text)?;
     let cause = format!(in alloc; "the stamp {shown} comes after {before}")?;
-    let advice = String::from_str(
-        alloc,
-        "time doesn't go back: join dumps by sorting their stamps",
-    )?;
-    Ok(said(word, cause, advice))
+    let advice = if is_cut_off(source.text, word) {
+        CUT_OFF
+    } else {
+        "time doesn't go back: join dumps by sorting their stamps"
+    };
+    Ok(said(word, cause, String::from_str(alloc, advice)?))
 }
 
 fn unknown_code(alloc: Global, source: Source<'_>, word: &Word<'_>) -> Result<Said, AllocError> {
@@ -170,9 +182,10 @@ fn unknown_code(alloc: Global, source: Source<'_>, word: &Word<'_>) -> Result<Sa
     };
     let shown = quoted(alloc, code.text)?;
     let cause = format!(in alloc; "no $var has the code {shown}")?;
-    let advice = String::from_str(
-        alloc,
-        "declare it, or drop its changes: each code of a change has to be declared before $enddefinitions",
-    )?;
-    Ok(said(word, cause, advice))
+    let advice = if is_cut_off(source.text, &code) {
+        CUT_OFF
+    } else {
+        "declare it, or drop its changes: each code of a change has to be declared before $enddefinitions"
+    };
+    Ok(said(word, cause, String::from_str(alloc, advice)?))
 }
