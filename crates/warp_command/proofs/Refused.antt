@@ -1,9 +1,12 @@
 -- What holds of a fault holds of what is told of it.
-use Rattle.std.proofs.Common.{◌≡◌, sym, subst, ℕ, List, Bool, Err}
+use Rattle.std.proofs.Common.{◌≡◌, sym, subst, ℕ, List, Option, Bool, Err}
 use Rattle.warp_text.specs.Answer.{IsCounted}
 use Rattle.warp_text.specs.declared.fault.Fault.{Fault}
 use Rattle.warp_text.specs.declared.fault.Fault.TheVariants as faults
-use Rattle.warp_command.specs.Replies.{IsRefusal, IsUncounted}
+use Rattle.vcd_compare.specs.declared.fault.CompareFault.{CompareFault}
+use Rattle.vcd_compare.specs.declared.report.Options.{Options as Comparing}
+use Rattle.compare_answer.specs.Answer.{IsText}
+use Rattle.warp_command.specs.Replies.{IsCompared, IsNotCompared, IsRefusal, IsUncounted}
 use Rattle.warp_command.specs.declared.failure.Failure.{Failure}
 use Rattle.warp_command.specs.declared.failure.Failure.TheVariants as failures
 
@@ -19,8 +22,28 @@ refusal_of explains Is fault (failures.Unreadable name) told is = absurd told
 refusal_of explains Is fault (failures.Fault same) told is = subst Is (sym told) is
 refusal_of explains Is fault (failures.Explained same text) told is = (told.0, subst Is (sym told.1) is)
 refusal_of explains Is fault (failures.NotCompared other) told is = absurd told
+refusal_of explains Is fault (failures.ComparisonExplained other text) told is = absurd told
 refusal_of explains Is fault (failures.Differ text) told is = absurd told
 refusal_of explains Is fault failures.Unwritten told is = absurd told
+
+pub compared_of : (explains : Bool) (options : Comparing) (most : ℕ) (expected actual : List ℕ) (map : Option (List ℕ)) (fault : CompareFault) (failure : Failure)
+    → IsNotCompared explains (λ told. told ≡ fault) failure → IsText options most expected actual map (Err fault)
+    → IsCompared explains options most expected actual map (Err failure)
+compared_of explains options most expected actual map fault (failures.Line text) told is = absurd told
+compared_of explains options most expected actual map fault failures.NotText told is = absurd told
+compared_of explains options most expected actual map fault failures.Incomplete told is = absurd told
+compared_of explains options most expected actual map fault failures.StimulusExpected told is = absurd told
+compared_of explains options most expected actual map fault failures.StimulusNotExpected told is = absurd told
+compared_of explains options most expected actual map fault (failures.Expected form) told is = absurd told
+compared_of explains options most expected actual map fault (failures.Unreadable name) told is = absurd told
+compared_of explains options most expected actual map fault (failures.Fault other) told is = absurd told
+compared_of explains options most expected actual map fault (failures.Explained other text) told is = absurd told
+compared_of explains options most expected actual map fault (failures.NotCompared same) told is =
+    subst (λ f. IsText options most expected actual map (Err f)) (sym told) is
+compared_of explains options most expected actual map fault (failures.ComparisonExplained same text) told is =
+    (told.0, subst (λ f. IsText options most expected actual map (Err f)) (sym told.1) is)
+compared_of explains options most expected actual map fault (failures.Differ text) told is = absurd told
+compared_of explains options most expected actual map fault failures.Unwritten told is = absurd told
 
 pub uncounted_of : (bench settings : List ℕ) (fault : Fault) → IsCounted bench settings (Err fault) → IsUncounted bench settings fault
 uncounted_of bench settings (faults.Bench fault) is = is

@@ -25,6 +25,7 @@ failure_text (failures.Unreadable name) = codes "cannot read " ++ name.now ++ 10
 failure_text (failures.Fault fault) = fault_line fault ++ 10 ∷ []
 failure_text (failures.Explained fault text) = fault_line fault ++ 10 ∷ string_bytes text
 failure_text (failures.NotCompared fault) = compare_fault_line fault ++ 10 ∷ []
+failure_text (failures.ComparisonExplained fault text) = compare_fault_line fault ++ 10 ∷ string_bytes text
 failure_text (failures.Differ text) = codes "the dumps differ" ++ 10 ∷ []
 failure_text failures.Unwritten = codes "cannot write" ++ 10 ∷ []
 
@@ -40,5 +41,6 @@ failure_status (failures.Unreadable name) = 4
 failure_status (failures.Fault fault) = status_of fault
 failure_status (failures.Explained fault text) = status_of fault
 failure_status (failures.NotCompared fault) = compare_fault_status fault
+failure_status (failures.ComparisonExplained fault text) = compare_fault_status fault
 failure_status (failures.Differ text) = 5
 failure_status failures.Unwritten = 4

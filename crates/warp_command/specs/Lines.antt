@@ -134,6 +134,7 @@ pub record AreComparing (rows : Rows) (options : Comparing) : Type 0 where
 
 pub record IsComparison (rows : Rows) (comparison : Comparison) : Type 0 where
   pub options : AreComparing rows comparison.options
+  pub explains : IsFlag rows (codes "explain") comparison.explains
   pub map : text_in rows (codes "map") ≡ text_behind comparison.map
   pub most : number_in rows (codes "list") ≡ Some comparison.most
   pub expected : text_in rows (codes "EXPECTED") ≡ Some comparison.expected.now

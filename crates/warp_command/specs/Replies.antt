@@ -18,6 +18,7 @@ use Rattle.warp_command.specs.declared.request.Run.{Run}
 use Rattle.warp_command.specs.declared.request.Replay.{Replay}
 use Rattle.warp_command.specs.declared.request.Check.{Check}
 use Rattle.vcd_compare.specs.Times.{Moves}
+use Rattle.vcd_compare.specs.declared.fault.CompareFault.{CompareFault}
 use Rattle.vcd_compare.specs.declared.report.Options.{Options as Comparing}
 use Rattle.compare_answer.specs.Answer.{IsText}
 use Rattle.compare_answer.specs.declared.answer.Compared.{Compared}
@@ -75,6 +76,12 @@ IsRefusal explains Is (failures.Fault fault) = Is fault
 IsRefusal explains Is (failures.Explained fault text) = (explains ≡ true) × Is fault
 IsRefusal explains Is _ = ⊥
 
+-- the same of two dumps that aren't compared
+abbrev pub IsNotCompared : (explains : Bool) → (CompareFault → Type 0) → Failure → Type 0
+IsNotCompared explains Is (failures.NotCompared fault) = Is fault
+IsNotCompared explains Is (failures.ComparisonExplained fault text) = (explains ≡ true) × Is fault
+IsNotCompared explains Is _ = ⊥
+
 -- the text that names the nets that are told, empty where they are all nets or the outputs
 abbrev pub FetchesOnly : {T : Type 0} → Fetching T → Only → Step T
 FetchesOnly gives (only.Named name) = Fetches gives name.now
@@ -130,14 +137,18 @@ ReplaysOn gives replay bench settings stimulus schedule =
     Then (FetchesOnly gives replay.only) (λ names.
     Ends (IsReplayed replay.explains replay.only names.items bench settings stimulus schedule replay.options.blocks replay.options.until))
 
+-- the same, once they are had but for the schedule and the names
+abbrev pub ReplaysBy : {T : Type 0} → Fetching T → Replay → (bench settings stimulus : List ℕ) → Step T
+ReplaysBy gives replay bench settings stimulus =
+    Then (Fetches gives replay.schedule.now) (λ schedule. ReplaysOn gives replay bench settings stimulus schedule.items)
+
 -- a schedule is played
 abbrev pub Replays : {T : Type 0} → Fetching T → Replay → Step T
 Replays gives replay =
     Then (FetchesSettings gives replay.settings) (λ settings.
     Then (Fetches gives replay.bench.now) (λ bench.
     Then (Fetches gives replay.stimulus.now) (λ stimulus.
-    Then (Fetches gives replay.schedule.now) (λ schedule.
-    ReplaysOn gives replay bench.items settings.items stimulus.items schedule.items))))
+    ReplaysBy gives replay bench.items settings.items stimulus.items)))
 
 -- the counts are printed; want of memory may keep them from it
 abbrev pub IsUncounted : (bench settings : List ℕ) → Fault → Type 0
@@ -167,24 +178,24 @@ Lists gives listing =
 
 -- Two dumps are compared, by a map if there is one: a text where all bits agree, or that tells where they differ; or why
 -- they aren't. The line is incomplete where compared times don't go on.
-abbrev pub IsCompared : Comparing → ℕ → (expected actual : List ℕ) → Option (List ℕ) → Reply → Type 0
-IsCompared options most expected actual map (Ok text) =
+abbrev pub IsCompared : (explains : Bool) → Comparing → ℕ → (expected actual : List ℕ) → Option (List ℕ) → Reply → Type 0
+IsCompared explains options most expected actual map (Ok text) =
     (c : Compared) × IsText options most expected actual map (Ok c) × (c.agrees ≡ true) × (text.items ≡ c.text.items)
-IsCompared options most expected actual map (Err (failures.Differ text)) =
+IsCompared explains options most expected actual map (Err (failures.Differ text)) =
     (c : Compared) × IsText options most expected actual map (Ok c) × (c.agrees ≡ false) × (text.items ≡ c.text.items)
-IsCompared options most expected actual map (Err (failures.NotCompared fault)) = IsText options most expected actual map (Err fault)
-IsCompared options most expected actual map (Err failures.Incomplete) = ¬ Moves options
-IsCompared options most expected actual map (Err _) = ⊥
+IsCompared explains options most expected actual map (Err failures.Incomplete) = ¬ Moves options
+IsCompared explains options most expected actual map (Err failure) =
+    IsNotCompared explains (λ fault. IsText options most expected actual map (Err fault)) failure
 
 -- the map of this name is read last
 abbrev pub ComparesWith : {T : Type 0} → Fetching T → List ℕ → Comparison → (expected actual : List ℕ) → Step T
 ComparesWith gives name comparison expected actual =
     Then (Fetches gives name) (λ map.
-    Ends (IsCompared comparison.options comparison.most expected actual (Some map.items)))
+    Ends (IsCompared comparison.explains comparison.options comparison.most expected actual (Some map.items)))
 
 -- so where the line names one
 abbrev pub ComparesBy : {T : Type 0} → Fetching T → Option (Bor (List ℕ)) → Comparison → (expected actual : List ℕ) → Step T
-ComparesBy gives None comparison expected actual = Ends (IsCompared comparison.options comparison.most expected actual None)
+ComparesBy gives None comparison expected actual = Ends (IsCompared comparison.explains comparison.options comparison.most expected actual None)
 ComparesBy gives (Some name) comparison expected actual = ComparesWith gives name.now comparison expected actual
 
 abbrev pub Compares : {T : Type 0} → Fetching T → Comparison → Step T

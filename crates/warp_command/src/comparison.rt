@@ -18,7 +18,7 @@ ghost use Rattle.warp_command.specs.Lines.{
 ghost use Rattle.warp_command.specs.Outside.{is_input};
 
 use crate::failure::{Failure, Form};
-use crate::line::{given_number_of, given_text_of, text_of};
+use crate::line::{explains_of, given_number_of, given_text_of, text_of};
 use crate::request::Comparison;
 use clap::ArgMatches;
 use vcd_compare::Options;
@@ -165,6 +165,7 @@ pub(crate) fn comparison_of<'a>(found: &ArgMatches<'a>) -> Result<Comparison<'a>
     ensures { IsRead (IsComparison (rows_in found.now)) result }
 {
     let options = comparing_of(found)?;
+    let explains = explains_of(found);
     let map = text_of(found, "map");
     let most = given_number_of(found, "list")?;
     let expected = given_text_of(found, "EXPECTED")?;
@@ -174,6 +175,7 @@ pub(crate) fn comparison_of<'a>(found: &ArgMatches<'a>) -> Result<Comparison<'a>
     }
     Ok(Comparison {
         options,
+        explains,
         map,
         most,
         expected,

@@ -6,8 +6,8 @@ use crate::failure::Failure;
 use std::alloc::{AllocError, Global};
 use text_places::{Place, Source};
 use warp_explain::{
-    explain_bench, explain_event, explain_schedule, explain_settings, explain_stimulus,
-    explain_unfinished,
+    explain_bench, explain_event, explain_only, explain_schedule, explain_settings,
+    explain_stimulus, explain_unfinished,
 };
 use warp_text::Fault;
 
@@ -61,7 +61,10 @@ fn explained(alloc: Global, fault: &Fault, given: &Given<'_>) -> Result<String, 
         Fault::Schedule(fault) => explain_schedule(alloc, given.schedule, fault),
         Fault::Event { number, cause } => explain_event(alloc, given.schedule, *number, *cause),
         Fault::Unfinished { time } => explain_unfinished(alloc, given.schedule, *time),
-        Fault::Only(_) | Fault::Run(_) | Fault::Memory => Ok(String::new(alloc)),
+        Fault::Only(fault) => {
+            explain_only(alloc, given.bench, given.settings, given.only, fault)
+        }
+        Fault::Run(_) | Fault::Memory => Ok(String::new(alloc)),
     }
 }
 

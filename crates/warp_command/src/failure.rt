@@ -59,6 +59,8 @@ pub enum Failure<'a> {
     Explained { fault: Fault, text: String },
     /// Two dumps aren't compared.
     NotCompared(CompareFault),
+    /// Two dumps aren't compared, and this is told behind the fault's line.
+    ComparisonExplained { fault: CompareFault, text: String },
     /// Two dumps differ, which this text tells on standard output.
     Differ(Vec<u8>),
     /// Standard output doesn't take what is written.
@@ -76,7 +78,9 @@ impl Failure<'_> {
             Failure::Expected(_) => 2,
             Failure::Unreadable(_) | Failure::Unwritten => 4,
             Failure::Fault(fault) | Failure::Explained { fault, .. } => fault.status(),
-            Failure::NotCompared(fault) => fault.status(),
+            Failure::NotCompared(fault) | Failure::ComparisonExplained { fault, .. } => {
+                fault.status()
+            }
             Failure::Differ(_) => 5,
         }
     }
@@ -101,6 +105,7 @@ impl fmt::Display for Failure<'_> {
             Failure::Fault(fault) => write!(f, "{fault}\n"),
             Failure::Explained { fault, text } => write!(f, "{fault}\n{text}"),
             Failure::NotCompared(fault) => write!(f, "{fault}\n"),
+            Failure::ComparisonExplained { fault, text } => write!(f, "{fault}\n{text}"),
             Failure::Differ(_) => f.write_str("the dumps differ\n"),
             Failure::Unwritten => f.write_str("cannot write\n"),
         }

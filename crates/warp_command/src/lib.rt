@@ -18,6 +18,7 @@ mod outside;
 mod reply;
 mod request;
 mod texts;
+mod uncompared;
 
 pub use app::VERSION;
 pub use channel::{Channel, Stream, Unwritten};

@@ -79,7 +79,7 @@ pub(crate) fn given_text_of<'a>(found: &ArgMatches<'a>, name: &str) -> Result<&'
 
 /// Whether a refused text is to be explained.
 #[tactic(auto, using(crate::proofs::Lines::flag_read))]
-fn explains_of(found: &ArgMatches<'_>) -> bool
+pub(crate) fn explains_of(found: &ArgMatches<'_>) -> bool
     ensures { IsFlag (rows_in found.now) (codes "explain") result }
 {
     found.get_flag("explain")

@@ -1,5 +1,5 @@
 //! What a request is answered.
-ghost use Rattle.std.specs.Prelude.{◌≡◌, ◌≤◌, codes, true, false, option_map};
+ghost use Rattle.std.specs.Prelude.{◌≡◌, ◌≤◌, codes, true, false, None, option_map};
 ghost use Rattle.vcd_compare.specs.Times.{Moves};
 ghost use Rattle.warp_command.specs.Replies.{
   Fetches,
@@ -13,6 +13,7 @@ ghost use Rattle.warp_command.specs.Replies.{
   Runs,
   IsReplayOf,
   IsReplayed,
+  ReplaysBy,
   ReplaysOn,
   Replays,
   IsCountReply,
@@ -31,12 +32,14 @@ use crate::failure::Failure;
 use crate::joined::split_joined;
 use crate::request::{Check, Comparison, Listing, Only, Replay, Request, Run, Sources};
 use crate::texts::{FetchFault, Texts};
+use crate::uncompared::not_compared;
 use compare_answer::compare_text;
 use std::alloc::Global;
 use std::sync::Wait;
 use std::thread::Threads;
 use text_places::Source;
 use vcd_compare::Options as Comparing;
+use warp_explain::Compared;
 use warp_rounds::NoGate;
 use warp_text::{
     Fault, Options, count_text, counts_of_texts, nets_of_texts, replay_text, replay_told,
@@ -274,6 +277,27 @@ fn replay_on<'a, T: Texts>(
     replayed(alloc, &given, replay)
 }
 
+/// What a replay is answered whose texts are had but for the schedule and the names of nets.
+fn replay_by<'a, T: Texts>(
+    alloc: Global,
+    others: &Given<'_>,
+    replay: &Replay<'a>,
+    texts: &mut T,
+) -> Result<Vec<u8>, Failure<'a>>
+    ensures { ReplaysBy T.gives replay.now others.now.bench.text.now others.now.settings.text.now others.now.stimulus.text.now texts.old
+        result texts.new }
+{
+    let schedule = fetch(alloc, replay.schedule, texts)?;
+    let given = Given {
+        bench: others.bench,
+        settings: others.settings,
+        stimulus: others.stimulus,
+        schedule: whole(replay.schedule, schedule.as_slice()),
+        only: nothing(),
+    };
+    replay_on(alloc, &given, replay, texts)
+}
+
 fn reply_to_replay<'a, T: Texts>(
     alloc: Global,
     replay: Replay<'a>,
@@ -284,15 +308,14 @@ fn reply_to_replay<'a, T: Texts>(
     let settings = fetch_settings(alloc, replay.settings, texts)?;
     let bench = fetch(alloc, replay.bench, texts)?;
     let stimulus = fetch(alloc, replay.stimulus, texts)?;
-    let schedule = fetch(alloc, replay.schedule, texts)?;
     let others = Given {
         bench: whole(replay.bench, bench.as_slice()),
         settings: whole(shown_name(replay.settings), settings.as_slice()),
         stimulus: whole(replay.stimulus, stimulus.as_slice()),
-        schedule: whole(replay.schedule, schedule.as_slice()),
+        schedule: nothing(),
         only: nothing(),
     };
-    replay_on(alloc, &others, &replay, texts)
+    replay_by(alloc, &others, &replay, texts)
 }
 
 /// A bench and its settings, which a command reads alone.
@@ -384,20 +407,23 @@ fn moves(options: &Comparing<'_>) -> bool
     }
 }
 
+#[tactic(auto, using(crate::proofs::Refused::compared_of))]
 fn compared<'a>(
     alloc: Global,
     comparison: &Comparison<'_>,
-    expected: &[u8],
-    actual: &[u8],
+    texts: &Compared<'_>,
     map: Option<&[u8]>,
 ) -> Result<Vec<u8>, Failure<'a>>
-    ensures { IsCompared comparison.now.options comparison.now.most expected.now actual.now (option_map (λ m. m.now) map.entry) result }
+    ensures { IsCompared comparison.now.explains comparison.now.options comparison.now.most texts.now.expected.text.now texts.now.actual.text.now
+        (option_map (λ m. m.now) map.entry) result }
 {
     let options = &comparison.options;
     if !moves(options) {
         return Err(Failure::Incomplete);
     }
     let most = comparison.most as usize;
+    let expected = texts.expected.text;
+    let actual = texts.actual.text;
     match compare_text(alloc, options, most, expected, actual, map) {
         Ok(compared) => {
             if compared.agrees {
@@ -406,37 +432,59 @@ fn compared<'a>(
                 Err(Failure::Differ(compared.text))
             }
         }
-        Err(fault) => Err(Failure::NotCompared(fault)),
+        Err(fault) => Err(not_compared(alloc, comparison.explains, options, texts, fault)),
     }
 }
 
 /// What a comparison is answered whose dumps are had, by the map of this name.
-fn compared_with<'a, T: Texts>(
+fn compared_with<'a, 't, T: Texts>(
     alloc: Global,
     name: &'a str,
     comparison: &Comparison<'_>,
-    expected: &[u8],
-    actual: &[u8],
+    expected: &Source<'t>,
+    actual: &Source<'t>,
     texts: &mut T,
 ) -> Result<Vec<u8>, Failure<'a>>
-    ensures { ComparesWith T.gives name.entry.now comparison.now expected.now actual.now texts.old result texts.new }
+    ensures { ComparesWith T.gives name.entry.now comparison.now expected.now.text.now actual.now.text.now texts.old result texts.new }
 {
     let map = fetch(alloc, name, texts)?;
-    compared(alloc, comparison, expected, actual, Some(map.as_slice()))
+    let given = Compared {
+        expected: *expected,
+        actual: *actual,
+        map: Some(whole(name, map.as_slice())),
+    };
+    compared(alloc, comparison, &given, Some(map.as_slice()))
+}
+
+/// What a comparison is answered whose dumps are had, of the bits of one name.
+fn compared_alone<'a, 't>(
+    alloc: Global,
+    comparison: &Comparison<'_>,
+    expected: &Source<'t>,
+    actual: &Source<'t>,
+) -> Result<Vec<u8>, Failure<'a>>
+    ensures { IsCompared comparison.now.explains comparison.now.options comparison.now.most expected.now.text.now actual.now.text.now None result }
+{
+    let given = Compared {
+        expected: *expected,
+        actual: *actual,
+        map: None,
+    };
+    compared(alloc, comparison, &given, None)
 }
 
 /// What a comparison is answered whose dumps are had.
-fn compared_by<'a, T: Texts>(
+fn compared_by<'a, 't, T: Texts>(
     alloc: Global,
     comparison: &Comparison<'a>,
-    expected: &[u8],
-    actual: &[u8],
+    expected: &Source<'t>,
+    actual: &Source<'t>,
     texts: &mut T,
 ) -> Result<Vec<u8>, Failure<'a>>
-    ensures { ComparesBy T.gives comparison.now.map comparison.now expected.now actual.now texts.old result texts.new }
+    ensures { ComparesBy T.gives comparison.now.map comparison.now expected.now.text.now actual.now.text.now texts.old result texts.new }
 {
     match comparison.map {
-        None => compared(alloc, comparison, expected, actual, None),
+        None => compared_alone(alloc, comparison, expected, actual),
         Some(name) => compared_with(alloc, name, comparison, expected, actual, texts),
     }
 }
@@ -450,13 +498,9 @@ fn reply_to_compare<'a, T: Texts>(
 {
     let expected = fetch(alloc, comparison.expected, texts)?;
     let actual = fetch(alloc, comparison.actual, texts)?;
-    compared_by(
-        alloc,
-        &comparison,
-        expected.as_slice(),
-        actual.as_slice(),
-        texts,
-    )
+    let expected = whole(comparison.expected, expected.as_slice());
+    let actual = whole(comparison.actual, actual.as_slice());
+    compared_by(alloc, &comparison, &expected, &actual, texts)
 }
 
 /// What a request is answered: the text to show, or why there is none. The texts that it names

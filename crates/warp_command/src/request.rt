@@ -75,6 +75,7 @@ pub struct Listing<'a> {
 #[derive(Clone, Copy, Debug)]
 pub struct Comparison<'a> {
     pub options: Comparing<'a>,
+    pub explains: bool,
     pub map: Option<&'a str>,
     pub most: u32,
     pub expected: &'a str,

@@ -35,7 +35,7 @@ static TEXTS: [(&str, &[u8]); 10] = [
 ];
 
 /// Lines, their status, and what is written on standard output and on standard error.
-static LINES: [(&str, u8, &str, &str); 22] = [
+static LINES: [(&str, u8, &str, &str); 23] = [
     (
         "warp_sim compare e e",
         0,
@@ -121,6 +121,17 @@ static LINES: [(&str, u8, &str, &str); 22] = [
         "expected at 45: UnknownCode\n",
     ),
     ("warp_sim compare e b", 1, "", "actual at 45: UnknownCode\n"),
+    (
+        "warp_sim compare --explain e b",
+        1,
+        "",
+        "actual at 45: UnknownCode
+b:1:46: no $var has the code `%`
+  1 | $var wire 1 ! A $end $enddefinitions $end #0 0%
+    |                                              ^^
+  help: the text ends there: the dump may be cut off
+",
+    ),
     (
         "warp_sim compare --from 11 e a",
         1,
