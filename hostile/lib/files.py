@@ -31,6 +31,8 @@ def lawful(row, names, kind, manner, answer):
     if kind == "write" and row.out and answer.status == 4 and answer.err == b"cannot write\n":
         if row.out.startswith(answer.out) and answer.out != row.out:
             return "cannot write"
+    if kind in ("open", "write") and row.kept and answer.out == row.out and (answer.status, answer.err) == (4, b"cannot write %s\n" % row.kept.encode()):
+        return "cannot write a file"
     if kind == "error" and row.err and answer.status == row.status and answer.out == row.out and row.err.startswith(answer.err):
         return CUT
     return None
@@ -53,8 +55,8 @@ def play_way(players, row, job, whole, way):
 
 
 def is_harmless(row, kind):
-    """Whether nothing that the row reads or writes needs such a call."""
-    return kind == "open" and not row.texts or kind == "write" and not row.out
+    """Whether nothing that the row reads or writes needs such a call, or its own answer is that it was refused."""
+    return row.status == 4 or kind == "open" and not row.texts or kind == "write" and not row.out
 
 
 def play_all(players, score, is_long):

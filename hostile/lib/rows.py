@@ -17,6 +17,8 @@ class Row:
     out: bytes = b""
     err: bytes = b""
     workers: int = 1
+    # The file that it writes behind its answer.
+    kept: str = ""
 
     def words(self, program, players):
         files = {name: players.file(text) for name, text in self.texts.items()}
@@ -102,6 +104,11 @@ def run_rows():
         Row("an inverter, by standard input", "run --until 10 -", stdin=example("inverter.txt"), out=example("inverter.dump.vcd")),
         Row("an inverter", "run --until 10 {bench} {stimulus}",
             {"bench": example("inverter.bench"), "stimulus": example("inverter.vcd")}, out=example("inverter.dump.vcd")),
+        Row("an inverter that is counted", "run --until 10 --stats /dev/null {bench} {stimulus}",
+            {"bench": example("inverter.bench"), "stimulus": example("inverter.vcd")}, out=example("inverter.dump.vcd"), kept="/dev/null"),
+        Row("an inverter that is counted where there is no room", "run --until 10 --stats /dev/full {bench} {stimulus}",
+            {"bench": example("inverter.bench"), "stimulus": example("inverter.vcd")}, status=4, out=example("inverter.dump.vcd"),
+            err=b"cannot write /dev/full\n", kept="/dev/full"),
         Row("s27 in 3 blocks, by 2 workers", "run --until 20 --blocks 3 --workers 2 {bench} {stimulus}", s27,
             out=example("s27.dump.vcd"), workers=2),
         Row("s27's counts", "check {bench}", s27, out=b"nets 18\ninputs 5\ngates 10\nflip-flops 3\noutputs 1\nblocks 1\n"),

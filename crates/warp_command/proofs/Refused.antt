@@ -1,12 +1,20 @@
 -- What holds of a fault holds of what is told of it.
 use Rattle.std.proofs.Common.{◌≡◌, sym, subst, ℕ, List, Option, Bool, Err}
-use Rattle.warp_text.specs.Answer.{IsCounted}
+use Rattle.warp_text.specs.Answer.{IsAnswer, IsCounted}
+use Rattle.warp_text.specs.Only.{IsToldAnswer}
 use Rattle.warp_text.specs.declared.fault.Fault.{Fault}
 use Rattle.warp_text.specs.declared.fault.Fault.TheVariants as faults
 use Rattle.vcd_compare.specs.declared.fault.CompareFault.{CompareFault}
 use Rattle.vcd_compare.specs.declared.report.Options.{Options as Comparing}
 use Rattle.compare_answer.specs.Answer.{IsText}
-use Rattle.warp_command.specs.Replies.{IsCompared, IsNotCompared, IsRefusal, IsUncounted}
+use Rattle.std.specs.Prelude.{Result, Ok, IfOk, IfErr}
+use Rattle.warp_text.specs.Stats.{AreCountsOf}
+use Rattle.warp_text.specs.declared.simulate.Simulated.{Simulated}
+use Rattle.warp_command.specs.declared.reply.Answer.{Answer}
+use Rattle.warp_command.specs.declared.request.Run.{Run}
+use Rattle.warp_command.specs.Replies.{IsAnswerOf, IsKept, IsSimulated, IsCompared, IsNotCompared, IsRefusal, IsUncounted}
+use Rattle.warp_command.specs.declared.request.Only.{Only}
+use Rattle.warp_command.specs.declared.request.Only.TheVariants as only
 use Rattle.warp_command.specs.declared.failure.Failure.{Failure}
 use Rattle.warp_command.specs.declared.failure.Failure.TheVariants as failures
 
@@ -25,6 +33,7 @@ refusal_of explains Is fault (failures.NotCompared other) told is = absurd told
 refusal_of explains Is fault (failures.ComparisonExplained other text) told is = absurd told
 refusal_of explains Is fault (failures.Differ text) told is = absurd told
 refusal_of explains Is fault failures.Unwritten told is = absurd told
+refusal_of explains Is fault (failures.Unkept name) told is = absurd told
 
 pub compared_of : (explains : Bool) (options : Comparing) (most : ℕ) (expected actual : List ℕ) (map : Option (List ℕ)) (fault : CompareFault) (failure : Failure)
     → IsNotCompared explains (λ told. told ≡ fault) failure → IsText options most expected actual map (Err fault)
@@ -44,6 +53,7 @@ compared_of explains options most expected actual map fault (failures.Comparison
     (told.0, subst (λ f. IsText options most expected actual map (Err f)) (sym told.1) is)
 compared_of explains options most expected actual map fault (failures.Differ text) told is = absurd told
 compared_of explains options most expected actual map fault failures.Unwritten told is = absurd told
+compared_of explains options most expected actual map fault (failures.Unkept name) told is = absurd told
 
 pub uncounted_of : (bench settings : List ℕ) (fault : Fault) → IsCounted bench settings (Err fault) → IsUncounted bench settings fault
 uncounted_of bench settings (faults.Bench fault) is = is
@@ -55,3 +65,20 @@ uncounted_of bench settings (faults.Run fault) is = is
 uncounted_of bench settings (faults.Event number cause) is = is
 uncounted_of bench settings (faults.Unfinished time) is = is
 uncounted_of bench settings faults.Memory is = tt
+
+-- memory may be wanting behind a run too
+pub memory_answers : (o : Only) (names bench settings stimulus : List ℕ) (until : ℕ) → IsAnswerOf o names bench settings stimulus until (Err faults.Memory)
+unfolding IsAnswer IsToldAnswer
+memory_answers only.All names bench settings stimulus until = tt
+memory_answers only.Outputs names bench settings stimulus until = tt
+memory_answers (only.Named name) names bench settings stimulus until = tt
+
+-- a run that went well is answered, or memory is wanting
+pub simulated_of : (run : Run) (names bench settings stimulus : List ℕ) (simulated : Simulated) (answer : Result Answer Failure)
+    → IsAnswerOf run.only names bench settings stimulus run.options.until (Ok simulated.dump) → AreCountsOf bench settings run.options.until simulated.stats
+    → IfOk answer (λ given. given.text ≡ simulated.dump) → IfOk answer (λ given. IsKept run.stats simulated.stats given.kept)
+    → IfErr answer (λ failure. failure ≡ failures.Fault faults.Memory) → IsSimulated run names bench settings stimulus answer
+simulated_of run names bench settings stimulus simulated (Ok answer) dump counts text kept fault =
+    (subst (λ shown. IsAnswerOf run.only names bench settings stimulus run.options.until (Ok shown)) (sym text) dump, (simulated.stats, counts, kept))
+simulated_of run names bench settings stimulus simulated (Err failure) dump counts text kept fault =
+    subst (λ told. IsSimulated run names bench settings stimulus (Err told)) (sym fault) (memory_answers run.only names bench settings stimulus run.options.until)

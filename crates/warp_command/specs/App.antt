@@ -41,7 +41,13 @@ settings_rule = option (codes "settings")
 abbrev pub only_rule : Rule
 only_rule = option (codes "only")
 
+abbrev pub stats_rule : Rule
+stats_rule = option (codes "stats")
+
 -- a flag, which is set or not
+abbrev pub progress_rule : Rule
+progress_rule = record (new_rule (codes "progress")) { long = Some (codes "progress"); action = Some SetTrue }
+
 abbrev pub explain_rule : Rule
 explain_rule = record (new_rule (codes "explain")) { long = Some (codes "explain"); action = Some SetTrue }
 
@@ -104,7 +110,7 @@ shape name rules = record (new_shape name) { rules = rules }
 
 abbrev pub run_shape : Shape
 run_shape = shape (codes "run")
-    (until_rule ∷ blocks_rule ∷ workers_rule ∷ window_rule ∷ settings_rule ∷ only_rule ∷ explain_rule ∷ bench_rule ∷ stimulus_rule ∷ [])
+    (until_rule ∷ blocks_rule ∷ workers_rule ∷ window_rule ∷ settings_rule ∷ only_rule ∷ stats_rule ∷ progress_rule ∷ explain_rule ∷ bench_rule ∷ stimulus_rule ∷ [])
 
 abbrev pub replay_shape : Shape
 replay_shape = shape (codes "replay")

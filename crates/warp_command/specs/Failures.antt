@@ -28,6 +28,7 @@ failure_text (failures.NotCompared fault) = compare_fault_line fault ++ 10 ∷ [
 failure_text (failures.ComparisonExplained fault text) = compare_fault_line fault ++ 10 ∷ string_bytes text
 failure_text (failures.Differ text) = codes "the dumps differ" ++ 10 ∷ []
 failure_text failures.Unwritten = codes "cannot write" ++ 10 ∷ []
+failure_text (failures.Unkept name) = codes "cannot write " ++ name.now ++ 10 ∷ []
 
 -- 2 for a refused line, 4 for a file or a write, 5 for dumps that differ, else the fault's
 abbrev pub failure_status : Failure → ℕ
@@ -44,3 +45,4 @@ failure_status (failures.NotCompared fault) = compare_fault_status fault
 failure_status (failures.ComparisonExplained fault text) = compare_fault_status fault
 failure_status (failures.Differ text) = 5
 failure_status failures.Unwritten = 4
+failure_status (failures.Unkept name) = 4

@@ -71,6 +71,8 @@ pub record IsRun (rows : Rows) (run : Run) : Type 0 where
   pub explains : IsFlag rows (codes "explain") run.explains
   pub settings : text_in rows (codes "settings") ≡ text_behind run.settings
   pub only : IsOnly rows run.only
+  pub stats : text_in rows (codes "stats") ≡ text_behind run.stats
+  pub progress : IsFlag rows (codes "progress") run.progress
   pub sources : AreSources rows run.sources
 
 pub record IsReplay (rows : Rows) (replay : Replay) : Type 0 where

@@ -1,11 +1,16 @@
 -- What a request is answered, over the texts in the order in which they are fetched.
-use Rattle.std.specs.Prelude.{◌≡◌, ℕ, List, [], Bool, true, false, Option, None, Some, Result, Ok, Err, Vec, codes, string_bytes, IsOkAnd}
+use Rattle.std.specs.Prelude.{◌≡◌, ℕ, List, [], Bool, true, false, Option, None, Some, Result, Ok, Err, Vec, codes, string_bytes, IsOkAnd, IfOk}
 use Rattle.std.specs.Borrow.{Bor}
 use Rattle.std.specs.declared.alloc.Global.{Global}
 use Rattle.warp_text.specs.Answer.{IsAnswer, IsCounted, IsListed}
 use Rattle.warp_text.specs.Replay.{IsReplay}
 use Rattle.warp_text.specs.Only.{IsToldAnswer, IsToldReplay}
 use Rattle.warp_text.specs.CountLines.{count_lines}
+use Rattle.warp_text.specs.StatLines.{stats_lines}
+use Rattle.warp_text.specs.Stats.{AreCountsOf}
+use Rattle.warp_text.specs.declared.stats.Stats.{Stats}
+use Rattle.warp_command.specs.declared.reply.Answer.{Answer}
+use Rattle.warp_command.specs.declared.reply.Kept.{Kept}
 use Rattle.warp_command.specs.Joined.{lines, before_parting, after_parting}
 use Rattle.gate_netlist.specs.declared.counts.Counts.{Counts}
 use Rattle.warp_command.specs.declared.failure.Failure.{Failure}
@@ -40,23 +45,35 @@ abbrev pub Fetching : Type 0 → Type 1
 Fetching T = T → List ℕ → Result (Vec ℕ Global) FetchFault → T → Type 0
 
 -- something is done with the texts' source, which answers and is left in a state
-abbrev pub Step : Type 0 → Type 1
-Step T = T → Reply → T → Type 0
+abbrev pub StepTo : Type 0 → Type 0 → Type 1
+StepTo A T = T → Result A Failure → T → Type 0
 
-abbrev pub Continues : {T : Type 0} → (Vec ℕ Global → Step T) → Reply → T → Reply → T → Type 0
+abbrev pub Step : Type 0 → Type 1
+Step T = StepTo (Vec ℕ Global) T
+
+abbrev pub Continues : {A T : Type 0} → (Vec ℕ Global → StepTo A T) → Reply → T → Result A Failure → T → Type 0
 Continues next (Ok text) middle result new = next text middle result new
 Continues next (Err failure) middle result new = (result ≡ Err failure) × (new ≡ middle)
 
 -- a text is had, and the next step is done with it; where there is none, that is the answer
-pub record Then {T : Type 0} (first : Step T) (next : Vec ℕ Global → Step T) (old : T) (result : Reply) (new : T) : Type 0 where
+pub record Then {A T : Type 0} (first : Step T) (next : Vec ℕ Global → StepTo A T) (old : T) (result : Result A Failure) (new : T) : Type 0 where
   pub middle : T
   pub text : Reply
   pub had : first old text middle
   pub continued : Continues next text middle result new
 
 -- the answer needs no text
-abbrev pub Ends : {T : Type 0} → (Reply → Type 0) → Step T
+abbrev pub Ends : {A T : Type 0} → (Result A Failure → Type 0) → StepTo A T
 Ends IsResult old result new = IsResult result × (new ≡ old)
+
+-- the text that is shown of an answer
+abbrev pub shown : Result Answer Failure → Reply
+shown (Ok answer) = Ok answer.text
+shown (Err failure) = Err failure
+
+-- an answer is shown alone: no text is kept
+abbrev pub Alone : {T : Type 0} → Step T → StepTo Answer T
+Alone step old result new = step old (shown result) new × IfOk result (λ answer. answer.kept ≡ None)
 
 -- the text of a name, which the program can't read or has no memory for where the fetch fails
 abbrev pub Fetches : {T : Type 0} → Fetching T → List ℕ → Step T
@@ -93,32 +110,41 @@ IsAnswerOf only.All names bench settings stimulus until result = IsAnswer bench 
 IsAnswerOf only.Outputs names bench settings stimulus until result = IsToldAnswer bench settings None stimulus until result
 IsAnswerOf (only.Named name) names bench settings stimulus until result = IsToldAnswer bench settings (Some names) stimulus until result
 
-abbrev pub IsSimulated : (explains : Bool) → Only → (names bench settings stimulus : List ℕ) (until : ℕ) → Reply → Type 0
-IsSimulated explains only names bench settings stimulus until (Ok dump) = IsAnswerOf only names bench settings stimulus until (Ok dump)
-IsSimulated explains only names bench settings stimulus until (Err failure) =
-    IsRefusal explains (λ fault. IsAnswerOf only names bench settings stimulus until (Err fault)) failure
+-- where a line names a file for it, the text of what is counted is kept under that name
+abbrev pub IsKept : Option (Bor (List ℕ)) → Stats → Option Kept → Type 0
+IsKept None stats kept = kept ≡ None
+IsKept (Some name) stats None = ⊥
+IsKept (Some name) stats (Some kept) = (kept.name.now ≡ name.now) × (kept.text.items ≡ stats_lines stats)
+
+-- the dump, and what is counted of a run that made it
+abbrev pub IsSimulated : Run → (names bench settings stimulus : List ℕ) → Result Answer Failure → Type 0
+IsSimulated run names bench settings stimulus (Ok answer) =
+    IsAnswerOf run.only names bench settings stimulus run.options.until (Ok answer.text)
+    × ((stats : Stats) × AreCountsOf bench settings run.options.until stats × IsKept run.stats stats answer.kept)
+IsSimulated run names bench settings stimulus (Err failure) =
+    IsRefusal run.explains (λ fault. IsAnswerOf run.only names bench settings stimulus run.options.until (Err fault)) failure
 
 -- standard input holds both texts
-abbrev pub RunsJoined : {T : Type 0} → Fetching T → (explains : Bool) → Only → List ℕ → ℕ → Step T
-RunsJoined gives explains only settings until =
+abbrev pub RunsJoined : {T : Type 0} → Fetching T → Run → List ℕ → StepTo Answer T
+RunsJoined gives run settings =
     Then (Fetches gives (codes "-")) (λ joined.
-    Then (FetchesOnly gives only) (λ names.
-    Ends (IsSimulated explains only names.items (before_parting (lines joined.items)) settings (after_parting (lines joined.items)) until)))
+    Then (FetchesOnly gives run.only) (λ names.
+    Ends (IsSimulated run names.items (before_parting (lines joined.items)) settings (after_parting (lines joined.items)))))
 
 -- each text has its name
-abbrev pub RunsApart : {T : Type 0} → Fetching T → (explains : Bool) → Only → (bench_name stimulus_name : List ℕ) → List ℕ → ℕ → Step T
-RunsApart gives explains only bench_name stimulus_name settings until =
+abbrev pub RunsApart : {T : Type 0} → Fetching T → Run → (bench_name stimulus_name : List ℕ) → List ℕ → StepTo Answer T
+RunsApart gives run bench_name stimulus_name settings =
     Then (Fetches gives bench_name) (λ bench.
     Then (Fetches gives stimulus_name) (λ stimulus.
-    Then (FetchesOnly gives only) (λ names.
-    Ends (IsSimulated explains only names.items bench.items settings stimulus.items until))))
+    Then (FetchesOnly gives run.only) (λ names.
+    Ends (IsSimulated run names.items bench.items settings stimulus.items))))
 
-abbrev pub RunsSources : {T : Type 0} → Fetching T → (explains : Bool) → Only → Sources → List ℕ → ℕ → Step T
-RunsSources gives explains only sources.Joined = RunsJoined gives explains only
-RunsSources gives explains only (sources.Apart bench stimulus) = RunsApart gives explains only bench.now stimulus.now
+abbrev pub RunsSources : {T : Type 0} → Fetching T → Run → Sources → List ℕ → StepTo Answer T
+RunsSources gives run sources.Joined settings = RunsJoined gives run settings
+RunsSources gives run (sources.Apart bench stimulus) settings = RunsApart gives run bench.now stimulus.now settings
 
-abbrev pub Runs : {T : Type 0} → Fetching T → Run → Step T
-Runs gives run = Then (FetchesSettings gives run.settings) (λ settings. RunsSources gives run.explains run.only run.sources settings.items run.options.until)
+abbrev pub Runs : {T : Type 0} → Fetching T → Run → StepTo Answer T
+Runs gives run = Then (FetchesSettings gives run.settings) (λ settings. RunsSources gives run run.sources settings.items)
 
 -- the answer to four texts
 abbrev pub IsReplayOf : Only → (names bench settings stimulus schedule : List ℕ) → Option ℕ → ℕ → Result (Vec ℕ Global) Fault → Type 0
@@ -205,10 +231,10 @@ Compares gives comparison =
     ComparesBy gives comparison.map comparison expected.items actual.items))
 
 -- what a request is answered
-abbrev pub Replies : {T : Type 0} → Fetching T → Request → Step T
-Replies gives (requests.Help text) = Ends (λ result. IsOkAnd result (λ shown. shown.items ≡ string_bytes text))
+abbrev pub Replies : {T : Type 0} → Fetching T → Request → StepTo Answer T
+Replies gives (requests.Help text) = Alone (Ends (λ result. IsOkAnd result (λ help. help.items ≡ string_bytes text)))
 Replies gives (requests.Run run) = Runs gives run
-Replies gives (requests.Replay replay) = Replays gives replay
-Replies gives (requests.Check check) = Checks gives check
-Replies gives (requests.Nets listing) = Lists gives listing
-Replies gives (requests.Compare comparison) = Compares gives comparison
+Replies gives (requests.Replay replay) = Alone (Replays gives replay)
+Replies gives (requests.Check check) = Alone (Checks gives check)
+Replies gives (requests.Nets listing) = Alone (Lists gives listing)
+Replies gives (requests.Compare comparison) = Alone (Compares gives comparison)

@@ -9,6 +9,8 @@ ghost use Rattle.warp_command.specs.App.{
   window_rule,
   settings_rule,
   only_rule,
+  stats_rule,
+  progress_rule,
   explain_rule,
   bench_rule,
   stimulus_rule,
@@ -58,6 +60,25 @@ fn only_option<'a>(alloc: Global) -> Arg<'a>
         .value_name("NETS")
         .action(ArgAction::Set)
         .help("Tells some nets alone: outputs, or a file of names, one a line")
+}
+
+fn stats_option<'a>(alloc: Global) -> Arg<'a>
+    ensures { HasRule stats_rule result }
+{
+    Arg::new(alloc, "stats")
+        .long("stats")
+        .value_name("FILE")
+        .action(ArgAction::Set)
+        .help("Writes after the dump what is counted of the run, as TOML")
+}
+
+fn progress_flag<'a>(alloc: Global) -> Arg<'a>
+    ensures { HasRule progress_rule result }
+{
+    Arg::new(alloc, "progress")
+        .long("progress")
+        .action(ArgAction::SetTrue)
+        .help("Tells on standard error how far the run has come")
 }
 
 fn explain_flag<'a>(alloc: Global) -> Arg<'a>
@@ -146,6 +167,8 @@ fn run_command<'a>(alloc: Global) -> Result<Command<'a>, AllocError>
         .arg(window_option(alloc))?
         .arg(settings_option(alloc))?
         .arg(only_option(alloc))?
+        .arg(stats_option(alloc))?
+        .arg(progress_flag(alloc))?
         .arg(explain_flag(alloc))?
         .arg(bench_argument(alloc, bench))?
         .arg(stimulus_argument(alloc))

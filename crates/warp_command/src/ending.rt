@@ -2,12 +2,12 @@
 ghost use Rattle.std.specs.Prelude.{◌≡◌, map};
 ghost use Rattle.warp_command.specs.Channels.{Takes};
 ghost use Rattle.warp_command.specs.Failures.{failure_status, failure_text};
-ghost use Rattle.warp_command.specs.Endings.{channels, IsShown, IsWritten, Executes, Answers};
+ghost use Rattle.warp_command.specs.Endings.{channels, IsShown, IsWritten, Keeps, IsWrittenAndKept, IsEnding, Executes, Answers};
 
 use crate::channel::Channel;
 use crate::failure::Failure;
 use crate::line::read_line;
-use crate::reply::reply_to;
+use crate::reply::{Answer, Kept, reply_to};
 use crate::request::Request;
 use crate::texts::Texts;
 use std::alloc::Global;
@@ -51,7 +51,53 @@ pub fn show<O: Channel, E: Channel>(
     }
 }
 
-/// Answers a request, and shows the answer.
+/// Keeps a text under its name.
+fn keep<T: Texts, E: Channel>(kept: &Kept<'_>, texts: &mut T, err: &mut E) -> u8
+    ensures { Keeps T.keeps kept.now texts.old texts.new result (E.held err.old) (E.held err.new) }
+{
+    match texts.keep(kept.name, kept.text.as_slice()) {
+        Ok(()) => 0,
+        Err(_) => told(&Failure::Unkept(kept.name), err),
+    }
+}
+
+/// Shows a text, and keeps another behind it.
+fn written_and_kept<T: Texts, O: Channel, E: Channel>(
+    text: &[u8],
+    kept: &Kept<'_>,
+    texts: &mut T,
+    out: &mut O,
+    err: &mut E,
+) -> u8
+    ensures { IsWrittenAndKept T.keeps text.now kept.now texts.old texts.new result
+        (channels (O.held out.old) (E.held err.old)) (channels (O.held out.new) (E.held err.new)) }
+{
+    match out.put(text) {
+        Ok(()) => keep(kept, texts, err),
+        Err(_) => told(&Failure::Unwritten, err),
+    }
+}
+
+/// Shows what a request is answered, and keeps what is to be kept.
+fn end<T: Texts, O: Channel, E: Channel>(
+    reply: Result<Answer<'_>, Failure<'_>>,
+    texts: &mut T,
+    out: &mut O,
+    err: &mut E,
+) -> u8
+    ensures { IsEnding T.keeps reply.entry texts.old texts.new result
+        (channels (O.held out.old) (E.held err.old)) (channels (O.held out.new) (E.held err.new)) }
+{
+    match reply {
+        Ok(Answer { text, kept }) => match kept {
+            None => written(text.as_slice(), 0, out, err),
+            Some(kept) => written_and_kept(text.as_slice(), &kept, texts, out, err),
+        },
+        Err(failure) => show(&Err(failure), out, err),
+    }
+}
+
+/// Answers a request, shows the answer, and keeps what it has to be kept.
 pub fn execute<R: Threads + Wait + Sync, T: Texts, O: Channel, E: Channel>(
     rt: &R,
     alloc: Global,
@@ -60,16 +106,16 @@ pub fn execute<R: Threads + Wait + Sync, T: Texts, O: Channel, E: Channel>(
     out: &mut O,
     err: &mut E,
 ) -> u8
-    ensures { Executes T.gives request.entry texts.old texts.new result
+    ensures { Executes T.gives T.keeps request.entry texts.old texts.new result
         (channels (O.held out.old) (E.held err.old)) (channels (O.held out.new) (E.held err.new)) }
 {
     let reply = reply_to(rt, alloc, request, texts);
-    show(&reply, out, err)
+    end(reply, texts, out, err)
 }
 
 /// Runs the program on the words of a command line, its own name first, and answers its exit
 /// status: 0; 1 for a refused text; 2 for a refused line; 3 for a refused run and for want of memory; 4 where a text
-/// can't be read or `out` fails; 5 for dumps that differ. What goes wrong is told on `err`; where that fails too, the
+/// can't be read, `out` fails or a file can't be written; 5 for dumps that differ. What goes wrong is told on `err`; where that fails too, the
 /// status stays.
 pub fn program<R: Threads + Wait + Sync, S: AsStr, T: Texts, O: Channel, E: Channel>(
     rt: &R,
@@ -79,7 +125,7 @@ pub fn program<R: Threads + Wait + Sync, S: AsStr, T: Texts, O: Channel, E: Chan
     out: &mut O,
     err: &mut E,
 ) -> u8
-    ensures { Answers T.gives (map S.text words.entry.now) texts.old texts.new result
+    ensures { Answers T.gives T.keeps (map S.text words.entry.now) texts.old texts.new result
         (channels (O.held out.old) (E.held err.old)) (channels (O.held out.new) (E.held err.new)) }
 {
     match read_line(alloc, words) {

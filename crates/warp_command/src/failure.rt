@@ -65,6 +65,8 @@ pub enum Failure<'a> {
     Differ(Vec<u8>),
     /// Standard output doesn't take what is written.
     Unwritten,
+    /// The file of this name doesn't take what is written.
+    Unkept(&'a str),
 }
 
 impl Failure<'_> {
@@ -76,7 +78,7 @@ impl Failure<'_> {
             Failure::Line(_) | Failure::NotText | Failure::Incomplete => 2,
             Failure::StimulusExpected | Failure::StimulusNotExpected => 2,
             Failure::Expected(_) => 2,
-            Failure::Unreadable(_) | Failure::Unwritten => 4,
+            Failure::Unreadable(_) | Failure::Unwritten | Failure::Unkept(_) => 4,
             Failure::Fault(fault) | Failure::Explained { fault, .. } => fault.status(),
             Failure::NotCompared(fault) | Failure::ComparisonExplained { fault, .. } => {
                 fault.status()
@@ -108,6 +110,7 @@ impl fmt::Display for Failure<'_> {
             Failure::ComparisonExplained { fault, text } => write!(f, "{fault}\n{text}"),
             Failure::Differ(_) => f.write_str("the dumps differ\n"),
             Failure::Unwritten => f.write_str("cannot write\n"),
+            Failure::Unkept(name) => write!(f, "cannot write {name}\n"),
         }
     }
 }

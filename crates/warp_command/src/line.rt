@@ -85,6 +85,21 @@ pub(crate) fn explains_of(found: &ArgMatches<'_>) -> bool
     found.get_flag("explain")
 }
 
+/// Whether how far a run has come is to be told.
+#[tactic(auto, using(crate::proofs::Lines::flag_read))]
+fn progress_of(found: &ArgMatches<'_>) -> bool
+    ensures { IsFlag (rows_in found.now) (codes "progress") result }
+{
+    found.get_flag("progress")
+}
+
+/// The name of the file for what is counted of a run, where the line gives one.
+fn stats_of<'a>(found: &ArgMatches<'a>) -> Option<&'a str>
+    ensures { text_in (rows_in found.now) (codes "stats") ≡ text_behind result }
+{
+    text_of(found, "stats")
+}
+
 /// The name of the settings' text, where the line gives one.
 fn settings_of<'a>(found: &ArgMatches<'a>) -> Option<&'a str>
     ensures { text_in (rows_in found.now) (codes "settings") ≡ text_behind result }
@@ -150,12 +165,16 @@ fn run_of<'a>(found: &ArgMatches<'a>) -> Result<Run<'a>, Failure<'a>>
     let explains = explains_of(found);
     let settings = settings_of(found);
     let only = only_of(found);
+    let stats = stats_of(found);
+    let progress = progress_of(found);
     let sources = sources_of(found)?;
     Ok(Run {
         options,
         explains,
         settings,
         only,
+        stats,
+        progress,
         sources,
     })
 }

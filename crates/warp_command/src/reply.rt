@@ -1,12 +1,17 @@
 //! What a request is answered.
-ghost use Rattle.std.specs.Prelude.{◌≡◌, ◌≤◌, codes, true, false, None, option_map};
+ghost use Rattle.std.specs.Prelude.{◌≡◌, ◌≤◌, None, IfOk, IfErr, codes, true, false, option_map};
+ghost use Rattle.warp_text.specs.Stats.{dumped, AreCountsOf};
+ghost use Rattle.warp_text.specs.declared.fault.Fault.TheVariants as faults;
+ghost use Rattle.warp_command.specs.declared.failure.Failure.TheVariants as failures;
 ghost use Rattle.vcd_compare.specs.Times.{Moves};
 ghost use Rattle.warp_command.specs.Replies.{
   Fetches,
   FetchesSettings,
   FetchesOnly,
   IsAnswerOf,
+  IsKept,
   IsSimulated,
+  shown,
   RunsJoined,
   RunsApart,
   RunsSources,
@@ -30,21 +35,47 @@ ghost use Rattle.warp_command.specs.Replies.{
 use crate::explained::{Given, at_end, nothing, refused, whole};
 use crate::failure::Failure;
 use crate::joined::split_joined;
+use crate::progress::Progress;
 use crate::request::{Check, Comparison, Listing, Only, Replay, Request, Run, Sources};
 use crate::texts::{FetchFault, Texts};
 use crate::uncompared::not_compared;
 use compare_answer::compare_text;
-use std::alloc::Global;
+use std::alloc::{AllocError, Global};
 use std::sync::Wait;
 use std::thread::Threads;
 use text_places::Source;
 use vcd_compare::Options as Comparing;
 use warp_explain::Compared;
-use warp_rounds::NoGate;
+use warp_rounds::{NoGate, Watch};
 use warp_text::{
-    Fault, Options, count_text, counts_of_texts, nets_of_texts, replay_text, replay_told,
-    simulate_text, simulate_told,
+    Fault, Options, Simulated, Stats, count_text, counts_of_texts, nets_of_texts, replay_text,
+    replay_told, simulate_told_watched, simulate_watched, stats_text,
 };
+
+/// What a request is answered: a text to show, and where there is one, a text to keep behind that.
+#[derive(Debug, Drop)]
+pub struct Answer<'a> {
+    pub text: Vec<u8>,
+    pub kept: Option<Kept<'a>>,
+}
+
+/// A text that is kept under a name.
+#[derive(Debug, Drop)]
+pub struct Kept<'a> {
+    pub name: &'a str,
+    pub text: Vec<u8>,
+}
+
+/// An answer that is shown alone.
+fn alone<'a>(reply: Result<Vec<u8>, Failure<'a>>) -> Result<Answer<'a>, Failure<'a>>
+    ensures shown { shown result ≡ reply.entry }
+    ensures kept { IfOk result (λ answer. answer.kept ≡ None) }
+{
+    match reply {
+        Ok(text) => Ok(Answer { text, kept: None }),
+        Err(failure) => Err(failure),
+    }
+}
 
 fn fetch<'a, T: Texts>(alloc: Global, name: &'a str, texts: &mut T) -> Result<Vec<u8>, Failure<'a>>
     ensures { Fetches T.gives name.entry.now texts.old result texts.new }
@@ -92,45 +123,100 @@ fn only_name<'a>(only: Only<'a>) -> &'a str {
 }
 
 /// What is answered to the texts of a run.
-fn answer_to<R: Threads + Wait + Sync>(
+fn answer_to<R: Threads + Wait + Sync, W: Watch>(
     rt: &R,
     alloc: Global,
     given: &Given<'_>,
     only: Only<'_>,
     options: &Options,
-) -> Result<Vec<u8>, Fault>
-    ensures { IsAnswerOf only.entry given.now.only.text.now given.now.bench.text.now given.now.settings.text.now given.now.stimulus.text.now
-        options.now.until result }
+    watch: &mut W,
+) -> Result<Simulated, Fault>
+    ensures dump { IsAnswerOf only.entry given.now.only.text.now given.now.bench.text.now given.now.settings.text.now given.now.stimulus.text.now
+        options.now.until (dumped result) }
+    ensures counts { IfOk result (λ simulated. AreCountsOf given.now.bench.text.now given.now.settings.text.now options.now.until simulated.stats) }
 {
     let bench = given.bench.text;
     let settings = given.settings.text;
     let stimulus = given.stimulus.text;
     match only {
-        Only::All => simulate_text(rt, alloc, bench, settings, stimulus, options, &NoGate),
-        Only::Outputs => {
-            simulate_told(rt, alloc, bench, settings, None, stimulus, options, &NoGate)
-        }
+        Only::All => simulate_watched(
+            rt, alloc, bench, settings, stimulus, options, &NoGate, watch,
+        ),
+        Only::Outputs => simulate_told_watched(
+            rt, alloc, bench, settings, None, stimulus, options, &NoGate, watch,
+        ),
         Only::Named(_) => {
             let names = Some(given.only.text);
-            simulate_told(
-                rt, alloc, bench, settings, names, stimulus, options, &NoGate,
+            simulate_told_watched(
+                rt, alloc, bench, settings, names, stimulus, options, &NoGate, watch,
             )
         }
     }
 }
 
-#[tactic(auto, using(crate::proofs::Refused::refusal_of))]
-fn simulated<'a, R: Threads + Wait + Sync>(
+/// What is told of a run to whom it is answered.
+fn watched<R: Threads + Wait + Sync, T: Texts>(
     rt: &R,
     alloc: Global,
     given: &Given<'_>,
     run: &Run<'_>,
-) -> Result<Vec<u8>, Failure<'a>>
-    ensures { IsSimulated run.now.explains run.now.only given.now.only.text.now given.now.bench.text.now given.now.settings.text.now
-        given.now.stimulus.text.now run.now.options.until result }
+    texts: &T,
+) -> Result<Simulated, Fault>
+    ensures dump { IsAnswerOf run.now.only given.now.only.text.now given.now.bench.text.now given.now.settings.text.now given.now.stimulus.text.now
+        run.now.options.until (dumped result) }
+    ensures counts { IfOk result (λ simulated. AreCountsOf given.now.bench.text.now given.now.settings.text.now run.now.options.until simulated.stats) }
 {
-    match answer_to(rt, alloc, given, run.only, &run.options) {
-        Ok(dump) => Ok(dump),
+    let mut progress = Progress::new(texts, run.options.until(), run.progress);
+    let answer = answer_to(rt, alloc, given, run.only, &run.options, &mut progress);
+    progress.end();
+    answer
+}
+
+/// What is counted of a run, to be kept under a name, where there is one.
+fn kept_of<'a>(
+    alloc: Global,
+    name: Option<&'a str>,
+    stats: &Stats,
+) -> Result<Option<Kept<'a>>, AllocError>
+    ensures { IfOk result (IsKept name.entry stats.now) }
+{
+    match name {
+        None => Ok(None),
+        Some(name) => Ok(Some(Kept {
+            name,
+            text: stats_text(alloc, stats)?,
+        })),
+    }
+}
+
+/// What a run is answered that went well.
+fn answer_of<'a>(
+    alloc: Global,
+    name: Option<&'a str>,
+    simulated: Simulated,
+) -> Result<Answer<'a>, Failure<'a>>
+    ensures text { IfOk result (λ answer. answer.text ≡ simulated.dump) }
+    ensures kept { IfOk result (λ answer. IsKept name.entry simulated.stats answer.kept) }
+    ensures fault { IfErr result (λ failure. failure ≡ failures.Fault faults.Memory) }
+{
+    let Simulated { dump, stats } = simulated;
+    match kept_of(alloc, name, &stats) {
+        Ok(kept) => Ok(Answer { text: dump, kept }),
+        Err(_) => Err(Failure::Fault(Fault::Memory)),
+    }
+}
+
+fn simulated<'a, R: Threads + Wait + Sync, T: Texts>(
+    rt: &R,
+    alloc: Global,
+    given: &Given<'_>,
+    run: &Run<'a>,
+    texts: &T,
+) -> Result<Answer<'a>, Failure<'a>>
+    ensures { IsSimulated run.now given.now.only.text.now given.now.bench.text.now given.now.settings.text.now given.now.stimulus.text.now result }
+{
+    match watched(rt, alloc, given, run, texts) {
+        Ok(simulated) => answer_of(alloc, run.stats, simulated),
         Err(fault) => Err(refused(alloc, run.explains, given, fault)),
     }
 }
@@ -141,8 +227,8 @@ fn run_joined<'a, R: Threads + Wait + Sync, T: Texts>(
     settings: &Source<'_>,
     run: &Run<'a>,
     texts: &mut T,
-) -> Result<Vec<u8>, Failure<'a>>
-    ensures { RunsJoined T.gives run.now.explains run.now.only settings.now.text.now run.now.options.until texts.old result texts.new }
+) -> Result<Answer<'a>, Failure<'a>>
+    ensures { RunsJoined T.gives run.now settings.now.text.now texts.old result texts.new }
 {
     let joined = fetch(alloc, "-", texts)?;
     let names = fetch_only(alloc, run.only, texts)?;
@@ -154,7 +240,7 @@ fn run_joined<'a, R: Threads + Wait + Sync, T: Texts>(
         schedule: nothing(),
         only: whole(only_name(run.only), names.as_slice()),
     };
-    simulated(rt, alloc, &given, run)
+    simulated(rt, alloc, &given, run, texts)
 }
 
 fn run_apart<'a, R: Threads + Wait + Sync, T: Texts>(
@@ -165,9 +251,8 @@ fn run_apart<'a, R: Threads + Wait + Sync, T: Texts>(
     settings: &Source<'_>,
     run: &Run<'a>,
     texts: &mut T,
-) -> Result<Vec<u8>, Failure<'a>>
-    ensures { RunsApart T.gives run.now.explains run.now.only bench.entry.now stimulus.entry.now settings.now.text.now run.now.options.until
-        texts.old result texts.new }
+) -> Result<Answer<'a>, Failure<'a>>
+    ensures { RunsApart T.gives run.now bench.entry.now stimulus.entry.now settings.now.text.now texts.old result texts.new }
 {
     let bench_text = fetch(alloc, bench, texts)?;
     let stimulus_text = fetch(alloc, stimulus, texts)?;
@@ -179,7 +264,7 @@ fn run_apart<'a, R: Threads + Wait + Sync, T: Texts>(
         schedule: nothing(),
         only: whole(only_name(run.only), names.as_slice()),
     };
-    simulated(rt, alloc, &given, run)
+    simulated(rt, alloc, &given, run, texts)
 }
 
 fn run_sources<'a, R: Threads + Wait + Sync, T: Texts>(
@@ -188,8 +273,8 @@ fn run_sources<'a, R: Threads + Wait + Sync, T: Texts>(
     settings: &Source<'_>,
     run: &Run<'a>,
     texts: &mut T,
-) -> Result<Vec<u8>, Failure<'a>>
-    ensures { RunsSources T.gives run.now.explains run.now.only run.now.sources settings.now.text.now run.now.options.until texts.old result texts.new }
+) -> Result<Answer<'a>, Failure<'a>>
+    ensures { RunsSources T.gives run.now run.now.sources settings.now.text.now texts.old result texts.new }
 {
     match run.sources {
         Sources::Joined => run_joined(rt, alloc, settings, run, texts),
@@ -209,7 +294,7 @@ fn reply_to_run<'a, R: Threads + Wait + Sync, T: Texts>(
     alloc: Global,
     run: Run<'a>,
     texts: &mut T,
-) -> Result<Vec<u8>, Failure<'a>>
+) -> Result<Answer<'a>, Failure<'a>>
     ensures { Runs T.gives run.entry texts.old result texts.new }
 {
     let settings = fetch_settings(alloc, run.settings, texts)?;
@@ -503,7 +588,7 @@ fn reply_to_compare<'a, T: Texts>(
     compared_by(alloc, &comparison, &expected, &actual, texts)
 }
 
-/// What a request is answered: the text to show, or why there is none. The texts that it names
+/// What a request is answered: the text to show, and what is to be kept behind it, or why there is none. The texts that it names
 /// are fetched first, the settings before the bench before the stimulus before the schedule before the names of nets;
 /// of a comparison the dump that is expected before the other one before the map.
 pub fn reply_to<'a, R: Threads + Wait + Sync, T: Texts>(
@@ -511,15 +596,15 @@ pub fn reply_to<'a, R: Threads + Wait + Sync, T: Texts>(
     alloc: Global,
     request: Request<'a>,
     texts: &mut T,
-) -> Result<Vec<u8>, Failure<'a>>
+) -> Result<Answer<'a>, Failure<'a>>
     ensures { Replies T.gives request.entry texts.old result texts.new }
 {
     match request {
-        Request::Help(text) => Ok(text.into_bytes()),
+        Request::Help(text) => alone(Ok(text.into_bytes())),
         Request::Run(run) => reply_to_run(rt, alloc, run, texts),
-        Request::Replay(replay) => reply_to_replay(alloc, replay, texts),
-        Request::Check(check) => reply_to_check(alloc, check, texts),
-        Request::Nets(listing) => reply_to_nets(alloc, listing, texts),
-        Request::Compare(comparison) => reply_to_compare(alloc, comparison, texts),
+        Request::Replay(replay) => alone(reply_to_replay(alloc, replay, texts)),
+        Request::Check(check) => alone(reply_to_check(alloc, check, texts)),
+        Request::Nets(listing) => alone(reply_to_nets(alloc, listing, texts)),
+        Request::Compare(comparison) => alone(reply_to_compare(alloc, comparison, texts)),
     }
 }

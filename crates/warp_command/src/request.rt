@@ -31,6 +31,10 @@ pub struct Run<'a> {
     pub explains: bool,
     pub settings: Option<&'a str>,
     pub only: Only<'a>,
+    /// The name of the file that is to get what is counted of the run.
+    pub stats: Option<&'a str>,
+    /// Whether to tell how far the run has come.
+    pub progress: bool,
     pub sources: Sources<'a>,
 }
 

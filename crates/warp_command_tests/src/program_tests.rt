@@ -168,6 +168,7 @@ fn status_of<R: Threads + Wait + Sync>(
     let mut shelf = Shelf {
         texts: &[],
         asked: String::new(alloc),
+        kept: Vec::new(alloc),
     };
     program(rt, alloc, words, &mut shelf, out, err)
 }

@@ -1,6 +1,6 @@
 use crate::plain;
 use crate::s27_tests::{S27, STIMULUS};
-use crate::told::{assert_dumped, named};
+use crate::told::{assert_dumped, named, tell};
 use std::alloc::Global;
 use std::process::Abort;
 use std::sync::Wait;
@@ -74,5 +74,25 @@ fn runs_dump_the_values_of_the_definition(rt: HostRuntime) -> Result<(), Fail> {
         let texts = named(bench, settings, stimulus);
         assert_ways(&rt, alloc, &texts, *until, dump.as_slice())?;
     }
+    Ok(())
+}
+
+/// One gate in one block, which moves at 0 and 5.
+#[test]
+fn what_is_counted_is_kept_behind_the_dump(rt: HostRuntime) -> Result<(), Fail> {
+    let stimulus = "$var wire 1 a A $end $enddefinitions $end #0 0a #5 1a";
+    let texts = named("INPUT(A)\nY = NOT(A)\n", "", stimulus);
+    let plain = tell(&rt, rt.alloc(), "warp_sim run --until 10 b v", &texts)?;
+    let line = "warp_sim run --until 10 --progress --stats c b v";
+    let kept = tell(&rt, rt.alloc(), line, &texts)?;
+    assert_eq!(rt; (kept.status, kept.err.len()), (0, 0));
+    assert!(rt; kept.out.as_slice() == plain.out.as_slice());
+    let counts = b"rounds = 1\nturns = 1\nsteps = 2\nundone = 0\n".as_slice();
+    assert!(rt; kept.kept.as_slice().starts_with(counts));
+    let line = "warp_sim run --until 10 --stats full b v";
+    let full = tell(&rt, rt.alloc(), line, &texts)?;
+    assert_eq!(rt; full.status, 4);
+    assert_eq!(rt; full.err.as_slice(), b"cannot write full\n".as_slice());
+    assert!(rt; full.out.as_slice() == plain.out.as_slice());
     Ok(())
 }

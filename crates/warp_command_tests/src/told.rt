@@ -6,7 +6,7 @@ use std::process::Abort;
 use std::sync::Wait;
 use std::test::Fail;
 use std::thread::Threads;
-use warp_command::{FetchFault, Stream, Texts, program};
+use warp_command::{FetchFault, Stream, Texts, Unwritten, program};
 
 /// Texts by name; `full` has no memory left, and all other names are unreadable.
 #[derive(Drop)]
@@ -14,6 +14,8 @@ pub struct Shelf<'a> {
     pub texts: &'a [(&'a str, &'a [u8])],
     /// The names that were asked for, each with a blank after it.
     pub asked: String,
+    /// The texts that were kept.
+    pub kept: Vec<u8>,
 }
 
 impl Texts for Shelf<'_> {
@@ -28,6 +30,17 @@ impl Texts for Shelf<'_> {
         }
         Err(FetchFault::Unreadable)
     }
+
+    fn keep(&mut self, name: &str, text: &[u8]) -> Result<(), Unwritten> {
+        if name == "full" || self.kept.extend_from_slice(text).is_err() {
+            return Err(Unwritten);
+        }
+        Ok(())
+    }
+
+    fn come_to(&self, _time: u64, _until: u64) {}
+
+    fn arrive(&self) {}
 }
 
 /// A bench, its settings and its stimulus, as `b`, `s` and `v`.
@@ -75,6 +88,7 @@ pub struct Told {
     pub out: Vec<u8>,
     pub err: Vec<u8>,
     pub asked: String,
+    pub kept: Vec<u8>,
 }
 
 impl Told {
@@ -102,6 +116,7 @@ pub fn tell<R: Threads + Wait + Sync>(
     let mut shelf = Shelf {
         texts,
         asked: String::new(alloc),
+        kept: Vec::new(alloc),
     };
     let mut out = Stream::new(Vec::new(alloc));
     let mut err = Stream::new(Vec::new(alloc));
@@ -111,6 +126,7 @@ pub fn tell<R: Threads + Wait + Sync>(
         out: out.into_writer(),
         err: err.into_writer(),
         asked: shelf.asked,
+        kept: shelf.kept,
     })
 }
 

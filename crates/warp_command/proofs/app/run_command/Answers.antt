@@ -7,6 +7,8 @@ use Rattle.warp_command.proofs.app.run_command.Goals as goal
 
 pub returns : goal.returns
 returns c =
+    let named = c.new.ensures in
+    let about = c.about.ensures in
     let begun : HasApp (new_app (codes "run")) c.about.result = search rules in
     let until = with_arg _ _ _ _ _ begun c.until_option.ensures c.in_ok-arg.ensures in
     let blocks = with_arg _ _ _ _ _ until c.blocks_option.ensures c.in_ok-arg-2.ensures in
@@ -14,6 +16,8 @@ returns c =
     let window = with_arg _ _ _ _ _ workers c.window_option.ensures c.in_ok-arg-4.ensures in
     let settings = with_arg _ _ _ _ _ window c.settings_option.ensures c.in_ok-arg-5.ensures in
     let only = with_arg _ _ _ _ _ settings c.only_option.ensures c.in_ok-arg-6.ensures in
-    let explain = with_arg _ _ _ _ _ only c.explain_flag.ensures c.in_ok-arg-7.ensures in
-    let bench = with_arg _ _ _ _ _ explain c.bench_argument.ensures c.in_ok-arg-8.ensures in
-    IfOk-weaker c.arg-9.result _ _ (λ made adds. with_arg _ _ _ made _ bench c.stimulus_argument.ensures adds) c.arg-9.ensures
+    let stats = with_arg _ _ _ _ _ only c.stats_option.ensures c.in_ok-arg-7.ensures in
+    let progress = with_arg _ _ _ _ _ stats c.progress_flag.ensures c.in_ok-arg-8.ensures in
+    let explain = with_arg _ _ _ _ _ progress c.explain_flag.ensures c.in_ok-arg-9.ensures in
+    let bench = with_arg _ _ _ _ _ explain c.bench_argument.ensures c.in_ok-arg-10.ensures in
+    IfOk-weaker c.arg-11.result _ _ (λ made adds. with_arg _ _ _ made _ bench c.stimulus_argument.ensures adds) c.arg-11.ensures
