@@ -33,6 +33,8 @@ pub struct Part {
     told: Vec<Span>,
     readers: Vec<u32>,
     used: Vec<bool>,
+    // where nets of other blocks may stand, by the last bits of their numbers
+    index: Vec<u32>,
 }
 
 impl Model for Part {
@@ -63,6 +65,7 @@ impl Part {
         let cells = build::cells_of(alloc, circuit, cut, block, &nets, &mut pins)?;
         let mut readers = Vec::new(alloc);
         let told = readers::readers_of(alloc, circuit, cut, block, &nets, &mut readers)?;
+        let index = slots::index_of(alloc, &nets, &cells)?;
         Ok(Part {
             block,
             nets,
@@ -71,6 +74,7 @@ impl Part {
             told,
             readers,
             used,
+            index,
         })
     }
 
@@ -204,7 +208,7 @@ impl Part {
     pub fn hearing(&self, net: u32) -> Option<usize>
         ensures { result ≡ (if hears self.now net then slot_of self.now.nets net else None) }
     {
-        match self.slot(net) {
+        match slots::slot_through(&self.index, &self.nets, net) {
             Some(slot) if matches!(self.cells[slot], Cell::Foreign) => Some(slot),
             _ => None,
         }
@@ -223,6 +227,7 @@ impl Part {
             told: Vec::from_slice(alloc, &self.told)?,
             readers: Vec::from_slice(alloc, &self.readers)?,
             used: Vec::from_slice(alloc, &self.used)?,
+            index: Vec::from_slice(alloc, &self.index)?,
         })
     }
 }

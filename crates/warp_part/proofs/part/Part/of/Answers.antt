@@ -25,6 +25,7 @@ returns c =
       told = c.in_ok-told.told;
       readers = c.readers_of.new.all;
       used = c.nets_of.new.used;
+      index = c.in_ok-index.index;
     } in
     built c.args.circuit.now c.args.cut.now c.args.block part (record {
       number = refl;
