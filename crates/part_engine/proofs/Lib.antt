@@ -1,6 +1,7 @@
 -- What sets places (`Sources`, `Uses`), their queues and an engine that is new (`Queueing`, `Opened`), its lists and moments (`RunLogs`, `GoingOn`), when
 -- something happens next (`Kept`, `Firsts`, `NextTimes`, `Soonest`), and what is brought (`Heeding`, `Gathering`, `Bringing`).
 pub mod Kept
+pub mod Rowing
 pub mod RunLogs
 pub mod Sources
 pub mod Uses

@@ -6,12 +6,12 @@ ghost use Rattle.warp_part.specs.Placing.{place_source, place_given};
 ghost use Rattle.warp_process.specs.Played.{played_view};
 ghost use Rattle.warp_process.specs.View.{given_by, is_busy};
 ghost use Rattle.part_engine.specs.Runs.{IsEngine};
-ghost use Rattle.part_engine.specs.Inner.Bringing.{heard_move};
+ghost use Rattle.part_engine.specs.Inner.Bringing.{standing_move};
 
 use crate::moves;
 use std::alloc::AllocError;
 use warp_engine::Engine;
-use warp_process::Heard;
+use warp_process::{Heard, Placed};
 use warp_stores::Word;
 
 /// Puts into a list, in place of what it had, the words that are brought to an engine at a time by what a block has received:
@@ -32,8 +32,7 @@ pub fn bring(
     ensures { OnOk result (IsBrought (place_source heard.now.part) (place_given heard.now.part (given_by heard.now)) engine.now.book.mark time words.new.items) }
 {
     moves::begin(heard.part(), time, words)?;
-    let places = heard.places(time)?;
-    push_heard(heard, engine, places.as_slice(), time, words)
+    push_row(heard, engine, heard.row(time), words)
 }
 
 /// The same for time 0, where nothing happens at it: what flip-flops begin with that no gate reads. An error is a refused growth.
@@ -47,39 +46,38 @@ pub fn bring_first(heard: &Heard, engine: &Engine, words: &mut Vec<Word>) -> Res
     moves::begin(heard.part(), 0, words)
 }
 
-/// Puts behind words what each of some places takes at a time, where that is another value than it has.
-fn push_heard(
+/// Puts behind words what each place of a row takes, where that is another value than it has.
+fn push_row(
     heard: &Heard,
     engine: &Engine,
-    places: &[u32],
-    time: u64,
+    row: &[Placed],
     words: &mut Vec<Word>,
 ) -> Result<(), AllocError>
     requires engine { IsEngine heard.now engine.now }
-    requires within { All (λ i. i < length heard.now.part.nets) places.now }
-    ensures { OnOk result (words.new.items ≡ words.old.items ++ flat_map (heard_move heard.now engine.now.book.gates.values time) places.now) }
+    requires within { All (λ s. s.place < length heard.now.part.nets) row.now }
+    ensures { OnOk result (words.new.items ≡ words.old.items ++ flat_map (standing_move engine.now.book.gates.values) row.now) }
 {
-    for place in places {
-        push_place(heard, engine, *place, time, words)?;
+    for placed in row {
+        push_placed(heard, engine, placed, words)?;
     }
     Ok(())
 }
 
-/// Puts behind words what a place takes at a time, where that is another value than it has.
-fn push_place(
+/// Puts behind words what a place takes, where that is another value than it has.
+fn push_placed(
     heard: &Heard,
     engine: &Engine,
-    place: u32,
-    time: u64,
+    placed: &Placed,
     words: &mut Vec<Word>,
 ) -> Result<(), AllocError>
     requires engine { IsEngine heard.now engine.now }
-    requires within { place < length heard.now.part.nets }
-    ensures { OnOk result (words.new.items ≡ words.old.items ++ heard_move heard.now engine.now.book.gates.values time place) }
+    requires within { placed.now.place < length heard.now.part.nets }
+    ensures { OnOk result (words.new.items ≡ words.old.items ++ standing_move engine.now.book.gates.values placed.now) }
 {
     heard.law();
+    let place = placed.place();
     let value = engine.value(place);
-    match heard.effective(place as usize, time) {
+    match placed.effective() {
         Some(next) => moves::push_move(words, place, value, next),
         None => Ok(()),
     }

@@ -1,19 +1,18 @@
-ghost use Rattle.std.specs.Prelude.{◌≡◌, ◌≢◌, ◌+◌, ◌++◌, ◌-◌, ◌≤◌, ◌<◌, ◌↔◌, ◌⊎◌, ℕ, false, vec_len, List, IsTrue, IfOk, IfErr, OnOk, OnErr, Some, None};
-ghost use Rattle.std.specs.List.{All, AllPairs};
-ghost use Rattle.gate_values.specs.Changes.{pair_at};
+ghost use Rattle.std.specs.Prelude.{◌≡◌, ◌≢◌, ◌+◌, ◌++◌, ◌-◌, ◌≤◌, ◌<◌, ◌↔◌, ◌⊎◌, ℕ, [], false, length, get_or, slice_index, vec_len, List, IsTrue, IfSome, IfNone, IfOk, IfErr, OnOk, OnErr, Some, None};
+ghost use Rattle.std.specs.List.{All};
 ghost use Rattle.gate_vcd.specs.Waves.{lists_in, wave_of};
 ghost use Rattle.warp_part.specs.Portion.{owns};
 ghost use Rattle.warp_process.specs.Limits.{most_horizon};
 ghost use Rattle.warp_process.specs.declared.message.Sign.TheVariants.{Plus, Minus};
-ghost use Rattle.warp_process.specs.Entries.{no_messages, one_message, is_settled};
-ghost use Rattle.warp_process.specs.View.{IsLeast, IsEventTime, IsDone, busy_times, entry_of, effective_at, log_of};
+ghost use Rattle.warp_process.specs.Entries.{no_messages};
+ghost use Rattle.warp_process.specs.View.{IsLeast, IsEventTime, IsDone, busy_times, entry_of, log_of};
 ghost use Rattle.warp_process.specs.Lawful.{IsLawfulProcess};
 ghost use Rattle.warp_process.specs.Opening.{silent_view, opening_view, opening_messages};
 ghost use Rattle.warp_process.specs.declared.message.Message.{Message};
 ghost use Rattle.warp_process.specs.Receive.{refusal_of, IsRefusal, IsTaken};
-ghost use Rattle.warp_process.specs.Inner.Receive.{IsAdmitted};
+ghost use Rattle.warp_process.specs.Heard.{IsToldOf};
 ghost use Rattle.warp_process.specs.Advance.{IsAdvanced, IsAfterEvent};
-ghost use Rattle.warp_process.specs.Commit.{IsCommittable, IsCommitted, IsCommitRefusal};
+ghost use Rattle.warp_process.specs.Commit.{IsCommittable, IsCommitted, IsCommitRefusal, IsUnsettledBelow, IsFirstUnsettled};
 ghost use Rattle.warp_process.specs.Sends.{SendsOnce};
 
 use crate::give::give;
@@ -111,12 +110,21 @@ impl Block {
         ensures err { OnErr result (self.new ≡ self.old) }
         ensures untold { OnErr result (out.new.items ≡ out.old.items) }
     {
-        if message.time >= self.engine.mark() {
-            if let Some(slot) = self.heard.first_place(message) {
-                self.take_first(slot, message)?;
-                return Ok(());
-            }
+        if self.take_first(message)? {
+            return Ok(());
         }
+        self.take(message, out)
+    }
+
+    /// Takes one message, or antimessage, of any kind, as [`Block::receive`] does.
+    fn take(&mut self, message: Message, out: &mut Vec<Message>) -> Result<(), BlockFault>
+        ensures accepted { OnOk result (refusal_of self.old.seen message ≡ None) }
+        ensures taken { OnOk result (IsTaken self.old.seen self.new.seen message) }
+        ensures sends { OnOk result (SendsOnce self.old.seen self.new.seen Minus (λ t. message.time < t) out.old.items out.new.items) }
+        ensures refused { IfErr result (IsRefusal (refusal_of self.old.seen message)) }
+        ensures err { OnErr result (self.new ≡ self.old) }
+        ensures untold { OnErr result (out.new.items ≡ out.old.items) }
+    {
         let (slot, entry) = self.heard.admit(message)?;
         if is_late(&self.heard, &self.engine, slot, message.time, entry) {
             roll_back(
@@ -136,22 +144,25 @@ impl Block {
         Ok(())
     }
 
-    /// Takes a message that is the first of its net and time, and for what isn't processed. An error is a refused growth; then
-    /// nothing has changed.
-    fn take_first(&mut self, slot: usize, message: Message) -> Result<(), BlockFault>
-        requires admitted { IsAdmitted self.old.seen message slot (one_message message.value) }
-        requires first { entry_of self.old.seen message.net message.time ≡ no_messages }
-        requires ahead { self.old.seen.mark ≤ message.time }
-        ensures accepted { OnOk result (refusal_of self.old.seen message ≡ None) }
-        ensures taken { OnOk result (IsTaken self.old.seen self.new.seen message) }
-        ensures sends { OnOk result ((out : List Message) → SendsOnce self.old.seen self.new.seen Minus (λ t. message.time < t) out out) }
+    /// Takes a message that is the first of its net and time, and for what isn't processed, if it is such; answers whether it is. Nearly
+    /// all messages are. An error is a refused growth; then, and where it isn't, nothing has changed.
+    fn take_first(&mut self, message: Message) -> Result<bool, BlockFault>
+        ensures accepted { IfOk result (λ taken. IsTrue taken → refusal_of self.old.seen message ≡ None) }
+        ensures taken { IfOk result (λ taken. IsTrue taken → IsTaken self.old.seen self.new.seen message) }
+        ensures sends { IfOk result (λ taken. IsTrue taken → (out : List Message) → SendsOnce self.old.seen self.new.seen Minus (λ t. message.time < t) out out) }
+        ensures left { IfOk result (λ taken. taken ≡ false → self.new ≡ self.old) }
         ensures refused { IfErr result (IsRefusal (refusal_of self.old.seen message)) }
         ensures err { OnErr result (self.new ≡ self.old) }
     {
-        self.heard
-            .put_first(slot, message.time, Entry::one_message(message.value))?;
+        if message.time < self.engine.mark() {
+            return Ok(false);
+        }
+        let Some(slot) = self.heard.first_place(message) else {
+            return Ok(false);
+        };
+        let taken = self.heard.put_first(slot, message.time, message.value)?;
         self.heard.law();
-        Ok(())
+        Ok(taken)
     }
 
     /// Finishes up to so many event times, and answers how many: fewer only where none is left. The messages on new
@@ -318,18 +329,20 @@ impl Block {
         self.heard.next_entry(net, from)
     }
 
-    /// The first time at which the entry of a net isn't settled.
-    pub fn first_unsettled_of(&self, net: u32) -> Option<u64>
-        ensures { IsLeast (λ t. ¬ IsTrue (is_settled (entry_of self.now.seen net t))) result }
+    /// The first entry that isn't settled, by net, then time.
+    pub fn first_unsettled(&self) -> Option<(u32, u64)>
+        ensures none { IfNone result ((n t : ℕ) → IsUnsettledBelow self.now.seen (self.now.seen.horizon + 1) n t → ⊥) }
+        ensures some { IfSome result (λ place. IsFirstUnsettled self.now.seen (self.now.seen.horizon + 1) place.0 place.1) }
     {
-        self.heard.first_unsettled_of(net)
+        self.heard.first_unsettled(self.heard.horizon() + 1)
     }
 
-    /// Whether the messages that stand for a net are exactly some changes, in order of time.
-    pub fn was_told(&self, net: u32, changes: &[Change]) -> bool
-        ensures { IsTrue result ↔ (AllPairs (λ a b. a.time < b.time) changes.now × ((t : ℕ) → effective_at self.now.seen net t ≡ pair_at changes.now t)) }
+    /// For each net of the part the changes that the messages tell which stand, in order of time. An error is a refused growth.
+    pub fn told(&self) -> Result<Vec<Vec<Change>>, AllocError>
+        ensures count { IfOk result (λ lists. vec_len lists ≡ length self.now.seen.part.nets) }
+        ensures told { IfOk result (λ lists. (i : ℕ) → i < length self.now.seen.part.nets → IsToldOf self.now.seen (slice_index self.now.seen.part.nets i) (get_or (lists_in lists.items) i [])) }
     {
-        self.heard.was_told(net, changes)
+        self.heard.told()
     }
 }
 

@@ -2,7 +2,7 @@
 use Rattle.std.proofs.Common.{◌≡◌, ℕ, ◌+◌, ◌<◌, ◌≤◌, arith, false, Option, Some, None, is_some, not, ◌&&◌, List, [], ◌∷◌, inl, inr, ap, sym, ◌∙◌}
 use Rattle.std.specs.List.{All, AllPairs}
 use Rattle.std.specs.Option.{MatchOption}
-use Rattle.std.proofs.lemmas.Bool.{cases_Bool, true≢false}
+use Rattle.std.proofs.lemmas.Bool.{cases_Bool, cases_lt, true≢false}
 use Rattle.std.proofs.lemmas.List.Elements.{All-cons}
 use Rattle.std.proofs.lemmas.List.Kept.{AllPairs-cons}
 use Rattle.gate_values.specs.declared.logic.Logic.{Logic}
@@ -12,10 +12,12 @@ use Rattle.gate_vcd.specs.Given.{Given}
 use Rattle.gate_vcd.specs.Waves.{IsWaveFrom}
 use Rattle.warp_process.specs.Entries.{is_settled}
 use Rattle.warp_part.specs.Portion.{slot_of, reads, owns}
-use Rattle.warp_process.specs.View.{View, Process, entry_of, IsLeast}
+use Rattle.warp_process.specs.View.{View, Process, entry_of}
+use Rattle.warp_process.specs.Lawful.{IsLawful}
+use Rattle.warp_process.specs.Commit.{IsUnsettledBelow, IsFirstUnsettled as IsFirstBelow}
 use Rattle.warp_process.proofs.Settled.{settled-none}
 use Rattle.warp_core.specs.Gather.{IsFirst}
-use Rattle.warp_core.specs.Matched.{IsSettledBy, IsSettledAt, IsToldAt}
+use Rattle.warp_core.specs.Matched.{IsSettledBy, IsSettledAt, AreSettled, IsToldAt}
 
 module _ (v : View) (n : ℕ) where
   settled_or_not : (t : ℕ) → (¬ IsSettledBy v n t → ⊥) → IsSettledBy v n t
@@ -24,13 +26,34 @@ module _ (v : View) (n : ℕ) where
     | inr not ↦ absurd (h (λ settled. true≢false (sym settled ∙ not)))
   ]
 
-  -- the least time at which an entry isn't settled is the first
-  pub first_settled : (r : Option ℕ) → IsLeast (λ t. ¬ IsSettledBy v n t) r → MatchOption r (IsSettledAt v n) (IsFirst (IsSettledBy v n))
-  first_settled None none = λ t. settled_or_not t (none t)
-  first_settled (Some t) least = record {
-    fails = least.0;
-    before = λ j l. settled_or_not j (λ h. (let later = least.1 j h in omega (arith, later, l)));
-  }
+-- ---- the first unsettled entry of a block
+module _ (v : View) (lawful : IsLawful v) where
+  unsettled_within : (n t : ℕ) → (IsSettledBy v n t → ⊥) → IsUnsettledBelow v (v.horizon + 1) n t
+  unsettled_within n t not = elim (cases_lt v.horizon t) [
+    | inl late ↦ absurd (not (ap is_settled (lawful.within n t late) ∙ settled-none))
+    | inr within ↦ (omega (arith, within), not)
+  ]
+
+  pub none_unsettled : ((n t : ℕ) → IsUnsettledBelow v (v.horizon + 1) n t → ⊥) → AreSettled v
+  none_unsettled none n t = settled_or_not v n t (λ not. none n t (unsettled_within n t not))
+
+  pub first_unsettled : (n t : ℕ) → IsFirstBelow v (v.horizon + 1) n t → IsFirst (IsSettledAt v) n × IsFirst (IsSettledBy v n) t
+  first_unsettled n t first = (
+    record {
+      fails = λ all. first.0.1 (all t);
+      before = λ m l u. settled_or_not v m u (λ not. elim (first.1 m u (unsettled_within m u not)) [
+        | inl later ↦ omega (arith, later, l)
+        | inr here ↦ (let same = here.0 in omega (arith, same, l))
+      ]);
+    },
+    record {
+      fails = first.0.1;
+      before = λ u l. settled_or_not v n u (λ not. elim (first.1 n u (unsettled_within n u not)) [
+        | inl later ↦ omega (arith, later)
+        | inr here ↦ (let below = here.1 in omega (arith, below, l))
+      ]);
+    },
+  )
 
 -- times of a wave are at least the one that it is from, and rise
 wave_from : (from : ℕ) (before : Logic) (cs : List Change) → IsWaveFrom from before cs → All (λ (c : Change). from ≤ c.time) cs

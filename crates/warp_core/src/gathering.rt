@@ -72,7 +72,7 @@ fn check(
         Some((block, net, time)) => return Err(GatherFault::Unsettled { block, net, time }),
         None => {}
     }
-    match told::untold(cut, stimulus, horizon, blocks) {
+    match told::untold(cut, stimulus, horizon, blocks)? {
         Some((block, net)) => return Err(GatherFault::Mismatch { block, net }),
         None => {}
     }

@@ -1,37 +1,55 @@
--- What a new block has received, and where it is listed.
-use Rattle.std.proofs.Common.{◌≡◌, ◌≢◌, ℕ, ◌+◌, ◌<◌, ◌≤◌, ◌⊎◌, ◌++◌, Bool, true, false, cond, List, [], ◌∷◌, map, length, get_or, take, inl, inr, refl, ap, sym, ◌∙◌, subst, arith, All, Vec}
-use Rattle.std.proofs.lemmas.Bool.{cond-false, true≢false, cases_lt, cases_eq, lt-ltb, le-ltb, ne_eqb}
-use Rattle.std.proofs.lemmas.List.{get_or-map, length-map, map-append, take_more, take_all}
-use Rattle.std.specs.declared.alloc.Global.{Global}
+-- What a new block has received.
+use Rattle.std.proofs.Common.{◌≡◌, ◌≢◌, ℕ, ◌+◌, ◌<◌, ◌≤◌, ◌++◌, ◌&&◌, ◌==◌, Bool, true, false, cond, List, [], ◌∷◌, map, length, get_or, take, inl, inr, refl, ap, sym, ◌∙◌, subst, arith, All}
+use Rattle.std.proofs.lemmas.Bool.{cond-true, cond-false, true≢false, cases_lt, lt-ltb, le-ltb, ne_eqb}
+use Rattle.std.proofs.lemmas.List.{get_or-map, get_or_default, get_or-take, length-map, length-take, map-append, take_more, same_lists}
 use Rattle.gate_values.specs.declared.logic.Change.{Change}
 use Rattle.gate_values.specs.Behaviour.{Outside}
 use Rattle.gate_values.specs.Changes.{before_time}
 use Rattle.gate_vcd.specs.Given.{Given, changes_of}
-use Rattle.warp_part.specs.Inner.Building.{has}
+use Rattle.gate_vcd.specs.Inner.Lists.{IsRising}
 use Rattle.warp_part.specs.Portion.{Portion, at_slot, IsPortion, is_driven, is_input, owns}
 use Rattle.warp_part.proofs.Slots.{of_net-at, of_net-map}
+use Rattle.warp_process.specs.declared.entry.Entry.{Entry}
+use Rattle.warp_process.specs.declared.by_time.Rows.{Rows}
 use Rattle.warp_process.specs.declared.heard.Heard.TheInside.{Inside}
-use Rattle.warp_process.specs.Entries.{Received, no_messages, entry_in, IsQueue}
+use Rattle.warp_process.specs.Entries.{Received, no_messages, one_message, entry_in, is_settled, IsQueue}
 use Rattle.warp_process.specs.Limits.{most_horizon}
-use Rattle.warp_process.specs.Shown.Received.{lists_in}
-use Rattle.warp_process.specs.Shown.Heard.{heard_by}
-use Rattle.warp_process.specs.View.{entry_of}
+use Rattle.warp_process.specs.View.{View, entry_of}
 use Rattle.warp_process.specs.Heard.{IsReceived}
-use Rattle.warp_process.specs.Inner.Agenda.{places_at}
-use Rattle.warp_process.specs.Inner.Heard.{IsListed}
+use Rattle.warp_process.specs.Shown.Heard.{heard_by}
+use Rattle.warp_process.specs.Shown.Rows.{queue_in}
+use Rattle.warp_process.specs.Inner.Rows.{entry_at, AreRows}
+use Rattle.warp_process.specs.Inner.Heard.{IsHeld}
 use Rattle.warp_process.specs.Opening.{message_of, silent_view, opening_queue}
-use Rattle.warp_process.proofs.Hearing.{heard_entry}
-use Rattle.warp_process.proofs.QueueOrder.{entry_in-place}
+use Rattle.warp_process.proofs.Hearing.{queue_is, queues_count}
+use Rattle.warp_process.proofs.QueueOrder.{Lacks, entry_in-pushed}
+use Rattle.warp_process.proofs.Queued.{queued, queued_entry, same_queues}
+use Rattle.warp_process.proofs.Settled.{settled-none, settled-one}
 
--- a loop that lists what a function gives of each net
-pub map_more : {A : Type 0} (f : ℕ → A) (nets : List ℕ) (ys ys' : List A) (i : ℕ) (y : A) → i < length nets → ys ≡ map f (take i nets) → ys' ≡ ys ++ y ∷ [] → y ≡ f (get_or nets i 0) →
-    ys' ≡ map f (take (i + 1) nets)
-map_more f nets ys ys' i y h e more is =
-    more ∙ (ap (λ zs. zs ++ y ∷ []) e ∙ (ap (λ z. map f (take i nets) ++ z ∷ []) is
-    ∙ (sym (map-append f (take i nets) (get_or nets i 0 ∷ [])) ∙ ap (map f) (sym (take_more nets i 0 h)))))
+-- ---- the changes of an input, one after another
+module _ (cs : List Change) (rising : IsRising cs) (k : ℕ) (c : Change) (l : k < length cs) (at : c ≡ get_or cs k c) where
+  front_lacks : Lacks (map message_of (take k cs)) c.time
+  front_lacks j d h =
+      let front : List Change = take k cs in
+      let size : length (map message_of front) ≡ length front = length-map front message_of in
+      let short = length-take k cs in
+      let here : get_or (map message_of front) j d ≡ message_of (get_or cs j c) = get_or-map message_of front j c d (omega arith) ∙ ap message_of (get_or-take k cs j c (omega arith)) in
+      let early : (get_or cs j c).time < (get_or cs k c).time = rising j k c (omega arith) l in
+      let same : (get_or (map message_of front) j d).time ≡ (get_or cs j c).time = ap (λ (e : Received). e.time) here in
+      let now : c.time ≡ (get_or cs k c).time = ap (λ (x : Change). x.time) at in
+      λ e. absurd (omega arith)
 
-pub map_all : {A : Type 0} (f : ℕ → A) (nets : List ℕ) (ys : List A) (i : ℕ) → length nets ≤ i → ys ≡ map f (take i nets) → ys ≡ map f nets
-map_all f nets ys i h e = e ∙ ap (map f) (take_all i nets h)
+  pub change_more : (t : ℕ) → entry_in (map message_of (take (k + 1) cs)) t ≡ cond (t == c.time) (one_message c.value) (entry_in (map message_of (take k cs)) t)
+  change_more t =
+      ap (λ (es : List Received). entry_in es t) (ap (map message_of) (take_more cs k c l ∙ ap (λ (x : Change). take k cs ++ x ∷ []) (sym at)) ∙ map-append message_of (take k cs) (c ∷ []))
+      ∙ entry_in-pushed (map message_of (take k cs)) (message_of c) t front_lacks
+
+-- an entry at a time and a place, of a place's entries
+pub at_both : (a b : Bool) (x y z : Entry) → cond (a && b) x (cond b y z) ≡ cond b (cond a x y) z
+at_both true true x y z = refl
+at_both true false x y z = refl
+at_both false true x y z = refl
+at_both false false x y z = refl
 
 -- changes before an end leave no entry from it on
 none_past : (end t : ℕ) (cs : List Change) → end ≤ t → entry_in (map message_of (before_time end cs)) t ≡ no_messages
@@ -41,7 +59,23 @@ none_past end t (c ∷ cs) h = elim (cases_lt c.time end) [
   | inr since ↦ rw (le-ltb c.time end since) (none_past end t cs h)
 ]
 
+either_settled : (b : Bool) (x y : Entry) → is_settled x ≡ true → is_settled y ≡ true → is_settled (cond b x y) ≡ true
+either_settled true x y a b = a
+either_settled false x y a b = b
+
+-- one message of each change stands
+message_settled : (cs : List Change) (t : ℕ) → is_settled (entry_in (map message_of cs) t) ≡ true
+message_settled [] t = settled-none
+message_settled (c ∷ cs) t = either_settled (c.time == t) (one_message c.value) (entry_in (map message_of cs) t) (settled-one c.value) (message_settled cs t)
+
 module _ (p : Portion) (is : IsPortion p) (stimulus : Given) (horizon : ℕ) where
+  -- what an input begins with
+  pub queue_of_input : (slot net : ℕ) (cs : List Change) → slot < length p.nets → get_or p.inputs slot false ≡ true → net ≡ get_or p.nets slot 0 → cs ≡ changes_of stimulus net →
+      opening_queue p stimulus horizon (get_or p.nets slot 0) ≡ map message_of (before_time (horizon + 1) cs)
+  queue_of_input slot net cs l input at given =
+      cond-true (is_input p (get_or p.nets slot 0)) _ [] (of_net-at p.nets p.inputs false slot is.ascending l ∙ input)
+      ∙ ap (λ (xs : List Change). map message_of (before_time (horizon + 1) xs)) (sym (given ∙ ap (changes_of stimulus) at))
+
   -- an own net is no input
   own_none : (i : ℕ) → i < length p.nets → owns p (get_or p.nets i 0) ≡ true → opening_queue p stimulus horizon (get_or p.nets i 0) ≡ []
   own_none i h own = go (is_input p (get_or p.nets i 0)) refl
@@ -52,15 +86,24 @@ module _ (p : Portion) (is : IsPortion p) (stimulus : Given) (horizon : ℕ) whe
           let outside = is.input i h (sym (of_net-at p.nets p.inputs false i is.ascending h) ∙ e) in
           absurd (true≢false (sym own ∙ (ap is_driven (of_net-at p.nets p.sources Outside i is.ascending h) ∙ ap is_driven outside)))
 
+  -- what the net of a place, if it has one, begins with
+  opening_entry : (n t : ℕ) → entry_of (silent_view p stimulus horizon) n t ≡ entry_in (opening_queue p stimulus horizon n) t
+  opening_entry n t = ap (λ (q : List Received). entry_in q t) (of_net-map p.nets (opening_queue p stimulus horizon) [] n (λ none. cond-false (is_input p n) _ [] (ap (at_slot p.inputs false) none)))
+
   -- nothing is past the horizon
   none_late : (n t : ℕ) → horizon < t → entry_of (silent_view p stimulus horizon) n t ≡ no_messages
-  none_late n t h =
-      ap (λ (q : List Received). entry_in q t) (of_net-map p.nets (opening_queue p stimulus horizon) [] n (λ none. cond-false (is_input p n) _ [] (ap (at_slot p.inputs false) none)))
-      ∙ go (is_input p n)
+  none_late n t h = opening_entry n t ∙ go (is_input p n)
     where
       go : (b : Bool) → entry_in (cond b (map message_of (before_time (horizon + 1) (changes_of stimulus n))) []) t ≡ no_messages
       go false = refl
       go true = none_past (horizon + 1) t (changes_of stimulus n) (omega arith)
+
+  pub all_settled : (n t : ℕ) → is_settled (entry_of (silent_view p stimulus horizon) n t) ≡ true
+  all_settled n t = subst (λ (e : Entry). is_settled e ≡ true) (sym (opening_entry n t)) (go (is_input p n))
+    where
+      go : (b : Bool) → is_settled (entry_in (cond b (map message_of (before_time (horizon + 1) (changes_of stimulus n))) []) t) ≡ true
+      go false = settled-none
+      go true = message_settled (before_time (horizon + 1) (changes_of stimulus n)) t
 
   pub opening_received : horizon ≤ most_horizon → All IsQueue (map (opening_queue p stimulus horizon) p.nets) → IsReceived (silent_view p stimulus horizon)
   opening_received end queues = record {
@@ -73,45 +116,33 @@ module _ (p : Portion) (is : IsPortion p) (stimulus : Given) (horizon : ℕ) whe
     within = none_late;
   }
 
--- what isn't empty has a place in the queue
-pub kept_listed : (queue : List Received) (places : ℕ → List ℕ) (i t : ℕ) → All (λ (e : Received). has (places e.time) i ≡ true) queue → entry_in queue t ≢ no_messages → has (places t) i ≡ true
-kept_listed queue places i t listed some = elim (entry_in-place queue t) [
-  | inl none ↦ absurd (some none)
-  | inr at ↦ (let none : Received = record { time = 0; entry = no_messages } in subst (λ u. has (places u) i ≡ true) (at.2 none) (listed at.0 none at.1))
-]
+  -- rows that have what each place begins with
+  module _ (rows : Rows) (sure : ℕ) (are : AreRows rows) (opened : (t i : ℕ) → i < length p.nets → entry_at rows t i ≡ entry_in (opening_queue p stimulus horizon (get_or p.nets i 0)) t)
+      (queues : (i : ℕ) → i < length p.nets → IsQueue (opening_queue p stimulus horizon (get_or p.nets i 0))) (rest : (t i : ℕ) → length p.nets ≤ i → entry_at rows t i ≡ no_messages) where
+    abbrev made : Inside
+    made = record { part = p; horizon = horizon; floor = 0; sure = sure; rows = rows }
 
--- lists that have the entries of the first queues, and no other places
-pub record IsOpened (queues : List (List Received)) (end : ℕ) (places : ℕ → List ℕ) : Type 0 where
-  pub received : (t i : ℕ) → i < end → entry_in (get_or queues i []) t ≢ no_messages → has (places t) i ≡ true
-  pub within : (t i : ℕ) → has (places t) i ≡ true → i < end
+    queues_same : (heard_by made).queues ≡ map (opening_queue p stimulus horizon) p.nets
+    queues_same = same_lists (heard_by made).queues (map (opening_queue p stimulus horizon) p.nets) (queues_count made are.ordered ∙ sym (length-map p.nets (opening_queue p stimulus horizon)))
+        (λ k d l.
+        (let in_nets : k < length p.nets = omega (arith, l, queues_count made are.ordered) in
+        get_or_default (heard_by made).queues k d [] l ∙ (queue_is made are.ordered k in_nets
+        ∙ (same_queues (queue_in rows.times.entries k) (opening_queue p stimulus horizon (get_or p.nets k 0)) (queued rows.times.entries k are.ordered) (queues k in_nets)
+        (λ t. queued_entry rows.times.entries k t are.ordered ∙ opened t k in_nets)
+        ∙ sym (get_or-map (opening_queue p stimulus horizon) p.nets k 0 d in_nets)))))
 
-pub IsOpened-none : (queues : List (List Received)) (places : ℕ → List ℕ) → ((t : ℕ) → places t ≡ []) → IsOpened queues 0 places
-IsOpened-none queues places none = record {
-  received = λ t i l. absurd (omega (arith, l));
-  within = λ t i h. absurd (true≢false (sym (sym (ap (λ (xs : List ℕ). has xs i) (none t)) ∙ h)));
-}
+    pub made_view : heard_by made ≡ silent_view p stimulus horizon
+    made_view = ap (λ (qs : List (List Received)). record (silent_view p stimulus horizon) { queues = qs }) queues_same
 
-pub IsOpened-more : (queues : List (List Received)) (end : ℕ) (old new : ℕ → List ℕ) → IsOpened queues end old → ((t i : ℕ) → has (old t) i ≡ true → has (new t) i ≡ true) →
-    ((t i : ℕ) → has (new t) i ≡ true → (has (old t) i ≡ true) ⊎ (i ≡ end)) → All (λ (e : Received). has (new e.time) end ≡ true) (get_or queues end []) → IsOpened queues (end + 1) new
-IsOpened-more queues end old new before keeps more entries = record {
-  received = λ t i h some. elim (cases_eq i end) [
-    | inl here ↦ subst (λ j. has (new t) j ≡ true) (sym here) (kept_listed (get_or queues end []) new end t entries (subst (λ j. entry_in (get_or queues j []) t ≢ no_messages) here some))
-    | inr other ↦ (let ne : i ≢ end = other in keeps t i (before.received t i (omega (arith, h, ne)) some))
-  ];
-  within = λ t i h. elim (more t i h) [
-    | inl was ↦ (let less = before.within t i was in omega (arith, less))
-    | inr now ↦ omega (arith, now)
-  ];
-}
+    opening_queues : All IsQueue (map (opening_queue p stimulus horizon) p.nets)
+    opening_queues k d l =
+        let in_nets : k < length p.nets = omega (arith, l, length-map p.nets (opening_queue p stimulus horizon)) in
+        subst IsQueue (sym (get_or-map (opening_queue p stimulus horizon) p.nets k 0 d in_nets)) (queues k in_nets)
 
--- such lists of all queues serve a block that has received them
-pub agenda_listed : (heard : Inside) → IsReceived (heard_by heard) → (qs : List (Vec Received Global)) → qs ≡ heard.queues.items →
-    ((t i : ℕ) → i < length qs → entry_in (get_or (lists_in qs) i []) t ≢ no_messages → has (places_at heard.agenda t) i ≡ true) → ((t i : ℕ) → has (places_at heard.agenda t) i ≡ true → i < length qs) →
-    IsListed (heard_by heard) (places_at heard.agenda)
-agenda_listed heard is qs e received within =
-    let size : length (lists_in heard.queues.items) ≡ length qs = length-map heard.queues.items (λ (v : Vec Received Global). v.items) ∙ ap length (sym e) in
-    record {
-      received = λ t i from l some. received t i (omega (arith, l, is.queues, size))
-          (λ none. some (heard_entry (heard_by heard) is i l t ∙ (ap (λ (vs : List (Vec Received Global)). entry_in (get_or (lists_in vs) i []) t) (sym e) ∙ none)));
-      within = λ t i h. (let less = within t i h in omega (arith, less, is.queues, size));
+    pub made_held : horizon ≤ most_horizon → IsHeld made
+    made_held end = record {
+      received = subst IsReceived (sym made_view) (opening_received end opening_queues);
+      rows = are;
+      within = rest;
+      sure = λ n t l. subst (λ (v : View). is_settled (entry_of v n t) ≡ true) (sym made_view) (all_settled n t);
     }

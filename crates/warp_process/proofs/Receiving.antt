@@ -191,7 +191,7 @@ module _ (v w : View) (m : Message) (slot : ℕ) (entry : Entry) (admitted : IsA
         (all_kept v w isv put.part v.mark agree ss (saved_marks v ss saved) states, kept_spaced mark agree ss saved)
 
 -- a want of memory is no refusal of the message
-pub refused_memory : (r : Result (Unit {0}) BlockFault) (refusal : Option BlockFault) → IsErrAnd r (λ f. f ≡ Memory) → refusal ≡ None → IfErr r (IsRefusal refusal)
+pub refused_memory : {A : Type 0} → (r : Result A BlockFault) (refusal : Option BlockFault) → IsErrAnd r (λ f. f ≡ Memory) → refusal ≡ None → IfErr r (IsRefusal refusal)
 refused_memory (Ok x) refusal h e = tt
 refused_memory (Err f) refusal h e = subst (IsRefusal refusal) (sym h) e
 

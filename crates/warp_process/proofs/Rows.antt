@@ -18,7 +18,7 @@ use Rattle.warp_process.specs.Inner.Logs.{IsLog}
 use Rattle.warp_part.specs.Portion.{is_driven, source_of, owns}
 use Rattle.warp_process.specs.View.{View, queue_of, entry_of, effective_at, log_of, news_of, block_value, IsLeast}
 use Rattle.warp_process.specs.Lawful.{IsLawful, lawful_log}
-use Rattle.warp_process.specs.Shown.Received.{lists_in}
+use Rattle.warp_process.specs.Shown.Rows.{lists_in}
 use Rattle.warp_process.specs.Inner.Advance.{IsQuiet}
 use Rattle.warp_part.proofs.Slots.{of_net-at}
 use Rattle.warp_process.proofs.LogOrder.{IsLog-run}

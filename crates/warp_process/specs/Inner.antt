@@ -1,7 +1,7 @@
 -- What only proofs need: no contract of a public call speaks of it.
 pub mod Advance
-pub mod Agenda
-pub mod Agree
+pub mod Rows
+pub mod Told
 pub mod Entries
 pub mod Heard
 pub mod Logs

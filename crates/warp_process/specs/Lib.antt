@@ -1,4 +1,5 @@
 pub mod Entries
+pub mod Rows
 pub mod Faults
 pub mod Limits
 pub mod View

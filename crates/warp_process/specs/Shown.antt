@@ -1,3 +1,3 @@
 -- What contracts see of the types of this crate: the value that each shows of its fields.
-pub mod Received
+pub mod Rows
 pub mod Heard

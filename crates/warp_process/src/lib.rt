@@ -10,20 +10,21 @@
 //! what it received up to a mark, of which [`received_is_lawful`] is the law. Beside them stand the lemmas over views.
 #![tactic(auto)]
 
-mod agenda;
-mod agree;
+mod by_net;
+mod by_time;
 mod entry;
 mod fault;
 mod heard;
 mod limits;
 mod message;
+mod placed;
 mod played;
-mod queue;
-mod timed;
+mod row;
 
 pub use entry::Entry;
 pub use fault::BlockFault;
 pub use heard::Heard;
 pub use limits::MOST_HORIZON;
 pub use message::{Message, Sign};
+pub use placed::Placed;
 pub use played::received_is_lawful;

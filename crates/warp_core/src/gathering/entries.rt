@@ -1,18 +1,11 @@
 //! Entries that are neither empty nor one single message.
 
-ghost use Rattle.std.specs.Prelude.{◌≡◌, ◌↔◌, IsTrue, MatchOption};
-ghost use Rattle.warp_core.specs.Matched.{seen_at, IsSettledBy, IsSettledAt, AreSettled, EachBlock};
-ghost use Rattle.warp_core.specs.Gather.{AreCounted, IsFirst, IsFirstBlock, IsFirstUnsettled};
+ghost use Rattle.std.specs.Prelude.{MatchOption};
+ghost use Rattle.warp_core.specs.Matched.{seen_at, AreSettled, EachBlock};
+ghost use Rattle.warp_core.specs.Gather.{AreCounted, IsFirstBlock, IsFirstUnsettled};
 
 use gate_netlist::Cut;
 use warp_block::Block;
-
-/// The first time at which the entry of a net isn't settled.
-fn unsettled_time(block: &Block, net: u32) -> Option<u64>
-    ensures { MatchOption result (IsSettledAt block.now.seen net) (IsFirst (IsSettledBy block.now.seen net)) }
-{
-    block.first_unsettled_of(net)
-}
 
 /// The first net of a block with an entry that isn't settled, and the first time of it.
 fn unsettled_entry(block: &Block) -> Option<(u32, u64)>
@@ -20,14 +13,8 @@ fn unsettled_entry(block: &Block) -> Option<(u32, u64)>
         (AreSettled block.now.seen)
         (λ p. IsFirstUnsettled block.now.seen p.0 p.1) }
 {
-    block.part().law();
-    for net in block.part().nets() {
-        match unsettled_time(block, *net) {
-            Some(time) => return Some((*net, time)),
-            None => {}
-        }
-    }
-    None
+    block.law();
+    block.first_unsettled()
 }
 
 /// The first block, net and time whose entry isn't settled.

@@ -1,18 +1,20 @@
 //! What blocks were told, beside what owners and the stimulus say.
 
-ghost use Rattle.std.specs.Prelude.{◌≡◌, ◌≤◌, ◌+◌, ◌↔◌, IsTrue, MatchOption};
+ghost use Rattle.std.specs.Prelude.{◌≡◌, ◌≤◌, ◌+◌, ◌↔◌, IsTrue, IfOk, MatchOption};
 ghost use Rattle.gate_values.specs.Changes.{before_time};
 ghost use Rattle.gate_vcd.specs.Given.{changes_of};
 ghost use Rattle.gate_vcd.specs.Inner.Lists.{IsRising};
 ghost use Rattle.gate_vcd.specs.Waves.{IsWave};
 ghost use Rattle.warp_process.specs.Limits.{most_horizon};
 ghost use Rattle.warp_process.specs.View.{log_of};
-ghost use Rattle.warp_core.specs.Matched.{seen_at, IsTold, IsToldAt, AreTold, EachBlock, told_of};
+ghost use Rattle.warp_process.specs.Heard.{IsToldOf};
+ghost use Rattle.warp_core.specs.Matched.{seen_at, IsToldAt, AreTold, EachBlock, told_of};
 ghost use Rattle.warp_core.specs.Gather.{AreCounted, IsFirst, IsFirstBlock};
 
 use gate_netlist::Cut;
 use gate_values::Change;
 use gate_vcd::Stimulus;
+use std::alloc::AllocError;
 use warp_block::Block;
 
 /// Those of the changes that aren't past the horizon.
@@ -63,15 +65,22 @@ pub(super) fn told<'a>(
     }
 }
 
-/// Whether the messages that stand for a net are exactly some changes.
-fn is_told(block: &Block, net: u32, changes: &[Change]) -> bool
-    requires { IsWave changes.now }
-    ensures { IsTrue result ↔ IsTold block.now.seen net changes.now }
+/// Whether two lists of changes are the same.
+fn are_same(list: &[Change], changes: &[Change]) -> bool
+    ensures { IsTrue result ↔ (list.now ≡ changes.now) }
 {
-    block.was_told(net, changes)
+    if list.len() != changes.len() {
+        return false;
+    }
+    for at in 0..list.len() {
+        if list[at].time != changes[at].time || list[at].value != changes[at].value {
+            return false;
+        }
+    }
+    true
 }
 
-/// Whether a block, if it reads a net, was told of it what the net's owner, or the stimulus, says.
+/// Whether a block, which was told some changes of a net, was told what the net's owner, or the stimulus, says, if it reads it.
 fn is_told_at(
     cut: &Cut,
     stimulus: &Stimulus,
@@ -79,59 +88,64 @@ fn is_told_at(
     blocks: &[Block],
     block: &Block,
     net: u32,
+    list: &[Change],
 ) -> bool
     requires count { AreCounted cut.now blocks.now }
     requires horizon { horizon ≤ most_horizon }
+    requires list { IsToldOf block.now.seen net list.now }
     ensures { IsTrue result ↔ IsToldAt cut.now stimulus.now horizon blocks.now block.now.seen net }
 {
     if !block.part().reads(net) {
         return true;
     }
-    is_told(block, net, told(cut, stimulus, horizon, blocks, net))
+    are_same(list, told(cut, stimulus, horizon, blocks, net))
 }
 
-/// The first net that a block reads and wasn't told as its owner, or the stimulus, says.
+/// The first net that a block reads and wasn't told as its owner, or the stimulus, says. An error is a refused growth.
 fn untold_net(
     cut: &Cut,
     stimulus: &Stimulus,
     horizon: u64,
     blocks: &[Block],
     block: &Block,
-) -> Option<u32>
+) -> Result<Option<u32>, AllocError>
     requires count { AreCounted cut.now blocks.now }
     requires horizon { horizon ≤ most_horizon }
-    ensures { MatchOption result
+    ensures { IfOk result (λ first. MatchOption first
         (AreTold cut.now stimulus.now horizon blocks.now block.now.seen)
-        (IsFirst (IsToldAt cut.now stimulus.now horizon blocks.now block.now.seen)) }
+        (IsFirst (IsToldAt cut.now stimulus.now horizon blocks.now block.now.seen))) }
 {
     block.part().law();
-    for net in block.part().nets() {
-        if !is_told_at(cut, stimulus, horizon, blocks, block, *net) {
-            return Some(*net);
+    let lists = block.told()?;
+    for slot in 0..lists.len() {
+        let net = block.part().net(slot);
+        let list = lists[slot].as_slice();
+        if !is_told_at(cut, stimulus, horizon, blocks, block, net, list) {
+            return Ok(Some(net));
         }
     }
-    None
+    Ok(None)
 }
 
-/// The first block, and net that it reads, that wasn't told as the net's owner, or the stimulus, says.
+/// The first block, and net that it reads, that wasn't told as the net's owner, or the stimulus, says. An error is a refused growth.
 pub(super) fn untold(
     cut: &Cut,
     stimulus: &Stimulus,
     horizon: u64,
     blocks: &[Block],
-) -> Option<(u32, u32)>
+) -> Result<Option<(u32, u32)>, AllocError>
     requires count { AreCounted cut.now blocks.now }
     requires horizon { horizon ≤ most_horizon }
-    ensures { MatchOption result
+    ensures { IfOk result (λ first. MatchOption first
         (EachBlock cut.now blocks.now (λ _ v. AreTold cut.now stimulus.now horizon blocks.now v))
         (λ p. IsFirstBlock cut.now blocks.now (λ _ v. AreTold cut.now stimulus.now horizon blocks.now v) p.0
-        × IsFirst (IsToldAt cut.now stimulus.now horizon blocks.now (seen_at blocks.now p.0)) p.1) }
+        × IsFirst (IsToldAt cut.now stimulus.now horizon blocks.now (seen_at blocks.now p.0)) p.1)) }
 {
     for block in 0..cut.blocks() {
-        match untold_net(cut, stimulus, horizon, blocks, &blocks[block as usize]) {
-            Some(net) => return Some((block, net)),
+        match untold_net(cut, stimulus, horizon, blocks, &blocks[block as usize])? {
+            Some(net) => return Ok(Some((block, net))),
             None => {}
         }
     }
-    None
+    Ok(None)
 }

@@ -1,7 +1,8 @@
 -- What contracts see of what a block has heard: the view of a block that has computed nothing.
-use Rattle.std.specs.Prelude.{[], map}
+use Rattle.std.specs.Prelude.{[], map, length}
+use Rattle.std.specs.List.{range_with_len}
 use Rattle.warp_process.specs.declared.heard.Heard.TheInside.{Inside}
-use Rattle.warp_process.specs.Shown.Received.{lists_in}
+use Rattle.warp_process.specs.Shown.Rows.{queue_in}
 use Rattle.warp_process.specs.View.{View}
 
 abbrev pub heard_by : Inside → View
@@ -10,6 +11,6 @@ heard_by heard = record {
   horizon = heard.horizon;
   mark = 0;
   floor = heard.floor;
-  queues = lists_in heard.queues.items;
+  queues = map (queue_in heard.rows.times.entries) (range_with_len 0 (length heard.part.nets));
   logs = map (λ _. []) heard.part.nets;
 }

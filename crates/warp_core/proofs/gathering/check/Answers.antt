@@ -12,4 +12,5 @@ returns-clause-matched c =
     let count : AreCounted cut blocks = omega arith in
     let parts : EachBlock cut blocks (IsBlockOf d cut c.args.horizon) =
     subst (λ o. MatchOption o (EachBlock cut blocks (IsBlockOf d cut c.args.horizon)) (IsFirstBlock cut blocks (IsBlockOf d cut c.args.horizon))) c.in-None.is c.in_ok-block.ensures in
-    record { count = count; parts = parts; done = c.in-None-unfinished.ensures; settled = c.in-None-unsettled.ensures; told = c.in-None-untold.ensures }
+    let told = rw c.in-None-2.is at c.in_ok-block-2.ensures in
+    record { count = count; parts = parts; done = c.in-None-unfinished.ensures; settled = c.in-None-unsettled.ensures; told = told }

@@ -8,4 +8,4 @@ pub loop-block-preserved : goal.loop-block-preserved
 loop-block-preserved c =
     let told : View → Type 0 = AreTold c.args.cut.now c.args.stimulus.now c.args.horizon c.args.blocks.now in
     let e = seen_is c.args.blocks.now c.loop-block.block c.index-blocks-block.result (omega arith) c.index-blocks-block.is in
-    below_more (λ b. told (seen_at c.args.blocks.now b)) c.loop-block.block c.loop-block.invariant (subst told e c.in-None.ensures)
+    below_more (λ b. told (seen_at c.args.blocks.now b)) c.loop-block.block c.loop-block.invariant (subst told e (rw c.in-None.is at c.in_ok-net.ensures))

@@ -1,34 +1,43 @@
-use Rattle.std.proofs.Common.{below_more, ◌≡◌, ℕ, ◌∙◌, ap, length, get_or, subst, sym, arith, List}
+use Rattle.std.proofs.Common.{below_more, ◌≡◌, ◌<◌, ℕ, ◌∙◌, ap, length, get_or, subst, sym, arith, List, [], vec_len}
 use Rattle.std.specs.List.Sorted.{IsStrictlyIncreasing}
+use Rattle.gate_values.specs.declared.logic.Change.{Change}
 use Rattle.warp_part.specs.Portion.{Portion}
+use Rattle.warp_process.specs.Heard.{IsToldOf}
+use Rattle.warp_process.proofs.Rows.{row_at}
 use Rattle.warp_core.specs.Matched.{IsToldAt}
 use Rattle.warp_core.proofs.Entries.{other_told}
 use Rattle.warp_core.proofs.Sweeping.{swept_all, swept_first}
 use Rattle.warp_core.proofs.gathering.told.untold_net.Goals as goal
 
+pub is_told_at-requires-clause-list : goal.is_told_at-requires-clause-list
+is_told_at-requires-clause-list c =
+    let v = c.args.block.now.seen in
+    let size : vec_len c.in_ok-lists.lists ≡ length c.in_ok-lists.lists.items = c.in_ok-lists.lists.ok.0 in
+    let inside : c.loop-slot.slot < length c.in_ok-lists.lists.items = omega (arith, c.loop-slot-test.true, c.len-slot-end.ensures, size) in
+    let told = c.in_ok-lists.ensures.told c.loop-slot.slot (omega (arith, inside, size, c.in_ok-lists.ensures.count)) in
+    let part : c.part-in-loop-slot.result.now ≡ v.part = c.part-in-loop-slot.ensures in
+    rw (c.net-net.ensures ∙ ap (λ (p : Portion). get_or p.nets c.loop-slot.slot 0) part, c.as_slice-list.ensures.value ∙ sym (row_at c.in_ok-lists.lists.items c.loop-slot.slot c.index.result.now inside c.index.ensures)) told
+
 pub returns-then-not-is_told_at : goal.returns-then-not-is_told_at
 returns-then-not-is_told_at c =
     let v = c.args.block.now.seen in
     let told : ℕ → Type 0 = IsToldAt c.args.cut.now c.args.stimulus.now c.args.horizon c.args.blocks.now v in
-    let nets : c.nets-net-items.result.now ≡ v.part.nets = c.nets-net-items.ensures ∙ ap (λ (p : Portion). p.nets) c.part-2.ensures in
     let up : IsStrictlyIncreasing v.part.nets = subst (λ (p : Portion). IsStrictlyIncreasing p.nets) c.part.ensures c.law.ensures.ascending in
-    let net : get_or c.nets-net-items.result.now c.loop-net.net-index 0 ≡ get_or v.part.nets c.loop-net.net-index 0 = ap (λ (ns : List ℕ). get_or ns c.loop-net.net-index 0) nets in
-    let within = ap length nets in
-    rw net (swept_first told v.part.nets (other_told c.args.cut.now c.args.stimulus.now c.args.horizon c.args.blocks.now v) up c.loop-net.net-index (omega arith) c.loop-net.invariant
+    let net : c.net-net.result ≡ get_or v.part.nets c.loop-slot.slot 0 = c.net-net.ensures ∙ ap (λ (p : Portion). get_or p.nets c.loop-slot.slot 0) c.part-in-loop-slot.ensures in
+    let size : vec_len c.in_ok-lists.lists ≡ length v.part.nets = c.in_ok-lists.ensures.count in
+    rw net (swept_first told v.part.nets (other_told c.args.cut.now c.args.stimulus.now c.args.horizon c.args.blocks.now v) up c.loop-slot.slot (omega (arith, c.loop-slot-test.true, c.len-slot-end.ensures, size)) c.loop-slot.invariant
     (λ all. (let yes = c.is_told_at.ensures.1 (subst told (sym net) all) in let no = c.if-not-is_told_at.true in cc)))
+
+pub loop-slot-preserved : goal.loop-slot-preserved
+loop-slot-preserved c =
+    let v = c.args.block.now.seen in
+    let told : ℕ → Type 0 = IsToldAt c.args.cut.now c.args.stimulus.now c.args.horizon c.args.blocks.now v in
+    let net : c.net-net.result ≡ get_or v.part.nets c.loop-slot.slot 0 = c.net-net.ensures ∙ ap (λ (p : Portion). get_or p.nets c.loop-slot.slot 0) c.part-in-loop-slot.ensures in
+    below_more (λ k. told (get_or v.part.nets k 0)) c.loop-slot.slot c.loop-slot.invariant (subst told net (c.is_told_at.ensures.0 c.if-not-is_told_at.false))
 
 pub returns : goal.returns
 returns c =
     let v = c.args.block.now.seen in
     let told : ℕ → Type 0 = IsToldAt c.args.cut.now c.args.stimulus.now c.args.horizon c.args.blocks.now v in
-    let nets : c.nets-net-items.result.now ≡ v.part.nets = c.nets-net-items.ensures ∙ ap (λ (p : Portion). p.nets) c.part-2.ensures in
-    let within = ap length nets in
-    swept_all told v.part.nets (other_told c.args.cut.now c.args.stimulus.now c.args.horizon c.args.blocks.now v) c.loop-net.net-index (omega arith) c.loop-net.invariant
-
-pub loop-net-preserved : goal.loop-net-preserved
-loop-net-preserved c =
-    let v = c.args.block.now.seen in
-    let told : ℕ → Type 0 = IsToldAt c.args.cut.now c.args.stimulus.now c.args.horizon c.args.blocks.now v in
-    let nets : c.nets-net-items.result.now ≡ v.part.nets = c.nets-net-items.ensures ∙ ap (λ (p : Portion). p.nets) c.part-2.ensures in
-    let net : get_or c.nets-net-items.result.now c.loop-net.net-index 0 ≡ get_or v.part.nets c.loop-net.net-index 0 = ap (λ (ns : List ℕ). get_or ns c.loop-net.net-index 0) nets in
-    below_more (λ k. told (get_or v.part.nets k 0)) c.loop-net.net-index c.loop-net.invariant (subst told net (c.is_told_at.ensures.0 c.if-not-is_told_at.false))
+    let size : vec_len c.in_ok-lists.lists ≡ length v.part.nets = c.in_ok-lists.ensures.count in
+    swept_all told v.part.nets (other_told c.args.cut.now c.args.stimulus.now c.args.horizon c.args.blocks.now v) c.loop-slot.slot (omega (arith, c.loop-slot-test.false, c.len-slot-end.ensures, size)) c.loop-slot.invariant

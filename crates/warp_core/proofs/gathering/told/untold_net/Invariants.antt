@@ -2,5 +2,5 @@ use Rattle.std.proofs.Common.{ℕ, ◌<◌, get_or}
 use Rattle.warp_core.specs.Matched.{IsToldAt}
 use Rattle.warp_core.proofs.gathering.told.untold_net.Given as goal
 
-abbrev pub invariant-loop-net : goal.invariant-loop-net
-invariant-loop-net l = (k : ℕ) → k < l.net-index → IsToldAt l.cut l.stimulus l.horizon l.blocks l.block.seen (get_or l.block.seen.part.nets k 0)
+abbrev pub invariant-loop-slot : goal.invariant-loop-slot
+invariant-loop-slot l = (k : ℕ) → k < l.slot → IsToldAt l.cut l.stimulus l.horizon l.blocks l.block.seen (get_or l.block.seen.part.nets k 0)

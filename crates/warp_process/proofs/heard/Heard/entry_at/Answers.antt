@@ -1,20 +1,7 @@
-use Rattle.std.proofs.Common.{ap, sym, ◌∙◌, subst, List}
-use Rattle.warp_process.specs.Entries.{Received, IsQueue, entry_in}
-use Rattle.warp_process.specs.Shown.Heard.{heard_by}
-use Rattle.warp_process.proofs.Hearing.{in_heard, queue_row, heard_ordered, heard_entry}
+use Rattle.std.proofs.Common.{sym, ◌∙◌}
+use Rattle.warp_process.proofs.Hearing.{in_heard, held_entry}
 use Rattle.warp_process.proofs.heard.Heard.entry_at.Goals as goal
-
-pub entry_at-requires : goal.entry_at-requires
-entry_at-requires c =
-    let is = c.self.invariant.received in
-    let in_nets = in_heard c.self.inside c.args.self.now c.args.slot c.self.view_is c.requires in
-    subst IsQueue (queue_row c.self.inside is c.args.slot in_nets c.index.result.now c.index.ensures ∙ sym c.deref.ensures.value)
-    (heard_ordered (heard_by c.self.inside) is c.args.slot in_nets)
 
 pub returns : goal.returns
 returns c =
-    let is = c.self.invariant.received in
-    let in_nets = in_heard c.self.inside c.args.self.now c.args.slot c.self.view_is c.requires in
-    rw (← c.self.view_is) (c.entry_at.ensures
-    ∙ (ap (λ (q : List Received). entry_in q c.args.time) (c.deref.ensures.value ∙ sym (queue_row c.self.inside is c.args.slot in_nets c.index.result.now c.index.ensures))
-    ∙ sym (heard_entry (heard_by c.self.inside) is c.args.slot in_nets c.args.time)))
+    rw (← c.self.view_is) (c.entry.ensures ∙ sym (held_entry c.self.inside c.self.invariant.rows.ordered c.self.invariant.received.part.ascending c.args.slot c.args.time (in_heard c.self.inside c.args.self.now c.args.slot c.self.view_is c.requires)))

@@ -1,39 +1,60 @@
-use Rattle.std.proofs.Common.{◌≡◌, ◌<◌, ◌≤◌, ◌++◌, List, [], ◌∷◌, length, ap, ◌∙◌, arith, Vec}
-use Rattle.std.specs.declared.alloc.Global.{Global}
-use Rattle.std.proofs.lemmas.List.{map-append}
-use Rattle.std.proofs.lemmas.List.Elements.{All-push, All-same}
-use Rattle.warp_process.specs.Entries.{IsQueue}
-use Rattle.warp_process.specs.declared.heard.Heard.TheInside.{Inside}
-use Rattle.warp_process.specs.Heard.{IsReceived}
+use Rattle.std.proofs.Common.{◌≡◌, ◌≢◌, ◌+◌, ◌==◌, ℕ, get_or, inl, inr, cond, ap, sym, ◌∙◌, subst, arith}
+use Rattle.std.proofs.lemmas.Bool.{cases_eq, eq-eqb, ne_eqb}
+use Rattle.warp_process.specs.declared.entry.Entry.{Entry}
+use Rattle.warp_process.specs.Entries.{entry_in, IsQueue}
+use Rattle.warp_process.specs.Inner.Rows.{entry_at}
 use Rattle.warp_process.specs.Opening.{opening_queue}
-use Rattle.warp_process.specs.Shown.Received.{lists_in}
-use Rattle.warp_process.specs.Shown.Heard.{heard_by}
-use Rattle.warp_process.proofs.Opened.{map_more, map_all, opening_received, agenda_listed}
+use Rattle.warp_process.proofs.Opened.{made_view, made_held}
 use Rattle.warp_process.proofs.heard.Heard.new.Goals as goal
 
--- one vector more
-one_more : {T : Type 0} → (vs vs' : List (Vec T Global)) (v : Vec T Global) → vs' ≡ vs ++ v ∷ [] → lists_in vs' ≡ lists_in vs ++ v.items ∷ []
-one_more {T} vs vs' v e = ap lists_in e ∙ map-append (λ (v : Vec T Global). v.items) vs (v ∷ [])
+pub loop-slot-init : goal.loop-slot-init
+loop-slot-init c = record {
+  rows = c.new-rows.ensures.rows;
+  queues = λ i l. absurd (omega arith);
+  opened = λ t i l. absurd (omega arith);
+  rest = λ t i l. c.new-rows.ensures.none t i;
+}
+
+-- what a choice by places is
+here : (i slot : ℕ) (x y : Entry) → i ≡ slot → cond (i == slot) x y ≡ x
+here i slot x y e = ap (λ b. cond b x y) (eq-eqb i slot e)
+
+there : (i slot : ℕ) (x y : Entry) → i ≢ slot → cond (i == slot) x y ≡ y
+there i slot x y ne = ap (λ b. cond b x y) (ne_eqb i slot ne)
 
 pub loop-slot-preserved : goal.loop-slot-preserved
 loop-slot-preserved c =
-    let h : c.loop-slot.slot < length c.args.part.nets = omega (arith, c.len-slot-end.ensures.count, c.loop-slot-test.true) in
-    let queue = c.in_ok-opening_queue.field-0 in
-    let queues = one_more c.loop-slot.queues.items c.push.new.self.items queue c.in_ok-push.ensures.items in
+    let p = c.args.part in
+    let g = c.args.stimulus.now in
+    let h = c.args.horizon in
+    let slot = c.loop-slot.slot in
+    let opened = c.in_ok-open_place.ensures.opened in
     record {
-      queues = map_more (opening_queue c.args.part c.args.stimulus.now c.args.horizon) c.args.part.nets (lists_in c.loop-slot.queues.items) (lists_in c.push.new.self.items) c.loop-slot.slot queue.items h c.loop-slot.invariant.queues queues
-          c.in_ok-opening_queue.ensures.changes;
-      ordered = All-same IsQueue (lists_in c.push.new.self.items) (lists_in c.loop-slot.queues.items ++ queue.items ∷ []) queues (All-push IsQueue (lists_in c.loop-slot.queues.items) queue.items c.loop-slot.invariant.ordered c.in_ok-opening_queue.ensures.queue);
+      rows = c.open_place.ensures.rows;
+      queues = λ i l. elim (cases_eq i slot) [
+        | inl same ↦ subst (λ j. IsQueue (opening_queue p g h (get_or p.nets j 0))) (sym same) c.in_ok-open_place.ensures.queue
+        | inr other ↦ c.loop-slot.invariant.queues i (omega (arith, l, other))
+      ];
+      opened = λ t i l. elim (cases_eq i slot) [
+        | inl same ↦ opened t i ∙ (here i slot (entry_in (opening_queue p g h (get_or p.nets slot 0)) t) (entry_at c.loop-slot.rows t i) same
+            ∙ ap (λ j. entry_in (opening_queue p g h (get_or p.nets j 0)) t) (sym same))
+        | inr other ↦ opened t i ∙ (there i slot (entry_in (opening_queue p g h (get_or p.nets slot 0)) t) (entry_at c.loop-slot.rows t i) other
+            ∙ c.loop-slot.invariant.opened t i (omega (arith, l, other)))
+      ];
+      rest = λ t i l. opened t i ∙ (there i slot (entry_in (opening_queue p g h (get_or p.nets slot 0)) t) (entry_at c.loop-slot.rows t i) (let ne : i ≢ slot = omega (arith, l) in ne)
+          ∙ c.loop-slot.invariant.rest t i (omega (arith, l)));
     }
 
-pub invariant_of-heard : goal.invariant_of-heard
-invariant_of-heard c =
-    let end : length c.args.part.nets ≤ c.loop-slot.slot = omega (arith, c.len-slot-end.ensures.count, c.loop-slot-test.false) in
-    let queues = map_all (opening_queue c.args.part c.args.stimulus.now c.args.horizon) c.args.part.nets (lists_in c.loop-slot.queues.items) c.loop-slot.slot end c.loop-slot.invariant.queues in
-    let opened : Inside = record { part = c.args.part; horizon = c.args.horizon; floor = 0; sure = 0; queues = c.loop-slot.queues; agenda = c.in_ok-agenda.agenda } in
-    let is : IsReceived (heard_by opened) = rw queues (opening_received c.args.part c.law.ensures c.args.stimulus.now c.args.horizon c.requires (rw queues at c.loop-slot.invariant.ordered)) in
-    record {
-      received = is;
-      listed = agenda_listed opened is c.as_slice.result.now c.as_slice.ensures.value c.in_ok-agenda.ensures.received c.in_ok-agenda.ensures.within;
-      sure = λ n t h. absurd (omega arith);
-    }
+pub invariant_of-result : goal.invariant_of-result
+invariant_of-result c =
+    let end = c.len-slot-end.ensures.count in
+    made_held c.args.part c.law.ensures c.args.stimulus.now c.args.horizon c.loop-slot.rows (c.args.horizon + 1) c.loop-slot.invariant.rows
+    (λ t i l. c.loop-slot.invariant.opened t i (omega (arith, l, end, c.loop-slot-test.false))) (λ i l. c.loop-slot.invariant.queues i (omega (arith, l, end, c.loop-slot-test.false)))
+    (λ t i l. c.loop-slot.invariant.rest t i (omega (arith, l, end, c.loop-slot-test.false, c.loop-slot.auto.slot-end))) c.requires
+
+pub returns : goal.returns
+returns c =
+    let end = c.len-slot-end.ensures.count in
+    made_view c.args.part c.law.ensures c.args.stimulus.now c.args.horizon c.loop-slot.rows (c.args.horizon + 1) c.loop-slot.invariant.rows
+    (λ t i l. c.loop-slot.invariant.opened t i (omega (arith, l, end, c.loop-slot-test.false))) (λ i l. c.loop-slot.invariant.queues i (omega (arith, l, end, c.loop-slot-test.false)))
+    (λ t i l. c.loop-slot.invariant.rest t i (omega (arith, l, end, c.loop-slot-test.false, c.loop-slot.auto.slot-end)))
