@@ -58,54 +58,58 @@ start_round blocks workers floor window Memory h = tt
 
 -- ---- visits
 
--- before any
-pub visited_none : (round : RoundId) (floor window : ℕ) (s : SeatView) → s ≡ empty_seat round → HasPlayed round floor window s
+-- before any, where the time is kept to be reported
+pub visited_none : (round : RoundId) (floor window : ℕ) (s : SeatView) → s ≡ empty_seat round → HasPlayed round floor window (record s { least = min s.least never })
 visited_none round floor window s is = record {
   visits = [];
-  visited = record { ours = ap (λ (v : SeatView). v.round) is; made = All-nil (IsVisited floor window); told = ap (λ (v : SeatView). v.least) is };
+  visited = record { ours = ap (λ (v : SeatView). v.round) is; made = All-nil (IsVisited floor window); told = ap (λ (v : SeatView). min v.least never) is };
   each = ap (λ (v : SeatView). length v.draws) (sym is);
 }
 
--- one more: a block is drawn, and the time that its visit told is reported
-pub visited_more : (round : RoundId) (floor window block time : ℕ) (sent : List Message) (s drawn new : SeatView) → HasPlayed round floor window s →
-    drawn ≡ record s { draws = s.draws ++ block ∷ [] } → IsVisit floor window [] sent time → new ≡ record drawn { least = min drawn.least time } →
-    HasPlayed round floor window new
-visited_more round floor window block time sent s drawn new before draw visit report =
+min_assoc : (a b c : ℕ) → min a (min b c) ≡ min (min a b) c
+min_assoc a b c = omega arith
+
+-- one more: a block is drawn, and the time that its visit told is kept to be reported
+pub visited_more : (round : RoundId) (floor window block kept time : ℕ) (sent : List Message) (s drawn : SeatView) → HasPlayed round floor window (record s { least = min s.least kept }) →
+    drawn ≡ record s { draws = s.draws ++ block ∷ [] } → IsVisit floor window [] sent time →
+    HasPlayed round floor window (record drawn { least = min drawn.least (min kept time) })
+visited_more round floor window block kept time sent s drawn before draw visit =
     let v : Visited = record { sent = sent; least = time } in
-    let draws : new.draws ≡ s.draws ++ block ∷ [] = ap (λ (u : SeatView). u.draws) report ∙ ap (λ (u : SeatView). u.draws) draw in
+    let draws : drawn.draws ≡ s.draws ++ block ∷ [] = ap (λ (u : SeatView). u.draws) draw in
     record {
       visits = before.visits ++ v ∷ [];
       visited = record {
-        ours = ap (λ (u : SeatView). u.round) report ∙ (ap (λ (u : SeatView). u.round) draw ∙ before.visited.ours);
+        ours = ap (λ (u : SeatView). u.round) draw ∙ before.visited.ours;
         made = All-push (IsVisited floor window) before.visits v before.visited.made visit;
-        told = ap (λ (u : SeatView). u.least) report ∙ (ap (λ (u : SeatView). min u.least time) draw ∙ (ap (λ n. min n time) before.visited.told
+        told = ap (λ (u : SeatView). min u.least (min kept time)) draw ∙ (min_assoc s.least kept time ∙ (ap (λ n. min n time) before.visited.told
             ∙ sym (fold-append (λ (n : ℕ) (u : Visited). min n u.least) never before.visits (v ∷ []))));
       };
       each = omega (arith, length-append before.visits (v ∷ []), length-append s.draws (block ∷ []), ap length draws, before.each);
     }
 
--- no block is left
-pub visited_over : (blocks : ℕ) (round : RoundId) (floor window : ℕ) (s new : SeatView) (fault : Option RunFault) → HasPlayed round floor window s →
-    new ≡ record s { marked = true } → fault ≡ None → IsOver blocks round floor window new fault
-visited_over blocks round floor window s new fault before mark well =
+-- no block is left, and the time that was kept is reported
+pub visited_over : (blocks : ℕ) (round : RoundId) (floor window kept : ℕ) (s drawn new : SeatView) (fault : Option RunFault) →
+    HasPlayed round floor window (record s { least = min s.least kept }) →
+    drawn ≡ record s { marked = true } → new ≡ record drawn { least = min drawn.least kept } → fault ≡ None → IsOver blocks round floor window new fault
+visited_over blocks round floor window kept s drawn new fault before mark report well =
     let over : IsPlayedOut round floor window new = (
       record {
         visits = before.visits;
         visited = record {
-          ours = ap (λ (u : SeatView). u.round) mark ∙ before.visited.ours;
+          ours = ap (λ (u : SeatView). u.round) report ∙ (ap (λ (u : SeatView). u.round) mark ∙ before.visited.ours);
           made = before.visited.made;
-          told = ap (λ (u : SeatView). u.least) mark ∙ before.visited.told;
+          told = ap (λ (u : SeatView). u.least) report ∙ (ap (λ (u : SeatView). min u.least kept) mark ∙ before.visited.told);
         };
-        each = before.each ∙ sym (ap (λ (u : SeatView). length u.draws) mark);
+        each = before.each ∙ sym (ap (λ (u : SeatView). length u.draws) report ∙ ap (λ (u : SeatView). length u.draws) mark);
       },
-      ap (λ (u : SeatView). u.marked) mark,
+      ap (λ (u : SeatView). u.marked) report ∙ ap (λ (u : SeatView). u.marked) mark,
     ) in
     subst (IsOver blocks round floor window new) (sym well) over
 
 -- a block is drawn, and its visit meets a fault
-pub visited_faulty : (blocks : ℕ) (round : RoundId) (floor window number : ℕ) (s drawn : SeatView) (fault : RunFault) → HasPlayed round floor window s →
+pub visited_faulty : (blocks : ℕ) (round : RoundId) (floor window number kept : ℕ) (s drawn : SeatView) (fault : RunFault) → HasPlayed round floor window (record s { least = min s.least kept }) →
     drawn ≡ record s { draws = s.draws ++ number ∷ [] } → IsWorkFault blocks floor window fault → IsOver blocks round floor window drawn (Some fault)
-visited_faulty blocks round floor window number s drawn fault before draw met = (ap (λ (u : SeatView). u.round) draw ∙ before.visited.ours, met)
+visited_faulty blocks round floor window number kept s drawn fault before draw met = (ap (λ (u : SeatView). u.round) draw ∙ before.visited.ours, met)
 
 -- a round over the blocks some times, or once
 pub over_laps : (blocks laps draws : ℕ) (round : RoundId) → (draws ≡ blocks * laps) ⊎ (draws ≡ blocks) → round.blocks ≡ draws → HasLaps blocks round

@@ -17,20 +17,20 @@ const FIRST: u64 = 64;
 /// How much newer turns count in a density.
 const NEWER: u64 = 16;
 
-/// A round with less work isn't worth other threads than the caller's.
+/// A round that would have less work, however often it goes over the blocks, isn't worth other threads than the caller's.
 const LITTLE: u64 = 2048;
 
 /// About how many changes a turn makes at most, where several blocks have work.
-const TURN: u64 = 2048;
+const TURN: u64 = 1 << 13;
 
 /// About how many it makes at most, where one block has most of the work.
 const LONG_TURN: u64 = 1 << 14;
 
 /// A round with less work goes over the blocks more often, so that its threads are worth their start.
-const ENOUGH: u64 = 1 << 16;
+const ENOUGH: u64 = 1 << 19;
 
 /// How often a round goes over the blocks at most.
-const MOST_LAPS: u32 = 64;
+const MOST_LAPS: u32 = 256;
 
 /// The logs of so many nets stand for those of all.
 const SAMPLE: usize = 16;
@@ -256,9 +256,11 @@ impl Tally {
         }
     }
 
-    /// Whether one worker alone had better do as much again: it is little, or one turn had most of it.
-    pub(crate) fn is_for_one(self) -> bool {
-        self.work < LITTLE || self.most > self.work / 2
+    /// Whether one worker alone had better do as much again, where the blocks were gone over so often: it would be little even if
+    /// they were gone over as often as can be, or one turn had most of it.
+    pub(crate) fn is_for_one(self, laps: u32) -> bool {
+        let more = u64::from(MOST_LAPS / laps.max(1));
+        self.work.saturating_mul(more) < LITTLE || self.most > self.work / 2
     }
 }
 
@@ -293,12 +295,17 @@ impl Lead {
     /// That of the next round: half as far, where more than a tenth of what was done in this one was undone, else a
     /// quarter further. Turns are twice as long where one worker had better play, else half as long. There are twice as many
     /// laps where there was little work, else half as many.
-    pub(crate) fn after(self, tally: Tally) -> Lead {
+    pub(crate) fn after(self, tally: Tally, is_for_one: bool) -> Lead {
         Lead {
             time: self.time_after(tally),
-            changes: self.changes_after(tally),
+            changes: self.changes_after(is_for_one),
             laps: self.laps_after(tally),
         }
+    }
+
+    /// How often a round of so many workers goes over the blocks: one worker meets nobody at its end.
+    pub(crate) fn laps_for(self, workers: u32) -> u32 {
+        if workers > 1 { self.laps } else { 1 }
     }
 
     /// How far blocks go above what all have come to, in the next round.
@@ -310,11 +317,11 @@ impl Lead {
     }
 
     /// About how many changes a turn makes at most in the next round. Where that has no end it stays so.
-    fn changes_after(self, tally: Tally) -> u64 {
+    fn changes_after(self, is_for_one: bool) -> u64 {
         if self.changes > LONG_TURN {
             return self.changes;
         }
-        if tally.is_for_one() {
+        if is_for_one {
             return (self.changes * 2).min(LONG_TURN);
         }
         (self.changes / 2).max(TURN)
@@ -345,9 +352,9 @@ impl Pace {
         }
     }
 
-    /// How often a round of so many workers goes over the blocks: one worker meets nobody at its end.
+    /// How often a round of so many workers goes over the blocks.
     pub(crate) fn laps(&self, workers: u32) -> u32 {
-        if workers > 1 { self.lead.laps } else { 1 }
+        self.lead.laps_for(workers)
     }
 
     /// Asks all blocks how far they have come.

@@ -182,8 +182,8 @@ fn play_rounds<G: Gate + Sync, W: Watch, R: Threads + Wait + Sync>(
             rt, alloc, sites, &mut desks, seats, floor, window, lead, gate,
         )?;
         floor = played.least;
-        lead = lead.after(played.tally);
-        is_alone = played.tally.is_for_one();
+        is_alone = played.tally.is_for_one(lead.laps_for(seats));
+        lead = lead.after(played.tally, is_alone);
         rounds = rounds.saturating_add(1);
         watch.floor(floor);
     }

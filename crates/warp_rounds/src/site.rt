@@ -29,9 +29,28 @@ pub struct Site {
     held: Mutex<Held>,
     inbox: Mutex<Vec<Message>>,
     /// Up to when nothing will be taken back that the block tells, as its last visit knew. It sets the pace alone.
-    settled: AtomicU64,
+    settled: Settled,
     /// Who tells the block, as far as that is known.
     tellers: Vec<Teller>,
+}
+
+/// A time that other visits read. There is room around it, so that they don't wait for who writes what lies beside it: processors pass
+/// memory on in lines of 64 bytes.
+#[derive(Drop)]
+struct Settled {
+    before: [u64; 8],
+    time: AtomicU64,
+    after: [u64; 8],
+}
+
+impl Settled {
+    fn at_start() -> Settled {
+        Settled {
+            before: [0; 8],
+            time: AtomicU64::new(0),
+            after: [0; 8],
+        }
+    }
 }
 
 /// What a site's lock keeps: the block, and what its visits leave to one another.
@@ -202,7 +221,7 @@ impl Site {
                 messages: Vec::new(alloc),
             }),
             inbox: Mutex::new(Vec::new(alloc)),
-            settled: AtomicU64::new(0),
+            settled: Settled::at_start(),
             tellers,
         }
     }
@@ -222,12 +241,12 @@ impl Site {
 
     /// Up to when nothing will be taken back that the block tells, as its last visit knew.
     pub(crate) fn settled(&self) -> u64 {
-        self.settled.load(SeqCst)
+        self.settled.time.load(SeqCst)
     }
 
     /// Says up to when nothing will be taken back that the block tells. All that it told below is in the inboxes.
     pub(crate) fn settle(&self, until: u64) {
-        self.settled.store(until, SeqCst);
+        self.settled.time.store(until, SeqCst);
     }
 
     /// Puts a message into the inbox: it is in flight until a visit takes it. The error is a refused growth; after it

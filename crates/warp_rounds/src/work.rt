@@ -254,7 +254,7 @@ fn joined<'a, R: Threads>(
     }
 }
 
-// A worker's round: it draws blocks until none is left, or until a fault.
+// A worker's round: it draws blocks until none is left, and then reports the least time that their turns told, or until a fault.
 fn work<G: Gate, R: Wait>(
     rt: &R,
     round: &Round,
@@ -269,8 +269,10 @@ fn work<G: Gate, R: Wait>(
     requires count { HasLaps (length sites.now) round.now.round }
     ensures { HasWorked (length sites.now) round.now.round floor window result }
 {
+    let mut least = u64::MAX;
     for _ in rt.forever() {
         let Some(number) = round.draw(&mut worker.seat) else {
+            round.report(&mut worker.seat, least);
             return worker;
         };
         let block = block_of(number, sites.len());
@@ -285,7 +287,7 @@ fn work<G: Gate, R: Wait>(
             gate,
         ) {
             Ok(played) => {
-                round.report(&mut worker.seat, played.least);
+                least = least.min(played.least);
                 worker.tally = worker.tally.with(played.tally);
             }
             Err(fault) => {
