@@ -8,9 +8,9 @@ use Rattle.bit_compare.specs.declared.difference.Tolerance.{Tolerance}
 use Rattle.bit_compare.specs.declared.times.Times.{Times}
 use Rattle.bit_compare.specs.Agreement.{Agrees, AreAlike, IsAmong, IsCompared, IsExpected, IsFinding}
 use Rattle.bit_compare.specs.declared.shown.Shown.{Shown}
-use Rattle.bit_compare.specs.Inner.Moments.{shown}
+use Rattle.bit_compare.specs.Shown.Moments.{shown}
 use Rattle.bit_compare.specs.Inner.Cursors.{Holds, IsNearUntil, bit_of}
-use Rattle.bit_compare.specs.Inner.Steps.{IsNext}
+use Rattle.bit_compare.specs.Shown.Steps.{IsNext}
 use Rattle.bit_compare.specs.Inner.Until.{AreTogether, IsUntil, Stands}
 
 le_or_lt : (n m : ℕ) → (n ≤ m) ⊎ (m < n)

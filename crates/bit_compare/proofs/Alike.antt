@@ -4,7 +4,8 @@ use Rattle.bit_compare.specs.declared.difference.Tolerance.{Tolerance}
 use Rattle.bit_compare.specs.declared.shown.Shown.{Shown}
 use Rattle.bit_compare.specs.declared.times.Times.{Times}
 use Rattle.bit_compare.specs.Agreement.{Agrees, IsFinding}
-use Rattle.bit_compare.specs.Inner.Moments.{IsSame, shown}
+use Rattle.bit_compare.specs.Inner.Moments.{IsSame}
+use Rattle.bit_compare.specs.Shown.Moments.{shown}
 
 same-shown : (s r : Shown) → IsSame s r → (t : ℕ) → shown s t ≡ shown r t
 same-shown s r h t = rw (h.first, h.scale, h.later, h.earlier, h.changes) refl

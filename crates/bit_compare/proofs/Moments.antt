@@ -10,7 +10,8 @@ use Rattle.gate_values.specs.declared.logic.Change.{Change}
 use Rattle.gate_values.specs.Changes.{latest}
 use Rattle.bit_compare.specs.declared.shown.Shown.{Shown}
 use Rattle.bit_compare.specs.Bits.{Lens, value_through}
-use Rattle.bit_compare.specs.Inner.Moments.{AreMoments, AreRising, IsCount, IsPassed, IsShown, IsSmall, is_gone, lens_of, seen_at, value_after}
+use Rattle.bit_compare.specs.Inner.Moments.{IsCount, IsPassed, is_gone}
+use Rattle.bit_compare.specs.Shown.Moments.{AreMoments, AreRising, IsShown, IsSmall, lens_of, seen_at, value_after}
 
 pub le_true : (n m : ℕ) → n ≤ m → nat_le n m ≡ true
 le_true n m h = grind (arith, nat_tests, h)

@@ -9,7 +9,8 @@ use Rattle.gate_values.specs.Changes.{latest, same}
 use Rattle.gate_values.proofs.ChangeLists.{same_is}
 use Rattle.bit_compare.specs.declared.cursor.Cursor.{Cursor}
 use Rattle.bit_compare.specs.Agreement.{IsAmong}
-use Rattle.bit_compare.specs.Inner.Moments.{AreMoments, IsCount, never, value_after}
+use Rattle.bit_compare.specs.Inner.Moments.{IsCount}
+use Rattle.bit_compare.specs.Shown.Moments.{AreMoments, never, value_after}
 use Rattle.bit_compare.specs.Inner.Cursors.{Holds, IsAt, IsNearUntil, IsReady, IsRecent, bit_of, recent_of, seen_by}
 use Rattle.bit_compare.proofs.Moments.{latest-count, value_after-none}
 

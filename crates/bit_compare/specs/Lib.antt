@@ -1,3 +1,4 @@
 pub mod Bits
 pub mod Agreement
 pub mod Inner
+pub mod Shown

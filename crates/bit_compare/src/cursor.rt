@@ -1,6 +1,7 @@
 ghost use Rattle.std.specs.Prelude.{◌≡◌, ◌≤◌, ◌<◌, ◌^◌, ◌+◌, ◌∷◌, ℕ, IsTrue, false, length, slice_index_or};
 ghost use Rattle.gate_values.specs.declared.logic.Change.{Change};
-ghost use Rattle.bit_compare.specs.Inner.Moments.{IsCount, IsPassed, IsShown, moments, never};
+ghost use Rattle.bit_compare.specs.Inner.Moments.{IsCount, IsPassed};
+ghost use Rattle.bit_compare.specs.Shown.Moments.{IsShown, moments, never};
 
 use crate::recent::Recent;
 use crate::shown::Shown;

@@ -2,9 +2,9 @@ ghost use Rattle.std.specs.Prelude.{◌≡◌, ◌≤◌, ◌<◌, ◌↔◌, �
 ghost use Rattle.gate_values.specs.declared.logic.Logic.{Logic};
 ghost use Rattle.gate_values.specs.declared.logic.Logic.TheVariants.{X};
 ghost use Rattle.bit_compare.specs.Agreement.{Agrees, AreAlike, IsExpected, IsFinding};
-ghost use Rattle.bit_compare.specs.Inner.Moments.{IsShown, shown};
+ghost use Rattle.bit_compare.specs.Shown.Moments.{IsShown, shown};
 ghost use Rattle.bit_compare.specs.Inner.Cursors.{IsAt, bit_of};
-ghost use Rattle.bit_compare.specs.Inner.Steps.{AreSmall};
+ghost use Rattle.bit_compare.specs.Shown.Steps.{AreSmall};
 ghost use Rattle.bit_compare.specs.Inner.Until.{AreTogether, IsUntil};
 
 use crate::cursor::Cursor;

@@ -1,6 +1,7 @@
 ghost use Rattle.std.specs.Prelude.{◌≡◌, ◌≤◌, ◌<◌, ◌^◌, ◌+◌, ◌*◌, ◌-◌, ℕ, length, slice_index_or, nat_le, true, false, IsTrue};
 ghost use Rattle.gate_values.specs.declared.logic.Change.{Change};
-ghost use Rattle.bit_compare.specs.Inner.Moments.{AreRising, IsSmall, is_gone, lens, value_after};
+ghost use Rattle.bit_compare.specs.Inner.Moments.{is_gone};
+ghost use Rattle.bit_compare.specs.Shown.Moments.{AreRising, IsSmall, lens, value_after};
 
 use gate_values::{Change, Logic};
 
@@ -58,7 +59,7 @@ fn value_in(first: Logic, changes: &[Change], count: usize) -> Logic
 
 impl<'a> Shown<'a> {
     ghost use Rattle.bit_compare.specs.Bits.{value_through};
-    ghost use Rattle.bit_compare.specs.Inner.Moments.{IsShown, moments, shown, never};
+    ghost use Rattle.bit_compare.specs.Shown.Moments.{IsShown, moments, shown, never};
 
     /// A bit with these changes, at rising times, looked at `later` and `earlier` by times of the common unit.
     pub fn new(changes: &'a [Change], scale: u64, later: u128, earlier: u128) -> Shown<'a>

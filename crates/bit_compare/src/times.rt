@@ -1,6 +1,7 @@
 ghost use Rattle.std.specs.Prelude.{◌≡◌, ◌≤◌, ◌<◌, ◌^◌, ◌+◌, ℕ, MatchOption};
 ghost use Rattle.bit_compare.specs.Agreement.{IsCompared};
-ghost use Rattle.bit_compare.specs.Inner.Steps.{AreSmall, IsStep, IsNext};
+ghost use Rattle.bit_compare.specs.Inner.Steps.{IsStep};
+ghost use Rattle.bit_compare.specs.Shown.Steps.{AreSmall, IsNext};
 
 /// The times that are compared: from `from` to `to`, those that `step` leads to from `start` on.
 #[derive(Clone, Copy, Debug, PartialEq, Eq)]

@@ -5,8 +5,8 @@ use Rattle.gate_values.specs.declared.logic.Logic.{Logic}
 use Rattle.gate_values.specs.declared.logic.Logic.TheVariants.{Zero, One, X, Z}
 use Rattle.gate_values.proofs.Induction.{strong}
 use Rattle.gate_values.specs.Tables.{table_of, flip_of}
-use Rattle.gate_values.specs.Behaviour.{Source, Outside, Gate, Flop, Moment, initial_of, beginning, back, output, source_delay, history, before, value, content}
-use Rattle.gate_values.specs.Inner.Behaviour.{IsOver}
+use Rattle.gate_values.specs.Behaviour.{Source, Outside, Gate, Flop, Moment, initial_of, beginning, back, output, source_delay, history, before, value}
+use Rattle.gate_values.specs.Inner.Behaviour.{content, IsOver}
 
 module _ (source : ℕ → Source) (given : ℕ → ℕ → Logic) where
   -- what lies back in the history

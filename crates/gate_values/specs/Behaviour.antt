@@ -75,10 +75,6 @@ before source given t = back (beginning source) (history source given t) 1
 abbrev pub value : (ℕ → Source) → (ℕ → ℕ → Logic) → ℕ → ℕ → Logic
 value source given n t = (before source given (suc t)).value n
 
--- the content of flip-flop n at time t
-abbrev pub content : (ℕ → Source) → (ℕ → ℕ → Logic) → ℕ → ℕ → Logic
-content source given n t = (before source given (suc t)).content n
-
 -- how long the source takes
 abbrev pub source_delay : Source → ℕ
 source_delay Outside = 0

@@ -10,8 +10,8 @@ use Rattle.gate_vcd.specs.Reading.{or_fault, Fails}
 use Rattle.gate_vcd.specs.Declarations.{Header, declared, declaring, keyword_of, opens_command, ends_declarations}
 use Rattle.gate_vcd.specs.declared.keyword.Keyword.{Keyword}
 use Rattle.gate_vcd.specs.declared.keyword.Keyword.TheVariants as words
-use Rattle.gate_vcd.specs.Inner.Commands.{has_texts, until_end, rest_of_command}
-use Rattle.gate_vcd.specs.Inner.Scopes.{along, AreAlong}
+use Rattle.gate_vcd.specs.Shown.Commands.{has_texts, until_end, rest_of_command}
+use Rattle.gate_vcd.specs.Shown.Scopes.{along, AreAlong}
 
 -- the innermost scope closes
 pub closed : (asked : Option (List ℕ)) (ends new : List (Option ℕ)) (scopes : List (List ℕ)) → AreAlong asked ends scopes → new ≡ take (length ends - 1) ends → AreAlong asked new (take (length scopes - 1) scopes)

@@ -9,12 +9,12 @@ use Rattle.gate_values.proofs.ChangeLists.{changes-agree}
 use Rattle.gate_vcd.specs.Changes.{Event, Source, changes_with, value_at_place, value_with, last_stamp}
 use Rattle.gate_vcd.specs.Inner.Items.{AreHeld, AreKept, AreSettled, Taken, given_after, last_of, makes, reaches}
 use Rattle.gate_vcd.specs.Inner.Settled.{settled}
-use Rattle.gate_vcd.specs.Inner.Words.{texts}
+use Rattle.gate_vcd.specs.Shown.Words.{texts}
 use Rattle.gate_vcd.proofs.Keeping.{append-nil, events-none, kept-none, more_changes, one_more, past-more, same_bytes, up_to_with}
 use Rattle.gate_vcd.proofs.Links.{last_below-last, last_below-stands, slice_get-within}
 use Rattle.gate_vcd.proofs.Reaching.{given-digits, given-more, given-none, latest-still, makes-same, value-given-all}
 use Rattle.gate_vcd.proofs.Settling.{settled-changes}
-use Rattle.gate_vcd.specs.Inner.Known.{is_of}
+use Rattle.gate_vcd.specs.Shown.Known.{is_of}
 
 abbrev event_to : ℕ → List ℕ → List ℕ → Event
 event_to now code digits = record { time = now; code = code; digits = digits }

@@ -10,14 +10,15 @@ use Rattle.std.proofs.lemmas.List.{map-append, take_more}
 use Rattle.std.proofs.lemmas.Slice.Eq.{bytes_eq-Decides}
 use Rattle.gate_vcd.specs.declared.variable.Variable.{Variable as Held}
 use Rattle.gate_vcd.specs.Declarations.{Variable}
-use Rattle.gate_vcd.specs.Inner.Commands.{variable, variables}
+use Rattle.gate_vcd.specs.Shown.Commands.{variable, variables}
 use Rattle.std.specs.Option.{option_or}
 use Rattle.gate_vcd.specs.Inputs.{is_single, is_scalar_of, scalar_code, is_named_for, source_of_net, sources_below}
 use Rattle.gate_netlist.specs.Circuit.{Design}
 use Rattle.gate_vcd.specs.declared.fault.StimFault.{StimFault}
 use Rattle.gate_vcd.specs.declared.source.Source.{Source as HeldSource}
 use Rattle.gate_vcd.specs.Changes.{Source}
-use Rattle.gate_vcd.specs.Inner.Known.{Sources, flat, number_of, same_source, source_by, sources_by}
+use Rattle.gate_vcd.specs.Inner.Known.{Sources, flat, number_of, same_source}
+use Rattle.gate_vcd.specs.Shown.Known.{source_by, sources_by}
 use Rattle.gate_vcd.specs.Inner.Scalars.{code_if, numbers_of, without_index}
 use Rattle.gate_vcd.proofs.Keeping.{same_bytes}
 

@@ -15,7 +15,8 @@ use Rattle.gate_vcd.specs.Reading.{Fails}
 use Rattle.gate_vcd.specs.Inner.Reading.{Reads}
 use Rattle.gate_vcd.specs.Changes.{Item, stamp, change, wrong, Event, events_from, event_at, last_time, stamped, last_stamp}
 use Rattle.gate_vcd.specs.Inner.Items.{AreHeld, AreTaken, IsTaken, Taken, TakesItem, fault_of}
-use Rattle.gate_vcd.specs.Inner.Known.{knows, source, sources_in}
+use Rattle.gate_vcd.specs.Inner.Known.{knows, sources_in}
+use Rattle.gate_vcd.specs.Shown.Known.{source}
 use Rattle.gate_vcd.proofs.DeclarationLaws.{fails_then}
 use Rattle.gate_vcd.proofs.Keeping.{past-later}
 use Rattle.gate_vcd.proofs.Holding.{held-none}

@@ -12,7 +12,8 @@ use Rattle.gate_vcd.specs.Changes.{Source}
 use Rattle.gate_vcd.specs.Inner.Table.{found_in}
 use Rattle.gate_vcd.specs.declared.known.KnownCodes.{KnownCodes}
 use Rattle.gate_vcd.specs.declared.source.Source.{Source as Held}
-use Rattle.gate_vcd.specs.Inner.Known.{AreFallingNets, AreLinked, IsLeast, IsLinked, Takes, flat, is_of, is_taken, knows, last_below, same_source, source, source_by, sources_by, sources_in}
+use Rattle.gate_vcd.specs.Inner.Known.{AreFallingNets, AreLinked, IsLeast, IsLinked, Takes, flat, is_taken, knows, last_below, same_source, sources_in}
+use Rattle.gate_vcd.specs.Shown.Known.{is_of, source, source_by, sources_by}
 use Rattle.gate_vcd.proofs.Compared.{cases_eq}
 use Rattle.gate_vcd.proofs.Keeping.{same_bytes}
 use Rattle.gate_vcd.proofs.InputLaws.{any-more, more_taken, one_code, same_sources, turned}

@@ -10,7 +10,8 @@ use Rattle.gate_vcd.specs.Changes.{last_stamp}
 use Rattle.gate_vcd.specs.Waves.{lists_in}
 use Rattle.gate_vcd.specs.Inner.Lists.{IsRising}
 use Rattle.gate_vcd.specs.Given.{AreItsChanges, changes_of}
-use Rattle.gate_vcd.specs.Inner.Held.{given_by, AreLaidOut}
+use Rattle.gate_vcd.specs.Inner.Held.{AreLaidOut}
+use Rattle.gate_vcd.specs.Shown.Held.{given_by}
 use Rattle.gate_vcd.proofs.Keeping.{changes-none, latest-none}
 use Rattle.gate_vcd.proofs.Meaning.{changes-rising}
 

@@ -25,7 +25,8 @@ use Rattle.gate_vcd.specs.Declarations.{Header, Variable, no_header, declaring}
 use Rattle.gate_vcd.specs.Changes.{Item, stamp, change, wrong, Event, Source, items, nothing, events_from, stamped, changes_with, value_with, last_stamp}
 use Rattle.gate_vcd.specs.declared.source.Source.{Source as HeldSource}
 use Rattle.gate_vcd.specs.Inner.Items.{AreKept}
-use Rattle.gate_vcd.specs.Inner.Known.{Sources, is_of, is_taken, is_used, knows, number_of, same_source, source, takes}
+use Rattle.gate_vcd.specs.Inner.Known.{Sources, is_taken, knows, number_of, same_source, takes}
+use Rattle.gate_vcd.specs.Shown.Known.{is_of, is_used, source}
 use Rattle.gate_vcd.specs.Vectors.{Bit, bit_of, place_in, vector_of}
 use Rattle.gate_vcd.specs.declared.known.KnownCodes.{KnownCodes}
 use Rattle.std.specs.Option.{option_or}
@@ -33,7 +34,8 @@ use Rattle.gate_vcd.specs.Inputs.{bit_source, first_given, is_scalar_of, scalar_
 use Rattle.gate_vcd.specs.Waves.{lists_in}
 use Rattle.gate_vcd.specs.Inner.Lists.{IsRising}
 use Rattle.gate_vcd.specs.Given.{Given, AreItsChanges, Fits, changes_of, value_at}
-use Rattle.gate_vcd.specs.Inner.Held.{given_by, AreLaidOut}
+use Rattle.gate_vcd.specs.Inner.Held.{AreLaidOut}
+use Rattle.gate_vcd.specs.Shown.Held.{given_by}
 use Rattle.gate_vcd.specs.Inner.Scalars.{numbers_of}
 use Rattle.gate_vcd.specs.Sources.{AreDeclared}
 use Rattle.gate_vcd.specs.Stimulus.{reading_of, has_code, value_of_source, Means}

@@ -5,7 +5,8 @@ use Rattle.std.proofs.lemmas.List.{map-append, length-map}
 use Rattle.std.specs.List.{starts_with}
 use Rattle.std.specs.Str.{bytes_eq}
 use Rattle.gate_vcd.specs.Declarations.{path_of, inner_path, is_counted}
-use Rattle.gate_vcd.specs.Inner.Scopes.{along, AreAlong, end_in, next_end, is_asked}
+use Rattle.gate_vcd.specs.Inner.Scopes.{end_in, next_end, is_asked}
+use Rattle.gate_vcd.specs.Shown.Scopes.{along, AreAlong}
 
 -- a text that begins with two texts in a row
 pub starts-append : (p q t : List ℕ) → starts_with nat_eq t (p ++ q) ≡ (starts_with nat_eq t p && starts_with nat_eq (drop (length p) t) q)

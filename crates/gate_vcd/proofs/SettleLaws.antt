@@ -11,7 +11,8 @@ use Rattle.gate_vcd.specs.Tokens.{Token}
 use Rattle.gate_vcd.specs.Changes.{Event, Source, value_at_place}
 use Rattle.gate_vcd.specs.Inner.Items.{AreHeld, AreSettled, IsTaken, Taken, makes, moves, reaches}
 use Rattle.gate_vcd.specs.Inner.Settled.{settled}
-use Rattle.gate_vcd.specs.Inner.Known.{AreFalling, AreLinked, is_of, knows, last_below, source, sources_in}
+use Rattle.gate_vcd.specs.Inner.Known.{AreFalling, AreLinked, knows, last_below, sources_in}
+use Rattle.gate_vcd.specs.Shown.Known.{is_of, source}
 use Rattle.gate_vcd.proofs.Compared.{cases_eq, cases_lt, le_true, le_false}
 use Rattle.gate_vcd.proofs.Keeping.{same_bytes}
 use Rattle.gate_vcd.proofs.Reaching.{reaches-less}

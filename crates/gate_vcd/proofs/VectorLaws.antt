@@ -13,7 +13,7 @@ use Rattle.gate_vcd.specs.declared.variable.Variable.{Variable as Held}
 use Rattle.gate_vcd.specs.declared.vectors.Vectors.{Vectors}
 use Rattle.gate_vcd.specs.Changes.{Source}
 use Rattle.gate_vcd.specs.Declarations.{Variable}
-use Rattle.gate_vcd.specs.Inner.Commands.{variable, variables}
+use Rattle.gate_vcd.specs.Shown.Commands.{variable, variables}
 use Rattle.gate_vcd.specs.Inner.Runs.{is_in, kept_at}
 use Rattle.gate_vcd.specs.Inner.Scalars.{AreVectors, kept_source, source_from}
 use Rattle.gate_vcd.specs.Inputs.{first_given, source_in}

@@ -3,7 +3,6 @@ pub mod Buckets
 pub mod Bundles
 pub mod ByTime
 pub mod Commands
-pub mod Grown
 pub mod Headers
 pub mod Held
 pub mod HeldWaves

@@ -16,3 +16,4 @@ pub mod Stimulus
 pub mod Sources
 pub mod Refusals
 pub mod Inner
+pub mod Shown

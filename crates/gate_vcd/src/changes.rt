@@ -4,11 +4,13 @@ ghost use Rattle.gate_vcd.specs.Changes.{Event, Source as TextSource, Item as Te
 ghost use Rattle.gate_vcd.specs.Faults.{out_of_memory};
 ghost use Rattle.gate_vcd.specs.Inner.Items.{AreHeld, AreSettled, AreTaken, IsTaken, TakesItem, item_of, last_of, makes, reaches, taken_in};
 ghost use Rattle.gate_vcd.specs.Inner.Settled.{settled};
-ghost use Rattle.gate_vcd.specs.Inner.Known.{IsLinked, knows, source, sources_in};
+ghost use Rattle.gate_vcd.specs.Inner.Known.{IsLinked, knows, sources_in};
+ghost use Rattle.gate_vcd.specs.Shown.Known.{source};
 ghost use Rattle.gate_vcd.specs.Waves.{lists_in};
 ghost use Rattle.gate_vcd.specs.Reading.{Fails};
 ghost use Rattle.gate_vcd.specs.Inner.Reading.{Reads};
-ghost use Rattle.gate_vcd.specs.Inner.Words.{bytes_of, texts, token_of};
+ghost use Rattle.gate_vcd.specs.Inner.Words.{bytes_of};
+ghost use Rattle.gate_vcd.specs.Shown.Words.{texts, token_of};
 
 use crate::bundles::Bundles;
 use crate::digits::{past_end, value_at_place};

@@ -1,12 +1,13 @@
 ghost use Rattle.std.specs.Prelude.{◌≡◌, ◌≤◌, ◌∷◌, [], None, get_or, length, option_map};
 ghost use Rattle.std.specs.List.{concat};
 ghost use Rattle.gate_vcd.specs.declared.fault.StimCause.TheVariants as causes;
-ghost use Rattle.gate_vcd.specs.Inner.Commands.{IsBody, has_texts, rest_of_command, variables};
+ghost use Rattle.gate_vcd.specs.Shown.Commands.{IsBody, has_texts, rest_of_command, variables};
 ghost use Rattle.gate_vcd.specs.Declarations.{Header, timescale_of, keyword_of, opens_command, declared as declared_by, declaring, no_header, ends_declarations};
-ghost use Rattle.gate_vcd.specs.Inner.Headers.{IsHeader, Declares, GoesOn, AreRead, asked_of};
+ghost use Rattle.gate_vcd.specs.Inner.Headers.{GoesOn, AreRead};
+ghost use Rattle.gate_vcd.specs.Shown.Headers.{IsHeader, Declares, asked_of};
 ghost use Rattle.gate_vcd.specs.Reading.{or_fault};
 ghost use Rattle.gate_vcd.specs.Inner.Reading.{Reads};
-ghost use Rattle.gate_vcd.specs.Inner.Words.{texts, token_of};
+ghost use Rattle.gate_vcd.specs.Shown.Words.{texts, token_of};
 
 use crate::fault::{StimCause, StimFault};
 use crate::items::skip_command;

@@ -2,11 +2,12 @@ ghost use Rattle.std.specs.Prelude.{◌≡◌, ◌<◌, ◌++◌, ℕ, List, Err
 ghost use Rattle.std.specs.List.{list_any, starts_with};
 ghost use Rattle.std.specs.Str.{bytes_eq};
 ghost use Rattle.gate_netlist.specs.Circuit.{nets_of, driver_of, is_input};
-ghost use Rattle.gate_vcd.specs.Inner.Commands.{variable as variable_of, variables};
+ghost use Rattle.gate_vcd.specs.Shown.Commands.{variable as variable_of, variables};
 ghost use Rattle.gate_vcd.specs.Faults.{out_of_memory};
 ghost use Rattle.std.specs.Option.{option_or};
 ghost use Rattle.gate_vcd.specs.Inputs.{is_named_for, is_single, is_scalar_of, bit_source, source_of, cause_without, source_or_fault, source_of_net, sources_below};
-ghost use Rattle.gate_vcd.specs.Inner.Known.{number_of, source, source_by, sources_by};
+ghost use Rattle.gate_vcd.specs.Inner.Known.{number_of};
+ghost use Rattle.gate_vcd.specs.Shown.Known.{source, source_by, sources_by};
 ghost use Rattle.gate_vcd.specs.Inner.Scalars.{AreInputs, AreScalars, code_if, code_in, numbers_of, without_index};
 ghost use Rattle.gate_vcd.specs.Inner.Sought.{IsGiven};
 

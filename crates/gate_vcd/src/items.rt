@@ -2,7 +2,8 @@ ghost use Rattle.std.specs.Prelude.{◌<◌, ◌≤◌, length, IfOk, IfSome};
 ghost use Rattle.gate_vcd.specs.Changes.{items, nothing, end_of, code_of};
 ghost use Rattle.gate_vcd.specs.Inner.Commands.{IsSkipped};
 ghost use Rattle.gate_vcd.specs.Inner.Items.{IsNext, IsPassed};
-ghost use Rattle.gate_vcd.specs.Inner.Words.{bytes_of, token_of};
+ghost use Rattle.gate_vcd.specs.Inner.Words.{bytes_of};
+ghost use Rattle.gate_vcd.specs.Shown.Words.{token_of};
 
 use crate::fault::{StimCause, StimFault};
 use crate::form::{Form, after_first, first_of, form_of};

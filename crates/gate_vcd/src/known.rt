@@ -3,10 +3,11 @@ ghost use Rattle.std.specs.List.{list_any};
 ghost use Rattle.std.specs.Option.{option_map_or};
 ghost use Rattle.std.specs.Str.{bytes_eq};
 ghost use Rattle.gate_vcd.specs.Changes.{Source as TextSource};
-ghost use Rattle.gate_vcd.specs.Inner.Commands.{variables};
+ghost use Rattle.gate_vcd.specs.Shown.Commands.{variables};
 ghost use Rattle.gate_vcd.specs.Faults.{out_of_memory};
 ghost use Rattle.gate_vcd.specs.Inner.Table.{found_in};
-ghost use Rattle.gate_vcd.specs.Inner.Known.{AreFallingNets, IsLeast, IsLinked, Takes, flat, is_used, is_taken, knows, source as source_of, source_by, sources_by, takes};
+ghost use Rattle.gate_vcd.specs.Inner.Known.{AreFallingNets, IsLeast, IsLinked, Takes, flat, is_taken, knows, takes};
+ghost use Rattle.gate_vcd.specs.Shown.Known.{is_used, source as source_of, source_by, sources_by};
 
 use crate::fault::StimFault;
 use crate::source::Source;

@@ -1,7 +1,8 @@
 ghost use Rattle.std.specs.Prelude.{◌≡◌, ◌≤◌, ◌-◌, ◌++◌, ◌∷◌, [], ℕ, List, length, take, option_map, slice_get, unwrap_or, IfErr, OnOk};
 ghost use Rattle.gate_vcd.specs.Declarations.{inner_path, is_counted};
 ghost use Rattle.gate_vcd.specs.Faults.{out_of_memory};
-ghost use Rattle.gate_vcd.specs.Inner.Scopes.{AreAlong, end_in, next_end, is_asked};
+ghost use Rattle.gate_vcd.specs.Inner.Scopes.{end_in, next_end, is_asked};
+ghost use Rattle.gate_vcd.specs.Shown.Scopes.{AreAlong};
 
 use crate::fault::StimFault;
 use std::alloc::Global;

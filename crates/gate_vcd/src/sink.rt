@@ -33,7 +33,7 @@ impl Model for Grow {
 
     ghost Value = { Held };
 
-    ghost use Rattle.gate_vcd.specs.Inner.Grown.{held_by};
+    ghost use Rattle.gate_vcd.specs.Shown.Grown.{held_by};
 
     ghost view = { held_by };
 }

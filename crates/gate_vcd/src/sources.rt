@@ -1,6 +1,6 @@
 ghost use Rattle.gate_vcd.specs.Changes.{items, nothing};
-ghost use Rattle.gate_vcd.specs.Inner.Commands.{variables as variables_of};
-ghost use Rattle.gate_vcd.specs.Inner.Known.{sources_by};
+ghost use Rattle.gate_vcd.specs.Shown.Commands.{variables as variables_of};
+ghost use Rattle.gate_vcd.specs.Shown.Known.{sources_by};
 ghost use Rattle.gate_vcd.specs.Sources.{AreDeclared, IsFollowed};
 
 use crate::changes::read_changes;

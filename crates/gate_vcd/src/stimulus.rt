@@ -23,7 +23,8 @@ impl Model for Stimulus {
 
     ghost Value = { Given };
 
-    ghost use Rattle.gate_vcd.specs.Inner.Held.{given_of, IsLaidOut};
+    ghost use Rattle.gate_vcd.specs.Inner.Held.{IsLaidOut};
+    ghost use Rattle.gate_vcd.specs.Shown.Held.{given_of};
 
     ghost view = { given_of };
 
@@ -31,7 +32,8 @@ impl Model for Stimulus {
 }
 
 impl Stimulus {
-    ghost use Rattle.gate_vcd.specs.Inner.Held.{given_by, AreLaidOut};
+    ghost use Rattle.gate_vcd.specs.Inner.Held.{AreLaidOut};
+    ghost use Rattle.gate_vcd.specs.Shown.Held.{given_by};
 
     /// Lists of changes, and which of them each input has.
     pub(crate) fn new(

@@ -2,12 +2,12 @@ ghost use Rattle.std.specs.Prelude.{◌≡◌, IfErr, IfOk};
 ghost use Rattle.std.specs.Cow.{cow_slice_items};
 ghost use Rattle.std.specs.List.{concat};
 ghost use Rattle.gate_vcd.specs.declared.fault.StimCause.TheVariants as causes;
-ghost use Rattle.gate_vcd.specs.Inner.Commands.{variable};
+ghost use Rattle.gate_vcd.specs.Shown.Commands.{variable};
 ghost use Rattle.gate_vcd.specs.Declarations.{is_code, is_unvalued, unescaped, variable_of};
 ghost use Rattle.gate_vcd.specs.Faults.{out_of_memory};
 ghost use Rattle.gate_vcd.specs.Reading.{or_fault};
 ghost use Rattle.gate_vcd.specs.Inner.Reading.{Reads};
-ghost use Rattle.gate_vcd.specs.Inner.Words.{texts, token_of};
+ghost use Rattle.gate_vcd.specs.Shown.Words.{texts, token_of};
 
 use crate::fault::{StimCause, StimFault};
 use crate::keyword::is_word;

@@ -1,11 +1,12 @@
 ghost use Rattle.std.specs.Prelude.{◌≡◌, ◌<◌, ◌≤◌, ◌∷◌, ◌&&◌, ℕ, List, length, position, option_map, nat_eq, nat_le, Some, IfErr, IfOk, IfSome, OnOk};
 ghost use Rattle.std.specs.Path.{rfind_below};
-ghost use Rattle.gate_vcd.specs.Inner.Commands.{variable as variable_of, variables};
+ghost use Rattle.gate_vcd.specs.Shown.Commands.{variable as variable_of, variables};
 ghost use Rattle.gate_vcd.specs.Declarations.{Variable as TextVariable};
 ghost use Rattle.gate_vcd.specs.Faults.{out_of_memory};
 ghost use Rattle.gate_vcd.specs.Inputs.{first_given, source_in};
-ghost use Rattle.gate_vcd.specs.Inner.Known.{source_by};
-ghost use Rattle.gate_vcd.specs.Inner.Scalars.{AreVectors, bit as bit_by, two_texts, vector as vector_in, vector_by};
+ghost use Rattle.gate_vcd.specs.Shown.Known.{source_by};
+ghost use Rattle.gate_vcd.specs.Inner.Scalars.{AreVectors, bit as bit_by, two_texts};
+ghost use Rattle.gate_vcd.specs.Shown.Scalars.{vector as vector_in, vector_by};
 ghost use Rattle.gate_vcd.specs.Vectors.{bit_of, bracketed, index_in, is_between, is_plain, last_bit, number_in, parted, range_in, ranged, vector_of};
 
 use crate::fault::StimFault;

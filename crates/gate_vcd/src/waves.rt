@@ -23,7 +23,8 @@ impl Model for Waves {
 
     ghost Value = { List (List Change) };
 
-    ghost use Rattle.gate_vcd.specs.Inner.HeldWaves.{lists_of, IsInStep};
+    ghost use Rattle.gate_vcd.specs.Inner.HeldWaves.{IsInStep};
+    ghost use Rattle.gate_vcd.specs.Shown.HeldWaves.{lists_of};
     ghost use Rattle.gate_vcd.specs.Inner.ByTime.{stops_in};
 
     ghost view = { lists_of };

@@ -1,7 +1,7 @@
 ghost use Rattle.std.specs.Prelude.{◌≡◌, ◌≤◌, ℕ, take, [], ◌∷◌, length, not, position, MatchOption};
 ghost use Rattle.std.specs.List.{prefix_len};
 ghost use Rattle.gate_vcd.specs.Tokens.{tokens_of, is_space, fault_at};
-ghost use Rattle.gate_vcd.specs.Inner.Words.{token_of};
+ghost use Rattle.gate_vcd.specs.Shown.Words.{token_of};
 
 use crate::fault::{StimCause, StimFault};
 use std::marker::Model;
@@ -26,7 +26,8 @@ impl<'a> Model for Words<'a> {
 
     ghost Value = { List Token };
 
-    ghost use Rattle.gate_vcd.specs.Inner.Words.{tokens_left, IsWithin};
+    ghost use Rattle.gate_vcd.specs.Inner.Words.{IsWithin};
+    ghost use Rattle.gate_vcd.specs.Shown.Words.{tokens_left};
 
     ghost view = { tokens_left };
 

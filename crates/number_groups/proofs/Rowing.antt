@@ -2,7 +2,8 @@
 use Rattle.std.proofs.Common.{◌≡◌, ◌∙◌, ℕ, zero, suc, ◌+◌, ◌<◌, ◌≤◌, List, [], ◌∷◌, ◌++◌, length, get_or, refl, ap, arith}
 use Rattle.std.specs.List.{between}
 use Rattle.std.proofs.lemmas.Grind.{common_steps}
-use Rattle.number_groups.specs.Rows.{rows_from, start_at, AreEnds}
+use Rattle.number_groups.specs.Rows.{rows_from, AreEnds}
+use Rattle.number_groups.specs.Inner.Rows.{start_at}
 
 pub length-rows_from : (start : ℕ) (es ns : List ℕ) → length (rows_from start es ns) ≡ length es
 length-rows_from start [] ns = refl

@@ -1,17 +1,11 @@
 -- Lists of numbers that lie in one.
-use Rattle.std.specs.Prelude.{ℕ, zero, suc, ◌≡◌, ◌≤◌, List, [], ◌∷◌}
+use Rattle.std.specs.Prelude.{ℕ, ◌≡◌, ◌≤◌, List, [], ◌∷◌}
 use Rattle.std.specs.List.{between}
 
 -- the lists, each from the end of the one before
 abbrev pub rows_from : ℕ → List ℕ → List ℕ → List (List ℕ)
 rows_from start [] numbers = []
 rows_from start (e ∷ es) numbers = between start e numbers ∷ rows_from e es numbers
-
--- where the list at a place begins
-abbrev pub start_at : ℕ → List ℕ → ℕ → ℕ
-start_at start [] place = start
-start_at start (e ∷ es) zero = start
-start_at start (e ∷ es) (suc place) = start_at e es place
 
 -- no end is before the one before, and the last is that of all numbers
 abbrev pub AreEnds : ℕ → List ℕ → ℕ → Type 0

@@ -1,7 +1,8 @@
 //! Lists of numbers that lie in one.
 ghost use Rattle.std.specs.Prelude.{◌≡◌, ◌<◌, ◌≤◌, ◌++◌, ◌∷◌, [], OnOk, OnErr, length, get_or};
 ghost use Rattle.std.specs.List.{between};
-ghost use Rattle.number_groups.specs.Rows.{rows_from, start_at, AreEnds};
+ghost use Rattle.number_groups.specs.Rows.{rows_from, AreEnds};
+ghost use Rattle.number_groups.specs.Inner.Rows.{start_at};
 
 use std::alloc::{AllocError, Global};
 use std::marker::Model;

@@ -12,7 +12,8 @@ use Rattle.warp_engine.specs.Opening.{IsOpened, DoSuit}
 use Rattle.warp_engine.specs.Nexts.{AreParted, IsUsed}
 use Rattle.warp_engine.proofs.Opening.{run_opens}
 use Rattle.warp_part.specs.Portion.{Portion, IsPortion, is_driven, is_used}
-use Rattle.warp_part.specs.Inner.Building.{place_of, has}
+use Rattle.warp_part.specs.Inner.Building.{has}
+use Rattle.warp_part.specs.Shown.Building.{place_of}
 use Rattle.warp_part.specs.Placing.{net_of_place, place_source, place_given, place_cells}
 use Rattle.warp_part.proofs.PartBuilding.{place_is, slot_some}
 use Rattle.warp_part.proofs.Placing.{nothing_past}

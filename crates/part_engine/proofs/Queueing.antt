@@ -9,7 +9,8 @@ use Rattle.std.proofs.lemmas.List.{length-append, get_or_append_left}
 use Rattle.std.proofs.lemmas.List.Folds.{list_any-append}
 use Rattle.std.proofs.lemmas.Map.Keys.{IsStrictlyIncreasing-dedup}
 use Rattle.warp_part.specs.Portion.{Portion}
-use Rattle.warp_part.specs.Inner.Building.{place_of, has}
+use Rattle.warp_part.specs.Inner.Building.{has}
+use Rattle.warp_part.specs.Shown.Building.{place_of}
 use Rattle.warp_part.proofs.PartLists.{has-settled}
 use Rattle.warp_part.proofs.PartPlaces.{place_found}
 use Rattle.part_engine.specs.Inner.Queues.{delay_at, puts_out, number_at, HaveDelays, HasDelays, AreNumbers}

@@ -11,7 +11,7 @@ use Rattle.warp_gates.specs.Cells as cells
 use Rattle.warp_gates.specs.Cells.{Cell, IsCell, cell_at, value_at}
 use Rattle.place_moves.specs.Journals.{IsSetBy}
 use Rattle.warp_part.specs.Portion.{Portion, IsPortion, slot_of, is_driven, uses}
-use Rattle.warp_part.specs.Inner.Building.{place_of}
+use Rattle.warp_part.specs.Shown.Building.{place_of}
 use Rattle.warp_part.specs.Placing.{placed, place_source, cell_by, place_cells}
 use Rattle.warp_part.proofs.PartBuilding.{place_is}
 

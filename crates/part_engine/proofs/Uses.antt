@@ -8,7 +8,7 @@ use Rattle.std.proofs.lemmas.List.Folds.{Any-from_list_any, list_any_at}
 use Rattle.gate_values.specs.Behaviour.{Source, Outside, Gate, Flop}
 use Rattle.warp_engine.specs.Nexts.{IsIn, IsPin, IsUsed}
 use Rattle.warp_part.specs.Portion.{Portion, IsPortion, slot_of, is_driven, uses, does_use, is_used}
-use Rattle.warp_part.specs.Inner.Building.{place_of}
+use Rattle.warp_part.specs.Shown.Building.{place_of}
 use Rattle.warp_part.specs.Placing.{cell_by, place_cells}
 use Rattle.warp_part.proofs.Slots.{slot_at}
 use Rattle.warp_part.proofs.PartBuilding.{place_is}

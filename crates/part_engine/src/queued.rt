@@ -1,7 +1,7 @@
 //! Which queue each place of a part puts out into: one for each delay, those of places that gates read first.
 ghost use Rattle.std.specs.Prelude.{◌≡◌, ◌<◌, ◌≤◌, true, false, IfOk, length};
 ghost use Rattle.std.specs.List.Sorted.{IsStrictlyIncreasing};
-ghost use Rattle.warp_part.specs.Inner.Building.{place_of};
+ghost use Rattle.warp_part.specs.Shown.Building.{place_of};
 ghost use Rattle.part_engine.specs.Inner.Queues.{puts_out, number_at, HasDelays, AreNumbers, AreQueues};
 
 use std::alloc::{AllocError, Global};

@@ -12,7 +12,8 @@ use Rattle.warp_stores.specs.Order.{AreApart}
 use Rattle.warp_gates.specs.Cells as cells
 use Rattle.warp_gates.specs.Cells.{value_at}
 use Rattle.place_moves.specs.Moves.{of_place, value_before, made_before, last_after, AreChained}
-use Rattle.place_moves.specs.Journals.{Journal, IsPlayed, AreBrought, AreMoves, step_words}
+use Rattle.place_moves.specs.Journals.{Journal, IsPlayed, AreBrought, step_words}
+use Rattle.place_moves.specs.Inner.Journals.{AreMoves}
 use Rattle.place_moves.proofs.Filtering.{every-append, every-weaker}
 use Rattle.place_moves.proofs.Moving.{every-at_time, moves-last, moves-chained, moves-still}
 use Rattle.place_moves.proofs.Places.{every-within}

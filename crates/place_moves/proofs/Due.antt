@@ -17,7 +17,8 @@ use Rattle.warp_stores.specs.Order.{by_place}
 use Rattle.warp_stores.proofs.Telling.{lt_true, lt_false, le_true, le_false}
 use Rattle.warp_gates.specs.Cells.{cell_at}
 use Rattle.place_moves.specs.Moves.{move_of, moves, of_place, value_before, made_before, brought_before, Ascend}
-use Rattle.place_moves.specs.Journals.{Journal, IsPlayed, AreBrought, AreMoves, queue_of}
+use Rattle.place_moves.specs.Journals.{Journal, IsPlayed, AreBrought, queue_of}
+use Rattle.place_moves.specs.Inner.Journals.{AreMoves}
 use Rattle.place_moves.proofs.Filtering.{filter-comm, filter-absorb, filter-filter, filter-flat_map, flat_map-only, through}
 use Rattle.place_moves.proofs.Moving.{move_of-same, moves-none, moves-one, moves-still, undated-at}
 use Rattle.place_moves.proofs.Places.{words-undated}

@@ -10,7 +10,8 @@ use Rattle.warp_stores.specs.Delays.{Delayed, true_since, queue_at, empty_after,
 use Rattle.warp_stores.proofs.Telling.{lt_false}
 use Rattle.warp_gates.specs.Cells.{cell_at}
 use Rattle.place_moves.specs.Moves.{value_before, made_before}
-use Rattle.place_moves.specs.Journals.{Journal, IsPlayed, AreBrought, IsDueFrom, marked, queue_of}
+use Rattle.place_moves.specs.Journals.{Journal, IsPlayed, AreBrought, marked, queue_of}
+use Rattle.place_moves.specs.Inner.Journals.{IsDueFrom}
 use Rattle.place_moves.proofs.Filtering.{filter-none, flat_map-none, every-weaker}
 use Rattle.place_moves.proofs.Moving.{move_of-none, moves-quiet}
 use Rattle.place_moves.proofs.Queueing.{read-quiet, none_due}

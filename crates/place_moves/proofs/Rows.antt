@@ -12,7 +12,8 @@ use Rattle.warp_stores.specs.Words.{Move}
 use Rattle.warp_stores.specs.Delays.{empty_after, with_made}
 use Rattle.warp_gates.specs.Cells.{Outside, Gate, Gates, AreGates, IsCell}
 use Rattle.warp_gates.specs.declared.put.Put.{Put}
-use Rattle.place_moves.specs.Journals.{Journal, IsBegun, IsPlayed, AreBrought, AreMoves, IsStep, IsBack, marked, step_words}
+use Rattle.place_moves.specs.Journals.{Journal, IsBegun, IsPlayed, AreBrought, IsStep, IsBack, marked, step_words}
+use Rattle.place_moves.specs.Inner.Journals.{AreMoves}
 use Rattle.place_moves.proofs.Beginning.{begun_plays}
 use Rattle.place_moves.proofs.Stepping.{plays_on}
 use Rattle.place_moves.proofs.Quieting.{quiet_until}

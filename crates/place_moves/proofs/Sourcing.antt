@@ -9,7 +9,8 @@ use Rattle.gate_values.specs.declared.logic.Logic.TheVariants.{Zero, One, X, Z}
 use Rattle.gate_values.specs.declared.gate.Kind.{Kind}
 use Rattle.gate_values.specs.Tables.{table_of, flip_of}
 use Rattle.gate_values.specs.Behaviour as behaviour
-use Rattle.gate_values.specs.Behaviour.{Source, output, before, content, history, source_delay, initial_of, IsWellFormed}
+use Rattle.gate_values.specs.Behaviour.{Source, output, before, history, source_delay, initial_of, IsWellFormed}
+use Rattle.gate_values.specs.Inner.Behaviour.{content}
 use Rattle.gate_values.proofs.Behaving.{outside_is, content_is}
 use Rattle.gate_values.proofs.Beginning.{initial_before}
 use Rattle.warp_gates.specs.Cells.{Cell, Outside, Gate, Flop, IsCell, value_at, cell_at, next_output}

@@ -18,7 +18,8 @@ use Rattle.warp_stores.proofs.Telling.{le_true}
 use Rattle.warp_gates.specs.Cells.{Cell, Outside, Gates, value_at, cell_at, puts_at, put_of}
 use Rattle.warp_gates.specs.declared.put.Put.{Put}
 use Rattle.place_moves.specs.Moves.{move_of, moves, of_place, value_before, made_before, last_after, Ascend}
-use Rattle.place_moves.specs.Journals.{Journal, IsSetBy, IsReadTo, StandFor, HasMade, HaveCome, AreShowing, IsPlayed, AreBrought, AreMoves, IsStep, step_words, put_into, queue_of}
+use Rattle.place_moves.specs.Journals.{Journal, IsSetBy, IsReadTo, StandFor, HasMade, HaveCome, AreShowing, IsPlayed, AreBrought, IsStep, step_words, put_into, queue_of}
+use Rattle.place_moves.specs.Inner.Journals.{AreMoves}
 use Rattle.place_moves.proofs.Filtering.{filter-comm, filter-map, every-any, every-filter}
 use Rattle.place_moves.proofs.Moving.{move_of-same, move_of-last, moves-times, at-yes}
 use Rattle.place_moves.proofs.Places.{place-at, every-place, every-within, value-moved}

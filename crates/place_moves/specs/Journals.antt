@@ -86,10 +86,6 @@ pub record IsBegun (source : ℕ → Source) (journal : Journal) : Type 0 where
   pub read : (number : ℕ) → (queue_at journal.queues number).line.read ≡ []
   pub ahead : (number : ℕ) → (queue_at journal.queues number).line.ahead ≡ []
 
--- what moves at a time: each place's words are its move
-abbrev pub AreMoves : (ℕ → Source) → (ℕ → ℕ → Logic) → ℕ → List Move → Type 0
-AreMoves source given time words = (place : ℕ) → words_at place words ≡ move_of place (value_before source given place time) (value_before source given place (suc time))
-
 -- what is put into a queue
 abbrev pub put_into : ℕ → List Put → List Move
 put_into number puts = map (λ (p : Put). p.word) (filter (λ (p : Put). number == p.queue) puts)
@@ -140,10 +136,6 @@ pub record HasForgotten (time : ℕ) (old new : Journal) : Type 0 where
   pub history : new.history ≡ old.history
   pub gates : new.gates ≡ old.gates
   pub queues : AreForgotten time old.queues new.queues
-
--- no word of some queues comes true before a time
-abbrev pub IsDueFrom : ℕ → Delayed → Type 0
-IsDueFrom time queue = AllByRecursion (λ d. time ≤ d.0 + queue.delay) queue.line.ahead
 
 -- a journal with another mark
 abbrev pub marked : ℕ → Journal → Journal

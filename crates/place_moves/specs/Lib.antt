@@ -1,3 +1,4 @@
 pub mod Moves
 pub mod Journals
 pub mod Logs
+pub mod Inner

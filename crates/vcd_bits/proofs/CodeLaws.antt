@@ -9,7 +9,7 @@ use Rattle.gate_vcd.specs.Declarations.{Variable}
 use Rattle.gate_vcd.specs.Changes.{Source}
 use Rattle.gate_vcd.specs.Stimulus.{has_code}
 use Rattle.gate_vcd.specs.declared.source.Source.{Source as Held}
-use Rattle.gate_vcd.specs.Inner.Known.{source}
+use Rattle.gate_vcd.specs.Shown.Known.{source}
 use Rattle.gate_vcd.specs.Vectors.{Vector, vector_of}
 use Rattle.vcd_bits.specs.Names.{Bit, all_bits, below, bits_below, bits_if, bits_in, bits_of, is_named, named_in, named_source, single_name, vector_bits, with_bit, with_bits}
 use Rattle.vcd_bits.specs.Scopes.{Scoped}

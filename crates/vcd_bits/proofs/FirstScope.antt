@@ -3,9 +3,9 @@ use Rattle.std.proofs.Common.{◌≡◌, ℕ, zero, suc, ◌+◌, ◌<◌, true,
 use Rattle.std.proofs.lemmas.List.{get_or-map, length-map}
 use Rattle.gate_vcd.specs.Declarations.{Variable}
 use Rattle.gate_vcd.specs.declared.variable.Variable.{Variable as Held}
-use Rattle.gate_vcd.specs.Inner.Commands.{variable, variables}
+use Rattle.gate_vcd.specs.Shown.Commands.{variable, variables}
 use Rattle.vcd_bits.specs.Names.{first_scope}
-use Rattle.vcd_bits.specs.Inner.Held.{texts_in}
+use Rattle.vcd_bits.specs.Shown.Held.{texts_in}
 
 -- a variable without bits is passed over
 pub first-on : (paths : List (List ℕ)) (vs : List Variable) (i : ℕ) (v : Variable) → i < length paths → i < length vs → (get_or vs i v).valued ≡ false → first_scope (drop i paths) (drop i vs) ≡ first_scope (drop (i + 1) paths) (drop (i + 1) vs)

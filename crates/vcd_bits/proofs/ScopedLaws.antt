@@ -12,11 +12,12 @@ use Rattle.gate_vcd.specs.Reading.{or_fault, Fails}
 use Rattle.gate_vcd.specs.Declarations.{Header, declared, ends_declarations, inner_path, keyword_of, opens_command, timescale_of, variable_of, is_counted}
 use Rattle.std.specs.List.{concat}
 use Rattle.gate_vcd.specs.Faults.{out_of_memory}
-use Rattle.gate_vcd.specs.Inner.Commands.{has_texts, until_end, rest_of_command}
+use Rattle.gate_vcd.specs.Shown.Commands.{has_texts, until_end, rest_of_command}
 use Rattle.gate_vcd.proofs.DeclarationLaws.{fails_then}
 use Rattle.vcd_bits.specs.Scopes.{Scoped, after_command, declaring, path_noted}
 use Rattle.vcd_bits.specs.declared.scoped.Scoped.{Scoped as Held}
-use Rattle.vcd_bits.specs.Inner.Held.{Notes, scopes_after, texts_in}
+use Rattle.vcd_bits.specs.Inner.Held.{Notes, scopes_after}
+use Rattle.vcd_bits.specs.Shown.Held.{texts_in}
 use Rattle.vcd_bits.specs.Inner.Paths.{IsOpen}
 
 -- what follows a command that is whole

@@ -7,12 +7,12 @@ use Rattle.std.specs.Str.{bytes_eq}
 use Rattle.std.proofs.lemmas.List.{get_or-map, length-map}
 use Rattle.gate_vcd.specs.declared.source.Source.{Source as HeldSource}
 use Rattle.gate_vcd.specs.declared.variable.Variable.{Variable as HeldVariable}
-use Rattle.gate_vcd.specs.Inner.Commands.{variable, variables}
-use Rattle.gate_vcd.specs.Inner.Known.{source}
+use Rattle.gate_vcd.specs.Shown.Commands.{variable, variables}
+use Rattle.gate_vcd.specs.Shown.Known.{source}
 use Rattle.gate_vcd.specs.Vectors.{Vector}
 use Rattle.vcd_bits.specs.Names.{Bit, all_bits, bits_below, is_named, named_in, named_source, number_from_left, number_of, vector_bit, vector_bits, with_bit, with_bits}
-use Rattle.vcd_bits.specs.Inner.Held.{texts_in}
-use Rattle.vcd_bits.specs.Inner.Tables.{bit_by}
+use Rattle.vcd_bits.specs.Shown.Held.{texts_in}
+use Rattle.vcd_bits.specs.Shown.Tables.{bit_by}
 use Rattle.vcd_bits.proofs.NameLaws.{all_bits-more, all_bits-whole, with_bits-more}
 
 -- the bits of one variable more

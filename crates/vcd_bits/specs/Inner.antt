@@ -1,4 +1,2 @@
 pub mod Paths
 pub mod Held
-pub mod Tables
-pub mod Opened

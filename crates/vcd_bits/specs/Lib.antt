@@ -2,3 +2,4 @@ pub mod Scopes
 pub mod Names
 pub mod Bits
 pub mod Inner
+pub mod Shown

@@ -1,15 +1,15 @@
 ghost use Rattle.std.specs.Prelude.{◌≡◌, ℕ, List, Option, None, true, option_map, IfSome};
 ghost use Rattle.gate_vcd.specs.Changes.{items, nothing};
-ghost use Rattle.gate_vcd.specs.Inner.Commands.{variables as variables_of};
-ghost use Rattle.gate_vcd.specs.Inner.Known.{source as source_of, sources_by};
+ghost use Rattle.gate_vcd.specs.Shown.Commands.{variables as variables_of};
+ghost use Rattle.gate_vcd.specs.Shown.Known.{source as source_of, sources_by};
 ghost use Rattle.gate_vcd.specs.Sources.{AreDeclared, IsFollowed};
 ghost use Rattle.gate_vcd.specs.Stimulus.{has_code};
 ghost use Rattle.gate_vcd.specs.Tokens.{tokens_of};
 ghost use Rattle.vcd_bits.specs.Names.{first_scope, named_source, scope_in};
 ghost use Rattle.vcd_bits.specs.Scopes.{Scoped as TextScoped};
-ghost use Rattle.vcd_bits.specs.Inner.Held.{texts_in};
-ghost use Rattle.vcd_bits.specs.Inner.Opened.{IsOpened, Opens};
-ghost use Rattle.vcd_bits.specs.Inner.Tables.{bits_in};
+ghost use Rattle.vcd_bits.specs.Shown.Held.{texts_in};
+ghost use Rattle.vcd_bits.specs.Shown.Opened.{IsOpened, Opens};
+ghost use Rattle.vcd_bits.specs.Shown.Tables.{bits_in};
 
 use crate::scoped::{Scoped, read_scoped};
 use crate::table::Table;

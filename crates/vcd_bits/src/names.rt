@@ -1,7 +1,7 @@
 ghost use Rattle.std.specs.Prelude.{◌≡◌, ◌≤◌, ◌<◌, ◌++◌, codes, decimal, option_map, nat_eq, IfErr, IfOk};
 ghost use Rattle.gate_vcd.specs.Faults.{out_of_memory};
-ghost use Rattle.gate_vcd.specs.Inner.Commands.{variable as variable_of};
-ghost use Rattle.gate_vcd.specs.Inner.Scalars.{vector as vector_in};
+ghost use Rattle.gate_vcd.specs.Shown.Commands.{variable as variable_of};
+ghost use Rattle.gate_vcd.specs.Shown.Scalars.{vector as vector_in};
 ghost use Rattle.gate_vcd.specs.Vectors.{last_bit};
 ghost use Rattle.vcd_bits.specs.Names.{after_scope, below, named_in, number_from_left, single_name};
 

@@ -1,6 +1,6 @@
 ghost use Rattle.std.specs.Prelude.{◌≡◌, ◌≤◌, ◌∷◌, [], None, length};
 ghost use Rattle.gate_vcd.specs.Declarations.{keyword_of as keyword_by};
-ghost use Rattle.gate_vcd.specs.Inner.Words.{texts, token_of};
+ghost use Rattle.gate_vcd.specs.Shown.Words.{texts, token_of};
 ghost use Rattle.vcd_bits.specs.Scopes.{Scoped as TextScoped, after_command, declaring, nothing_declared};
 ghost use Rattle.vcd_bits.specs.Inner.Held.{AreRead, GoesOn, IsScoped, Notes};
 

@@ -1,13 +1,13 @@
 ghost use Rattle.std.specs.Prelude.{◌≡◌, ◌≤◌, ◌+◌, [], ℕ, List, Some, length, option_map, slice_get, IfErr, IfOk, OnOk};
 ghost use Rattle.std.specs.Int.{abs_diff};
 ghost use Rattle.gate_vcd.specs.Faults.{out_of_memory};
-ghost use Rattle.gate_vcd.specs.Inner.Commands.{variable as variable_of, variables};
-ghost use Rattle.gate_vcd.specs.Inner.Known.{source as source_of};
-ghost use Rattle.gate_vcd.specs.Inner.Scalars.{vector as vector_in};
+ghost use Rattle.gate_vcd.specs.Shown.Commands.{variable as variable_of, variables};
+ghost use Rattle.gate_vcd.specs.Shown.Known.{source as source_of};
+ghost use Rattle.gate_vcd.specs.Shown.Scalars.{vector as vector_in};
 ghost use Rattle.gate_vcd.specs.Vectors.{last_bit};
 ghost use Rattle.vcd_bits.specs.Names.{all_bits, bits_below, bits_of, named_source, number_of, vector_bits, with_bit, with_bits};
-ghost use Rattle.vcd_bits.specs.Inner.Held.{texts_in};
-ghost use Rattle.vcd_bits.specs.Inner.Tables.{bit_by, bit_of, bits_in};
+ghost use Rattle.vcd_bits.specs.Shown.Held.{texts_in};
+ghost use Rattle.vcd_bits.specs.Shown.Tables.{bit_by, bit_of, bits_in};
 
 use crate::names::{below, bit_named_in, is_one, named_in, number_from_left, single_name};
 use crate::scoped::Scoped;

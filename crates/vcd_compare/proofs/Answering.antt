@@ -13,10 +13,10 @@ use Rattle.gate_vcd.specs.Reading.{Fails}
 use Rattle.gate_vcd.specs.Changes.{Event, changes_with, items, nothing, events_from, last_time}
 use Rattle.gate_vcd.specs.Given.{Given, changes_of, value_at}
 use Rattle.gate_vcd.specs.Stimulus.{has_code, value_of_source}
-use Rattle.gate_vcd.specs.Inner.Known.{is_used, sources_by}
+use Rattle.gate_vcd.specs.Shown.Known.{is_used, sources_by}
 use Rattle.gate_vcd.proofs.DeclarationLaws.{fails_then}
 use Rattle.gate_vcd.specs.Declarations.{Variable}
-use Rattle.gate_vcd.specs.Inner.Commands.{variables}
+use Rattle.gate_vcd.specs.Shown.Commands.{variables}
 use Rattle.vcd_bits.specs.declared.dump.Dump.{Dump as HeldDump}
 use Rattle.vcd_bits.specs.Bits.{bits_declared}
 use Rattle.vcd_compare.specs.declared.fault.CompareFault.{CompareFault}
@@ -30,7 +30,8 @@ use Rattle.vcd_compare.specs.declared.report.Differing.{Differing}
 use Rattle.vcd_compare.specs.declared.report.Options.{Options}
 use Rattle.vcd_compare.specs.declared.report.Report.{Report}
 use Rattle.vcd_compare.specs.declared.sight.Sight.{Sight}
-use Rattle.vcd_compare.specs.Answer.{IsAnswer, IsNothing, IsReport, actual_by, expected_by}
+use Rattle.vcd_compare.specs.Answer.{IsAnswer, IsNothing, IsReport}
+use Rattle.vcd_compare.specs.Inner.Answer.{actual_by, expected_by}
 use Rattle.vcd_compare.specs.Comparison.{IsFound, difference_of, differing_at, shown_by}
 use Rattle.vcd_compare.specs.Map.{pairs_by}
 use Rattle.vcd_compare.specs.Pairs.{Pair}

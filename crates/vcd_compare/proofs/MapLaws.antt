@@ -11,7 +11,7 @@ use Rattle.std.specs.List.{prefix_len}
 use Rattle.std.specs.Str.{bytes_eq}
 use Rattle.gate_vcd.specs.declared.source.Source.{Source as HeldSource}
 use Rattle.gate_vcd.specs.Changes.{Source}
-use Rattle.gate_vcd.specs.Inner.Known.{source}
+use Rattle.gate_vcd.specs.Shown.Known.{source}
 use Rattle.gate_vcd.proofs.Keeping.{same_bytes}
 use Rattle.gate_vcd.proofs.Links.{slice_get-is}
 use Rattle.vcd_bits.specs.Names.{Bit, named_source, number_of}

@@ -5,7 +5,7 @@ use Rattle.std.proofs.lemmas.Grind.{common_steps}
 use Rattle.std.proofs.lemmas.Option.{same_Some}
 use Rattle.gate_vcd.specs.declared.source.Source.{Source as HeldSource}
 use Rattle.gate_vcd.specs.Changes.{Source}
-use Rattle.gate_vcd.specs.Inner.Known.{source, source_by, sources_by}
+use Rattle.gate_vcd.specs.Shown.Known.{source, source_by, sources_by}
 use Rattle.vcd_bits.specs.Names.{Bit, named_source}
 use Rattle.vcd_compare.specs.declared.pairs.Pairs.{Pairs}
 use Rattle.vcd_compare.specs.Pairs.{Pair, pair_if, pairs_of}

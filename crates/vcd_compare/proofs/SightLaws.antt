@@ -13,7 +13,7 @@ use Rattle.bit_compare.specs.declared.difference.Difference.{Difference}
 use Rattle.bit_compare.specs.declared.difference.Tolerance.{Tolerance}
 use Rattle.bit_compare.specs.declared.times.Times.{Times}
 use Rattle.bit_compare.specs.Agreement.{IsFinding}
-use Rattle.bit_compare.specs.Inner.Moments.{AreRising, IsSmall, lens}
+use Rattle.bit_compare.specs.Shown.Moments.{AreRising, IsSmall, lens}
 
 below-at : (b : ℕ) (cs : List Change) (i : ℕ) (d : Change) → AreBelow b cs → i < length cs → (get_or cs i d).time < b
 below-at b [] i d a h = absurd (omega arith)

@@ -7,7 +7,7 @@ use Rattle.gate_netlist.specs.Lines.{lines_of}
 use Rattle.gate_vcd.specs.Declarations.{Variable}
 use Rattle.gate_vcd.specs.Changes.{Source}
 use Rattle.gate_vcd.specs.Stimulus.{has_code}
-use Rattle.gate_vcd.specs.Inner.Known.{is_used}
+use Rattle.gate_vcd.specs.Shown.Known.{is_used}
 use Rattle.gate_vcd.proofs.Keeping.{same_bytes}
 use Rattle.vcd_bits.specs.Names.{Bit, named_source}
 use Rattle.vcd_bits.proofs.CodeLaws.{AreCoded}

@@ -1,8 +1,5 @@
 -- What two texts are answered when they are compared, by a map if there is one.
 use Rattle.std.specs.Prelude.{◌≡◌, ◌⊎◌, ℕ, ◌<◌, List, [], length, Option, Result, Ok, Err}
-use Rattle.gate_vcd.specs.declared.fault.StimFault.{StimFault}
-use Rattle.gate_vcd.specs.declared.fault.StimCause.{StimCause}
-use Rattle.gate_vcd.specs.declared.fault.StimCause.TheVariants as causes
 use Rattle.bit_compare.specs.Agreement.{IsCompared}
 use Rattle.vcd_compare.specs.declared.fault.CompareFault.{CompareFault}
 use Rattle.vcd_compare.specs.declared.fault.CompareFault.TheVariants as faults
@@ -27,15 +24,6 @@ pub record IsReport (options : Options) (pairs : List Pair) (e a : Dump) (r : Re
 -- there is no pair, or no time, to compare
 abbrev pub IsNothing : Options → List Pair → Dump → Dump → Type 0
 IsNothing options pairs e a = (pairs ≡ []) ⊎ ((t : ℕ) → ¬ IsCompared (times_of options (scale options e a) e.last) t)
-
--- the fault of the dump that is expected, and that of the other one
-abbrev pub expected_by : StimFault → StimCause → CompareFault
-expected_by fault causes.Memory = faults.Memory
-expected_by fault _ = faults.Expected fault
-
-abbrev pub actual_by : StimFault → StimCause → CompareFault
-actual_by fault causes.Memory = faults.Memory
-actual_by fault _ = faults.Actual fault
 
 -- something is so of the dumps that two texts are
 abbrev pub OfDumps : Options → (expected actual : List ℕ) → (Dump → Dump → Type 0) → Type 0

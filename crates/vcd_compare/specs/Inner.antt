@@ -3,3 +3,4 @@ pub mod Sights
 pub mod Found
 pub mod Reported
 pub mod Mapping
+pub mod Answer

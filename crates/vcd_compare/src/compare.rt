@@ -1,6 +1,7 @@
 ghost use Rattle.std.specs.Prelude.{◌≡◌, ◌<◌, ◌^◌, true, false, length, option_map};
-ghost use Rattle.vcd_compare.specs.Answer.{IsAnswer, actual_by, expected_by};
-ghost use Rattle.vcd_bits.specs.Inner.Tables.{bits_in};
+ghost use Rattle.vcd_compare.specs.Answer.{IsAnswer};
+ghost use Rattle.vcd_compare.specs.Inner.Answer.{actual_by, expected_by};
+ghost use Rattle.vcd_bits.specs.Shown.Tables.{bits_in};
 ghost use Rattle.vcd_compare.specs.Inner.Reported.{HasNothing, IsBefore, IsBeforeOther, IsBehind, Reports, events_of};
 ghost use Rattle.vcd_compare.specs.Inner.Sights.{IsSmallSight};
 ghost use Rattle.vcd_compare.specs.Times.{Moves};

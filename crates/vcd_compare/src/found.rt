@@ -2,7 +2,7 @@ ghost use Rattle.std.specs.Prelude.{◌≡◌, ◌≤◌, ◌<◌, ◌^◌, ℕ,
 ghost use Rattle.gate_vcd.specs.Given.{changes_of};
 ghost use Rattle.bit_compare.specs.Agreement.{IsFinding};
 ghost use Rattle.bit_compare.specs.Bits.{value_through};
-ghost use Rattle.vcd_bits.specs.Inner.Tables.{bits_in};
+ghost use Rattle.vcd_bits.specs.Shown.Tables.{bits_in};
 ghost use Rattle.vcd_compare.specs.Comparison.{out_of_memory};
 ghost use Rattle.vcd_compare.specs.Inner.Found.{AreFoundUpTo, IsFoundBy, IsNoted};
 ghost use Rattle.vcd_compare.specs.Inner.Held.{name_at};

@@ -1,6 +1,6 @@
 ghost use Rattle.std.specs.Prelude.{◌≡◌, ◌<◌, Some, length, slice_get};
 ghost use Rattle.vcd_bits.specs.Names.{Bit};
-ghost use Rattle.vcd_bits.specs.Inner.Tables.{bits_in};
+ghost use Rattle.vcd_bits.specs.Shown.Tables.{bits_in};
 ghost use Rattle.vcd_compare.specs.Pairs.{alone, lacks};
 
 use vcd_bits::Table;

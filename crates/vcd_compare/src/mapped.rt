@@ -1,6 +1,6 @@
 //! The pairs of bits that a text says.
 ghost use Rattle.std.specs.Prelude.{◌≡◌, [], List, Some, length, option_map, IfErr, IfOk};
-ghost use Rattle.vcd_bits.specs.Inner.Tables.{bits_in};
+ghost use Rattle.vcd_bits.specs.Shown.Tables.{bits_in};
 ghost use Rattle.vcd_compare.specs.Comparison.{out_of_memory};
 ghost use Rattle.vcd_compare.specs.Map.{pairs_by, pairs_said, with_line, with_names};
 ghost use Rattle.vcd_compare.specs.Pairs.{Pair};

@@ -1,7 +1,7 @@
 ghost use Rattle.std.specs.Prelude.{◌≡◌, ◌≤◌, ◌<◌, ◌^◌, ◌+◌, [], List, Some, length, slice_get, take, IfErr, IfOk, OnOk};
-ghost use Rattle.gate_vcd.specs.Inner.Known.{source as source_of};
+ghost use Rattle.gate_vcd.specs.Shown.Known.{source as source_of};
 ghost use Rattle.vcd_bits.specs.Names.{Bit};
-ghost use Rattle.vcd_bits.specs.Inner.Tables.{bit_by, bits_in};
+ghost use Rattle.vcd_bits.specs.Shown.Tables.{bit_by, bits_in};
 ghost use Rattle.vcd_compare.specs.Comparison.{out_of_memory};
 ghost use Rattle.vcd_compare.specs.Pairs.{pairs_of};
 ghost use Rattle.vcd_compare.specs.Inner.Held.{ArePairs, Takes};

@@ -1,5 +1,5 @@
 ghost use Rattle.std.specs.Prelude.{◌≡◌, ◌<◌, ◌≤◌, ◌^◌};
-ghost use Rattle.bit_compare.specs.Inner.Steps.{AreSmall};
+ghost use Rattle.bit_compare.specs.Shown.Steps.{AreSmall};
 ghost use Rattle.vcd_compare.specs.Times.{femtoseconds, femtoseconds_in, finer, how_of, strobe_start, strobe_step, times_of, units_in, Moves};
 
 use crate::report::Options;

@@ -1,5 +1,5 @@
 -- What is admitted to a block, and what is put into it, as the block shows them.
-use Rattle.std.proofs.Common.{◌≡◌, ◌≢◌, ◌∙◌, ℕ, max, ◌<◌, ◌≤◌, ◌⊎◌, true, List, ap, sym, subst, arith, get_or}
+use Rattle.std.proofs.Common.{◌≡◌, ◌≢◌, ◌∙◌, ℕ, max, ◌<◌, true, ap, sym, subst, arith, get_or}
 use Rattle.warp_engine.specs.Runs.{Run}
 use Rattle.warp_part.specs.Portion.{hears}
 use Rattle.warp_part.proofs.Slots.{slot_is}
@@ -8,9 +8,9 @@ use Rattle.warp_process.specs.declared.message.Message.{Message}
 use Rattle.warp_process.specs.Entries.{effective_of}
 use Rattle.warp_process.specs.View.{View, effective_at}
 use Rattle.warp_process.specs.Receive.{IsTaken}
-use Rattle.warp_process.specs.Inner.Receive.{IsAdmitted, IsPut}
+use Rattle.warp_process.specs.Shown.Receive.{IsAdmitted, IsPut}
 use Rattle.warp_process.proofs.Receiving.{rolled, kept}
-use Rattle.warp_block.specs.Shown.Block.{mark_by, seen_by}
+use Rattle.warp_block.specs.Shown.Block.{seen_by}
 
 module _ (v : View) (m : Message) (slot : ℕ) (entry : Entry) (a : IsAdmitted v m slot entry) where
   -- the place is that of the message's net

@@ -1,9 +1,9 @@
 -- What a turn that is told has made of a block.
-use Rattle.std.proofs.Common.{◌≡◌, ℕ, zero, suc, Bool, true, false, cond, max, ◌+◌, ◌-◌, ◌<◌, ◌≤◌, ◌⊎◌, ◌++◌, ◌==◌, nat_lt, Option, Some, None, List, [], ◌∷◌, map, length, get_or, inl, inr, refl, ap, sym, ◌∙◌, subst, arith, All}
+use Rattle.std.proofs.Common.{◌≡◌, ℕ, zero, suc, Bool, true, false, cond, max, ◌+◌, ◌-◌, ◌<◌, ◌≤◌, ◌⊎◌, ◌++◌, ◌==◌, nat_lt, Some, List, [], ◌∷◌, map, length, get_or, inl, inr, refl, ap, sym, ◌∙◌, subst, arith, All}
 use Rattle.std.specs.List.{filter}
-use Rattle.std.proofs.lemmas.Bool.{cases_lt, cases_Bool, true≢false, false_from_ne_true, cond-true, cond-false}
+use Rattle.std.proofs.lemmas.Bool.{cases_lt, cases_Bool, true≢false, cond-true}
 use Rattle.std.proofs.lemmas.List.{get_or-map, length-append, length-map}
-use Rattle.std.proofs.lemmas.List.Elements.{All-nil, All-cons, filter-append}
+use Rattle.std.proofs.lemmas.List.Elements.{filter-append}
 use Rattle.std.proofs.lemmas.Grind.{common_steps}
 use Rattle.gate_values.specs.declared.logic.Logic.TheVariants.{X}
 use Rattle.gate_values.specs.declared.logic.Change.{Change}
@@ -16,10 +16,10 @@ use Rattle.warp_stores.specs.Lists.{AreLonger, changes_at}
 use Rattle.warp_engine.specs.Runs.{Run, AreLater, AreMadeBy, makings}
 use Rattle.warp_engine.proofs.Making.{makings_later, makings_made}
 use Rattle.warp_part.specs.Portion.{source_of, owns, is_driven}
-use Rattle.warp_part.specs.Placing.{place_source, placed}
+use Rattle.warp_part.specs.Placing.{place_source}
 use Rattle.warp_process.specs.Heard.{IsReceived}
-use Rattle.warp_process.specs.View.{View, is_busy, busy_times, effective_at, block_value, IsLeast, IsEventTime}
-use Rattle.warp_process.specs.Lawful.{IsLawful, lawful_log}
+use Rattle.warp_process.specs.View.{View, is_busy, busy_times, block_value, IsLeast, IsEventTime}
+use Rattle.warp_process.specs.Lawful.{lawful_log}
 use Rattle.warp_process.specs.Advance.{IsAdvanced, IsAfterEvent}
 use Rattle.warp_process.specs.Played.{played_view, was_busy}
 use Rattle.warp_process.specs.Inner.Advance.{IsQuiet}
@@ -30,11 +30,10 @@ use Rattle.warp_part.proofs.Placing.{source_at}
 use Rattle.part_engine.proofs.Sources.{delay_placed}
 use Rattle.warp_block.proofs.Stepping.{ran}
 use Rattle.warp_process.proofs.SavingTimes.{times-split, times-none, times-agree}
-use Rattle.part_engine.specs.Runs.{IsEngineOf}
 use Rattle.part_engine.proofs.RunLogs.{lists_are, cells_are}
 use Rattle.warp_block.specs.Shown.Block.{mark_by, seen_by}
 use Rattle.warp_block.specs.Inner.Held.{IsAt, IsAtRest}
-use Rattle.warp_block.proofs.Resting.{busy_was, quiet_from, least_from, rest_lists, rest_lawful, rest_quiet, seen_was, event_up, event_down, least_up}
+use Rattle.warp_block.proofs.Resting.{busy_was, quiet_from, least_from, rest_quiet, seen_was, event_up}
 
 -- the first of some times that passes a test, or none does
 find_first : (f : ℕ → Bool) (from k : ℕ) → ((u : ℕ) × (from ≤ u) × (u < from + k) × (f u ≡ true) × ((t : ℕ) → from ≤ t → t < u → f t ≡ false)) ⊎ ((t : ℕ) → from ≤ t → t < from + k → f t ≡ false)

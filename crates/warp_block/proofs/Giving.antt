@@ -9,7 +9,8 @@ use Rattle.gate_values.specs.Behaviour.{Outside}
 use Rattle.gate_vcd.specs.Waves.{lists_in, wave_of}
 use Rattle.warp_part.specs.Portion.{Portion, is_driven, owns, slot_of, at_slot}
 use Rattle.warp_process.specs.View.{View, log_of}
-use Rattle.warp_process.specs.Inner.Step.{net_at, log_at}
+use Rattle.warp_process.specs.Inner.Step.{log_at}
+use Rattle.warp_process.specs.Shown.Step.{net_at}
 use Rattle.warp_block.specs.Inner.Give.{IsOwnAt, AreGiven}
 use Rattle.warp_part.proofs.Slots.{slot_is, slot_at}
 use Rattle.std.proofs.lemmas.List.Kept.{AllPairs-from_increasing}

@@ -1,23 +1,21 @@
 -- What a commit leaves of a block.
-use Rattle.std.proofs.Common.{◌≡◌, ◌∙◌, ℕ, zero, suc, Bool, true, false, max, ◌+◌, ◌-◌, ◌*◌, ◌<◌, ◌≤◌, nat_le, List, [], ◌∷◌, map, drop, length, get_or, inl, inr, refl, ap, sym, subst, arith, All}
-use Rattle.std.specs.List.{count_by}
+use Rattle.std.proofs.Common.{◌≡◌, ◌∙◌, ℕ, suc, false, ◌-◌, ◌*◌, ◌<◌, ◌≤◌, List, [], ◌∷◌, map, inl, inr, refl, ap, sym, subst, arith, All}
 use Rattle.std.proofs.lemmas.Bool.{cases_lt, true≢false, false_from_ne_true}
 use Rattle.std.proofs.lemmas.List.Elements.{All-nil, All-cons, All-head, All-tail}
 use Rattle.gate_values.specs.declared.logic.Change.{Change}
-use Rattle.event_times.specs.Marks.{Played, AreTimes, IsKept, mark_after, later_marks, marks_of}
+use Rattle.event_times.specs.Marks.{Played, AreTimes, IsKept, mark_after, later_marks}
 use Rattle.event_times.specs.declared.times.TheConstants.{SAVE_EVERY}
 use Rattle.warp_engine.specs.Runs.{Run, IsRun, HasDropped}
 use Rattle.warp_journal.specs.Books.{Book}
 use Rattle.warp_part.specs.Placing.{place_source, place_given}
 use Rattle.warp_process.specs.Heard.{IsReceived}
-use Rattle.warp_process.specs.View.{View, Saved, log_of, is_busy, given_by, IsEventTime}
+use Rattle.warp_process.specs.View.{View, Saved, log_of, is_busy, given_by}
 use Rattle.warp_process.specs.Commit.{IsCommittable, IsCommitted}
 use Rattle.warp_process.specs.Played.{played_view, was_busy}
-use Rattle.warp_process.specs.Inner.Advance.{IsQuiet}
 use Rattle.warp_process.proofs.Committed.{one_until}
-use Rattle.part_engine.specs.Runs.{IsRunOf, IsEngineOf, state_of}
-use Rattle.warp_block.specs.Shown.Block.{mark_by, seen_by, saved_by, process_by}
-use Rattle.warp_block.specs.Inner.Held.{IsAt, IsAtRest}
+use Rattle.part_engine.specs.Runs.{state_of}
+use Rattle.warp_block.specs.Shown.Block.{mark_by, seen_by, process_by}
+use Rattle.warp_block.specs.Inner.Held.{IsAtRest}
 use Rattle.warp_block.proofs.Times.{after, times_end, times_drop, after_low, later_late, mark_is}
 use Rattle.warp_block.proofs.Resting.{next_was, past_not, rest_shown, busy_same}
 use Rattle.warp_block.proofs.Stepping.{parted_like}
@@ -102,6 +100,7 @@ module _ (v : View) (run : Run) (played : Played) (rest : IsAtRest v run played)
         within = (let within = rest.at.within in let mark = dropped.mark in omega (arith, within, mark));
         times = subst (λ k. AreTimes (was_busy v) kept_times.first k kept_times.times) (sym dropped.mark) times_are;
         quiet = λ t a b. was_quiet t (let told = rest.told in let same = dropped.told in omega (arith, a, told, same)) b;
+        sparse = kept.newest;
       };
       told = dropped.told ∙ rest.told ∙ sym dropped.mark;
     }
@@ -130,3 +129,26 @@ module _ (v : View) (run : Run) (played : Played) (rest : IsAtRest v run played)
           (late_states new.book floor (later_marks (SAVE_EVERY - 1) kept_times.times)
           (later_late (was_busy v) kept_times.first run.book.mark floor (SAVE_EVERY - 1) kept_times.times times_are (λ l. kept.newest (omega (arith, l)))));
     }
+
+-- a block can commit what is below its own floor, and nothing is left to do
+module _ (v : View) (run : Run) (played : Played) (rest : IsAtRest v run played) where
+  pub own_committable : IsCommittable (seen_by v run) v.floor
+  own_committable = record {
+    forward = omega arith;
+    processed = λ t e. (let below = e.0 in let from = e.1.0 in omega (arith, below, from));
+    settled = λ n t e. e.1 (rest.at.engine.received.settled n t e.0);
+  }
+
+  pub own_committed : IsCommitted (process_by v run played) (process_by v run played) v.floor
+  own_committed = record {
+    part = refl;
+    horizon = refl;
+    floor = refl;
+    mark = omega arith;
+    entries = λ n t. refl;
+    logs = λ n. refl;
+    events = λ t. ((λ e. e), (λ e. e));
+    few = one_until v.floor (state_of run.book played.first) (map (state_of run.book) (later_marks (SAVE_EVERY - 1) played.times))
+        (late_states run.book v.floor (later_marks (SAVE_EVERY - 1) played.times)
+        (later_late (was_busy v) played.first run.book.mark v.floor (SAVE_EVERY - 1) played.times rest.at.times (λ l. rest.at.sparse (omega (arith, l)))));
+  }

@@ -27,7 +27,7 @@ use Rattle.warp_process.specs.Played.{was_busy}
 use Rattle.warp_process.specs.declared.message.Message.{Message}
 use Rattle.warp_process.specs.declared.message.Sign.TheVariants.{Plus}
 use Rattle.warp_process.specs.Sends.{SendsOnce}
-use Rattle.warp_process.specs.Inner.Step.{sent}
+use Rattle.warp_process.specs.Shown.Step.{sent}
 use Rattle.warp_process.specs.Opening.{silent_view, opening_view, initial_log, first_messages, opening_messages}
 use Rattle.warp_process.proofs.Running.{given, delayed}
 use Rattle.warp_process.proofs.Views.{well_formed, timed}
@@ -186,6 +186,7 @@ module _ (p : Portion) (stimulus : Given) (horizon : ℕ) (received : IsReceived
         within = (let mark = opening.mark in omega (arith, mark));
         times = subst (λ (m : ℕ). AreTimes (was_busy (silent_view p stimulus horizon)) 0 m []) (sym opening.mark) (omega arith, λ t a b. absurd (omega (arith, b)));
         quiet = λ t a b. absurd (omega (arith, b));
+        sparse = λ l. absurd (omega (arith, l));
       };
       told = opening.told ∙ sym opening.mark;
     })

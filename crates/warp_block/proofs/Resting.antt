@@ -1,5 +1,5 @@
 -- What a block shows whose engine has played what it has received.
-use Rattle.std.proofs.Common.{◌≡◌, ℕ, zero, suc, Bool, true, false, max, ◌+◌, ◌-◌, ◌<◌, ◌≤◌, Option, Some, None, List, [], ◌∷◌, map, length, inl, inr, refl, ap, sym, ◌∙◌, subst, arith, All}
+use Rattle.std.proofs.Common.{◌≡◌, ℕ, zero, suc, true, false, max, ◌+◌, ◌-◌, ◌<◌, ◌≤◌, Option, Some, None, List, [], ◌∷◌, map, inl, inr, refl, ap, sym, ◌∙◌, subst, arith, All}
 use Rattle.std.proofs.lemmas.Bool.{cases_lt, true≢false, false_from_ne_true}
 use Rattle.std.proofs.lemmas.List.Elements.{All-nil, All-cons}
 use Rattle.gate_values.specs.declared.logic.Change.{Change}
@@ -8,10 +8,9 @@ use Rattle.event_times.specs.Marks as marks
 use Rattle.event_times.specs.declared.times.TheConstants.{SAVE_EVERY}
 use Rattle.event_times.proofs.Spacing.{spaced}
 use Rattle.warp_engine.specs.Runs.{Run}
-use Rattle.warp_journal.specs.Books.{Book}
 use Rattle.warp_process.specs.Heard.{IsReceived}
-use Rattle.warp_process.specs.View.{View, Saved, is_busy, busy_times, IsLeast, IsEventTime, IsDone}
-use Rattle.warp_process.specs.Lawful.{IsLawful, IsSaved, AreSpaced, AreSaved, IsLawfulProcess, lawful_log}
+use Rattle.warp_process.specs.View.{View, is_busy, busy_times, IsLeast, IsEventTime, IsDone}
+use Rattle.warp_process.specs.Lawful.{IsLawful, IsSaved, AreSpaced, IsLawfulProcess, lawful_log}
 use Rattle.warp_process.specs.Played.{played_view, was_busy}
 use Rattle.warp_process.specs.Commit.{IsCommittable}
 use Rattle.warp_process.specs.Inner.Advance.{IsQuiet}
@@ -23,8 +22,8 @@ use Rattle.warp_process.proofs.Going.{idle_past}
 use Rattle.warp_process.proofs.Committed.{committed_lawful}
 use Rattle.part_engine.specs.Runs.{state_of}
 use Rattle.part_engine.proofs.RunLogs.{lists_are, states_are}
-use Rattle.warp_block.specs.Shown.Block.{mark_by, seen_by, saved_by, process_by}
-use Rattle.warp_block.specs.Inner.Held.{IsAt, IsAtRest}
+use Rattle.warp_block.specs.Shown.Block.{mark_by, seen_by, process_by}
+use Rattle.warp_block.specs.Inner.Held.{IsAtRest}
 use Rattle.warp_block.proofs.Times.{times_end, times_on}
 
 -- a time before a mark

@@ -1,12 +1,12 @@
 -- What taking an entry makes of a block's engine.
-use Rattle.std.proofs.Common.{◌≡◌, ◌≢◌, ℕ, zero, suc, Bool, true, false, cond, ◌+◌, ◌<◌, ◌≤◌, ◌⊎◌, ◌&&◌, ◌==◌, nat_lt, Option, Some, None, List, [], ◌∷◌, length, get_or, inl, inr, refl, ap, sym, ◌∙◌, subst, arith, All}
+use Rattle.std.proofs.Common.{◌≡◌, ◌≢◌, ℕ, suc, cond, ◌<◌, ◌≤◌, ◌⊎◌, ◌==◌, nat_lt, length, get_or, inl, inr, refl, ap, sym, ◌∙◌, subst, arith}
 use Rattle.std.specs.List.{filter}
 use Rattle.std.proofs.lemmas.Bool.{cases_eq, and_left, and_right, ne_eqb, eq-eqb}
 use Rattle.gate_values.specs.declared.logic.Logic.{Logic}
 use Rattle.gate_values.specs.declared.logic.Logic.TheVariants.{X}
 use Rattle.gate_values.proofs.ChangeLists.{held-agree}
 use Rattle.event_times.specs.Marks.{Played, AreTimes}
-use Rattle.warp_engine.specs.Runs.{Run, IsRun, IsLike, HasReturned}
+use Rattle.warp_engine.specs.Runs.{Run, IsRun, HasReturned}
 use Rattle.warp_part.specs.Portion.{Portion}
 use Rattle.warp_part.specs.Placing.{place_source, place_given}
 use Rattle.warp_part.proofs.Placing.{nothing_past}
@@ -14,16 +14,15 @@ use Rattle.warp_process.specs.declared.entry.Entry.{Entry}
 use Rattle.warp_process.specs.Entries.{effective_of}
 use Rattle.warp_process.specs.Heard.{IsReceived}
 use Rattle.warp_process.specs.View.{View, entry_of, effective_at, given_by}
-use Rattle.warp_process.specs.Lawful.{IsLawful}
 use Rattle.warp_process.specs.Played.{played_view, was_busy}
-use Rattle.warp_process.specs.Inner.Receive.{IsPut}
+use Rattle.warp_process.specs.Shown.Receive.{IsPut}
 use Rattle.warp_process.proofs.Playing.{played_lawful}
 use Rattle.warp_process.proofs.SavingBusy.{busy_agree}
 use Rattle.part_engine.specs.Runs.{IsRunOf, IsEngineOf}
 use Rattle.part_engine.proofs.GoingOn.{runs_go_on}
 use Rattle.part_engine.proofs.RunLogs.{cells_are}
-use Rattle.warp_block.specs.Inner.Held.{IsAt, IsAtRest}
-use Rattle.warp_block.proofs.Times.{times_end, times_cut, times_same}
+use Rattle.warp_block.specs.Inner.Held.{IsAtRest, IsSparse}
+use Rattle.warp_block.proofs.Times.{times_cut, times_same, sparse_cut}
 use Rattle.warp_block.proofs.Stepping.{parted_like}
 
 module _ (v w : View) (net time : ℕ) (entry : Entry) (put : IsPut v w net time entry) where
@@ -77,6 +76,7 @@ module _ (v w : View) (net time : ℕ) (entry : Entry) (put : IsPut v w net time
           within = (let within = rest.at.within in let same = put.horizon in omega (arith, within, same));
           times = times_same (was_busy v) (was_busy w) played.first run.book.mark played.times (λ t a b. was_same t (λ n u m. agree n u (inl (omega (arith, m, b))))) rest.at.times;
           quiet = λ t a b. sym (was_same t (λ n u m. agree n u (inr (let same = put.floor in omega (arith, m, b, same))))) ∙ rest.at.quiet t a (let same = put.floor in omega (arith, b, same));
+          sparse = subst (λ (f : ℕ). IsSparse f played.times) (sym put.floor) rest.at.sparse;
         };
         told = rest.told;
       }
@@ -122,6 +122,8 @@ module _ (v w : View) (net time : ℕ) (entry : Entry) (put : IsPut v w net time
               (times_same (was_busy v) (was_busy w) played.first time (filter (λ t. nat_lt t time) played.times) (λ t a b. was_same t (λ n u m. agree_below n u (omega (arith, m, b))))
               (times_cut (was_busy v) played.first run.book.mark time time played.times rest.at.times low_time (omega arith) (omega (arith, late)) (λ t a b. absurd (omega (arith, a, b)))));
           quiet = λ t a b. absurd (let same = put.floor in let told = back.told in omega (arith, a, b, same, told, from));
+          sparse = subst (λ (f : ℕ). IsSparse f (filter (λ t. nat_lt t time) played.times)) (sym put.floor)
+              (sparse_cut (was_busy v) played.first run.book.mark time v.floor played.times rest.at.times rest.at.sparse);
         };
         told = back.told ∙ sym back.mark;
       })

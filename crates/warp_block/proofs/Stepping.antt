@@ -1,5 +1,5 @@
 -- What an engine under way is after a step.
-use Rattle.std.proofs.Common.{◌≡◌, ℕ, zero, suc, Bool, true, false, ◌+◌, ◌<◌, ◌≤◌, ◌++◌, nat_lt, Some, List, [], ◌∷◌, length, inl, inr, refl, ap, sym, ◌∙◌, subst, arith, All}
+use Rattle.std.proofs.Common.{◌≡◌, ℕ, suc, false, ◌<◌, ◌≤◌, ◌++◌, nat_lt, Some, List, [], ◌∷◌, length, inl, inr, ap, sym, ◌∙◌, subst, arith, All}
 use Rattle.std.proofs.lemmas.Bool.{cases_lt, true≢false}
 use Rattle.event_times.specs.Marks.{Played, AreTimes}
 use Rattle.warp_stores.specs.Words.{Move}
@@ -16,9 +16,9 @@ use Rattle.warp_part.specs.Placing.{place_source, place_given, place_cells}
 use Rattle.warp_process.specs.Heard.{IsReceived}
 use Rattle.warp_process.specs.View.{View, IsLeast, IsEventTime, given_by, is_busy}
 use Rattle.warp_process.specs.Played.{played_view, was_busy}
-use Rattle.part_engine.specs.Runs.{IsRunOf, IsEngineOf}
-use Rattle.warp_block.specs.Inner.Held.{IsAt, IsAtRest, IsUntold}
-use Rattle.warp_block.proofs.Times.{times_end, times_below, times_on, times_push, times_cut, push_cut}
+use Rattle.part_engine.specs.Runs.{IsEngineOf}
+use Rattle.warp_block.specs.Inner.Held.{IsAt, IsAtRest}
+use Rattle.warp_block.proofs.Times.{times_below, times_on, times_push, times_cut, push_cut, sparse_push, sparse_cut}
 use Rattle.warp_block.proofs.Resting.{least_none, least_now, least_from, quiet_from, next_was}
 
 -- queues of the same places
@@ -83,6 +83,7 @@ module _ (v : View) (run : Run) (played : Played) (at : IsAt v run played) where
     within = subst (λ k. k ≤ suc v.horizon) (sym mark) at.within;
     times = subst (λ k. AreTimes (was_busy v) played.first k played.times) (sym mark) at.times;
     quiet = λ t a b. at.quiet t (omega (arith, a, told)) b;
+    sparse = at.sparse;
   }
 
   -- the next event time
@@ -107,6 +108,7 @@ module _ (v : View) (run : Run) (played : Played) (at : IsAt v run played) where
       times = subst (λ k. AreTimes (was_busy v) played.first k (played.times ++ time ∷ [])) (sym mark)
           (times_push (was_busy v) played.first run.book.mark time played.times at.times least.0.0 (least_none v received run.book.mark time least) (least_now v received run.book.mark time least));
       quiet = λ t a b. at.quiet t (omega (arith, a, told)) b;
+      sparse = sparse_push v.floor time played.times at.sparse least_floor;
     }
 
     -- and isn't, after an error
@@ -132,6 +134,7 @@ module _ (v : View) (run : Run) (played : Played) (at : IsAt v run played) where
         (times_on (was_busy v) played.first run.book.mark 1 played.times at.times (omega (arith, zero_mark))
         (λ t a b. let first : t ≡ 0 = omega (arith, b) in ap (was_busy v) first ∙ sym (next_was v received 0 0 (omega arith) (omega arith) (λ u f g busy. absurd (omega (arith, g)))) ∙ still));
     quiet = λ t a b. at.quiet t (omega (arith, a, told)) b;
+    sparse = at.sparse;
   }
 
   -- what isn't told is taken back
@@ -145,6 +148,7 @@ module _ (v : View) (run : Run) (played : Played) (at : IsAt v run played) where
       times = (let low = told_low in let high = told_high in
           times_cut (was_busy v) played.first run.book.mark new.book.mark new.book.mark played.times at.times (omega (arith, mark, low)) (omega arith) (omega (arith, mark, high)) (λ t a b. absurd (omega (arith, a, b))));
       quiet = λ t a b. at.quiet t (omega (arith, a, told)) b;
+      sparse = sparse_cut (was_busy v) played.first run.book.mark new.book.mark v.floor played.times at.times at.sparse;
     };
     told = told ∙ sym mark;
   })
@@ -167,6 +171,7 @@ at_told v run played at new book told horizon runs = record {
     within = subst (λ (b : Book). b.mark ≤ suc v.horizon) (sym book) at.within;
     times = subst (λ (b : Book). AreTimes (was_busy v) played.first b.mark played.times) (sym book) at.times;
     quiet = λ t a b. at.quiet t (let high = at.engine.run.is.high in omega (arith, a, told, high)) b;
+    sparse = at.sparse;
   };
   told = told ∙ ap (λ (b : Book). b.mark) (sym book);
 }

@@ -7,6 +7,7 @@ use Rattle.std.proofs.lemmas.List.Elements.{All-nil, All-cons}
 use Rattle.event_times.specs.Marks.{Played, AreTimes, counted, later_marks, mark_after}
 use Rattle.warp_process.proofs.SavingTimes.{times-split, times-none, times-one}
 use Rattle.event_times.specs.declared.times.TheConstants.{SAVE_EVERY}
+use Rattle.warp_block.specs.Inner.Held.{IsSparse}
 
 test_yes : (t time : ℕ) → t < time → nat_lt t time ≡ true
 test_yes t time l = grind (arith, common_steps)
@@ -155,3 +156,52 @@ times_from_cut busy from end cut ts h low high =
     times_counted busy from cut (filter (λ t. nat_lt t cut) ts) (times_cut busy from end cut cut ts h low (omega arith) high (λ t a b. absurd (omega (arith, a, b)))) in
     let split : counted busy from end ≡ counted busy from cut + counted busy cut end = times-split busy from cut end low high in
     omega (arith, all, before, split)
+
+-- one more behind some
+ahead_of : (n time : ℕ) (ts : List ℕ) → n < length ts → get_or (ts ++ time ∷ []) n 0 ≡ get_or ts n 0
+ahead_of n time [] l = absurd (omega (arith, l))
+ahead_of zero time (t ∷ ts) l = refl
+ahead_of (suc n) time (t ∷ ts) l = ahead_of n time ts (omega (arith, l))
+
+behind_all : (n time : ℕ) (ts : List ℕ) → n ≡ length ts → get_or (ts ++ time ∷ []) n 0 ≡ time
+behind_all zero time [] e = refl
+behind_all zero time (t ∷ ts) e = absurd (omega (arith, e))
+behind_all (suc n) time [] e = absurd (omega (arith, e))
+behind_all (suc n) time (t ∷ ts) e = behind_all n time ts (omega (arith, e))
+
+many_more : (time : ℕ) (ts : List ℕ) → length (ts ++ time ∷ []) ≡ suc (length ts)
+many_more time [] = refl
+many_more time (t ∷ ts) = ap (λ n. suc n) (many_more time ts)
+
+-- those before a time are the first ones
+first_ones : (busy : ℕ → Bool) (from end cut n : ℕ) (ts : List ℕ) → AreTimes busy from end ts → n < length (filter (λ t. nat_lt t cut) ts)
+    → (n < length ts) × (get_or (filter (λ t. nat_lt t cut) ts) n 0 ≡ get_or ts n 0)
+first_ones busy from end cut n [] h l = absurd (omega (arith, l))
+first_ones busy from end cut zero (t ∷ ts) h l = elim (cases_lt t cut) [
+  | inl kept ↦ (omega arith, rw (test_yes t cut kept) refl)
+  | inr gone ↦ absurd (let none : filter (λ s. nat_lt s cut) (t ∷ ts) ≡ [] = rw (test_no t cut gone) (none_kept busy (suc t) end cut ts h.3 (omega (arith, gone))) in
+      let few : length (filter (λ s. nat_lt s cut) (t ∷ ts)) ≡ 0 = ap (λ (ss : List ℕ). length ss) none in omega (arith, few, l))
+]
+first_ones busy from end cut (suc n) (t ∷ ts) h l = elim (cases_lt t cut) [
+  | inl kept ↦ (let more : suc n < length (t ∷ filter (λ s. nat_lt s cut) ts) = rw (test_yes t cut kept) at l in
+      let rest = first_ones busy (suc t) end cut n ts h.3 (omega (arith, more)) in
+      let inside = rest.0 in
+      (omega (arith, inside), rw (test_yes t cut kept) rest.1))
+  | inr gone ↦ absurd (let none : filter (λ s. nat_lt s cut) (t ∷ ts) ≡ [] = rw (test_no t cut gone) (none_kept busy (suc t) end cut ts h.3 (omega (arith, gone))) in
+      let few : length (filter (λ s. nat_lt s cut) (t ∷ ts)) ≡ 0 = ap (λ (ss : List ℕ). length ss) none in omega (arith, few, l))
+]
+
+-- no saved state more is up to the floor, where an event time that isn't below it comes, or where the last ones are taken back
+pub sparse_push : (floor time : ℕ) (ts : List ℕ) → IsSparse floor ts → floor ≤ time → IsSparse floor (ts ++ time ∷ [])
+sparse_push floor time ts h from l = elim (cases_lt (SAVE_EVERY - 1) (length ts)) [
+  | inl more ↦ (let is = ahead_of (SAVE_EVERY - 1) time ts more in let low = h (omega (arith, more)) in omega (arith, is, low))
+  | inr few ↦ (let many = many_more time ts in let is = behind_all (SAVE_EVERY - 1) time ts (omega (arith, few, many, l)) in omega (arith, is, from))
+]
+
+pub sparse_cut : (busy : ℕ → Bool) (from end cut floor : ℕ) (ts : List ℕ) → AreTimes busy from end ts → IsSparse floor ts → IsSparse floor (filter (λ t. nat_lt t cut) ts)
+sparse_cut busy from end cut floor ts times h l =
+    let first = first_ones busy from end cut (SAVE_EVERY - 1) ts times (omega (arith, l)) in
+    let inside = first.0 in
+    let is = first.1 in
+    let low = h (omega (arith, inside)) in
+    omega (arith, is, low)

@@ -204,6 +204,9 @@ impl Block {
         ensures refused { IfErr result (IsCommitRefusal self.old.seen floor) }
         ensures err { OnErr result (self.new ≡ self.old) }
     {
+        if floor == self.heard.floor() {
+            return Ok(());
+        }
         self.may_commit(floor)?;
         self.heard.commit(floor);
         self.heard.law();

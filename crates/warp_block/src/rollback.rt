@@ -5,7 +5,7 @@ ghost use Rattle.warp_process.specs.declared.message.Sign.TheVariants.{Minus};
 ghost use Rattle.warp_process.specs.Entries.{effective_of};
 ghost use Rattle.warp_process.specs.View.{effective_at};
 ghost use Rattle.warp_process.specs.Sends.{SendsOnce};
-ghost use Rattle.warp_process.specs.Inner.Receive.{IsPut};
+ghost use Rattle.warp_process.specs.Shown.Receive.{IsPut};
 ghost use Rattle.warp_block.specs.Shown.Block.{seen_by};
 ghost use Rattle.warp_block.specs.Inner.Held.{IsAtRest};
 

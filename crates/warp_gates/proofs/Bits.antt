@@ -2,7 +2,7 @@
 use Rattle.std.proofs.Common.{◌≡◌, ℕ, zero, suc, ◌+◌, ◌-◌, ◌*◌, ◌/◌, ◌%◌, ◌^◌, ◌<◌, List, [], ◌∷◌, set, refl, arith}
 use Rattle.gate_values.specs.declared.logic.Logic.{Logic}
 use Rattle.gate_values.specs.declared.logic.Logic.TheVariants.{Zero, One, X, Z}
-use Rattle.warp_stores.specs.Inner.Words.{code_of, value_of}
+use Rattle.warp_stores.specs.Shown.Words.{code_of, value_of}
 
 -- a byte with another two bits
 abbrev pub put : ℕ → ℕ → ℕ → ℕ

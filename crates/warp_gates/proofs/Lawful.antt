@@ -6,7 +6,8 @@ use Rattle.gate_values.specs.declared.logic.Logic.{Logic}
 use Rattle.warp_gates.specs.declared.front.Front.{Front}
 use Rattle.warp_gates.specs.Cells.{Cell, Outside, Gate, Flop, value_at, cell_at, IsSettled, AreGates}
 use Rattle.warp_gates.specs.Inner.Fronts.{front_at, IsFresh}
-use Rattle.warp_gates.specs.Inner.Held.{gates_of, AreHeld}
+use Rattle.warp_gates.specs.Inner.Held.{AreHeld}
+use Rattle.warp_gates.specs.Shown.Held.{gates_of}
 use Rattle.warp_gates.proofs.Steps.{nothing, output-map}
 
 settled_cell : (values : List Logic) (cell : Cell) (f : Front) (v : Logic) → v ≡ f.output → f.is_stale ≡ false → IsFresh values cell f → IsSettled values cell v

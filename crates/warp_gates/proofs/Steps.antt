@@ -15,7 +15,8 @@ use Rattle.warp_gates.specs.Inner.Fronts.{front_at, row_of, has, has_gate, reach
 use Rattle.warp_gates.specs.Inner.Told.{AreTold, AreEvaluating, AreRefreshed, IsEdge, all_edges, is_gate}
 use Rattle.warp_gates.specs.Inner.Loading.{IsLoaded, AreLoaded, loaded_output}
 use Rattle.gate_values.specs.declared.gate.Kind.TheVariants.{And}
-use Rattle.warp_gates.specs.Inner.Held.{gates_of, ArePassedOn}
+use Rattle.warp_gates.specs.Inner.Held.{ArePassedOn}
+use Rattle.warp_gates.specs.Shown.Held.{gates_of}
 use Rattle.gate_values.specs.Tables.{flip_of}
 use Rattle.warp_gates.proofs.Showing.{eqb_same, or_true}
 use Rattle.warp_gates.proofs.Moving.{true_or_not}

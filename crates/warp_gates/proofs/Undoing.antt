@@ -8,7 +8,7 @@ use Rattle.warp_gates.specs.declared.front.Front.{Front}
 use Rattle.warp_gates.specs.Cells.{Cell, Outside, Gate, Flop, value_at, cell_at, unmoved, settled_output, restored_output, HaveSettled, HaveRestored}
 use Rattle.warp_gates.specs.Inner.Fronts.{front_at, row_of, has_gate, reached, AreReaders, AreFronts, AreSettled, AreTouched, AreShown, IsShown, IsKept, IsFresh}
 use Rattle.warp_gates.specs.Inner.Told.{AreRefreshed, all_edges, is_gate, is_flop}
-use Rattle.warp_gates.specs.Inner.Held.{gates_of}
+use Rattle.warp_gates.specs.Shown.Held.{gates_of}
 use Rattle.warp_gates.specs.Inner.Undoing.{AreQueuesKept, AreFollowing, outputs_of, IsRestored, AreRestored}
 use Rattle.warp_gates.proofs.Showing.{same_or_not, eqb_same, eqb_other, value_at-set, or_true}
 use Rattle.warp_gates.proofs.Moving.{true_or_not, either}

@@ -5,7 +5,7 @@ use Rattle.warp_gates.specs.declared.wiring.Shape.TheVariants as Shapes
 use Rattle.warp_gates.specs.Cells.{Cell, cell_at}
 use Rattle.warp_gates.specs.Inner.Fronts.{inputs_of}
 use Rattle.warp_gates.specs.Inner.Told.{is_gate, is_flop, data_of}
-use Rattle.warp_gates.specs.Inner.Wiring.{cell_of, cells_of}
+use Rattle.warp_gates.specs.Shown.Wiring.{cell_of, cells_of}
 
 pub length-cells_of : (shapes : List Shape) (inputs : List (List ℕ)) → length inputs ≡ length shapes → length (cells_of shapes inputs) ≡ length shapes
 length-cells_of [] inputs h = refl

@@ -1,6 +1,5 @@
 pub mod Pins
 pub mod Outputs
-pub mod Wiring
 pub mod Fronts
 pub mod Wide
 pub mod Told
@@ -8,3 +7,4 @@ pub mod Loading
 pub mod Held
 pub mod Undoing
 pub mod First
+pub mod Clocked

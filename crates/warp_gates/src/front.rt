@@ -29,8 +29,7 @@ pub(crate) fn show(fronts: &mut [Front], edges: &[u32], value: Logic)
     ensures { AreShown edges.now value fronts.old fronts.new }
 {
     for edge in edges {
-        let front = &mut fronts[(*edge / EDGES) as usize];
-        *front = shown(*front, *edge % EDGES, value);
+        show_at(&mut fronts[(*edge / EDGES) as usize], *edge % EDGES, value);
     }
 }
 
@@ -75,20 +74,14 @@ pub(crate) fn unshow_all(
     }
 }
 
-/// A place with a value shown at an edge.
+/// Shows a value to a place at an edge.
 #[inline]
-fn shown(front: Front, pin: u32, value: Logic) -> Front
-    ensures { IsShownAt pin value front result }
+fn show_at(front: &mut Front, pin: u32, value: Logic)
+    ensures { IsShownAt pin value front.old front.new }
 {
-    if pin < u32::from(PINS) {
-        return Front {
-            pins: front.pins.with(pin as u8, value),
-            is_stale: true,
-            ..front
-        };
+    front.is_stale = true;
+    if pin >= u32::from(PINS) {
+        return;
     }
-    Front {
-        is_stale: true,
-        ..front
-    }
+    front.pins = front.pins.with(pin as u8, value);
 }

@@ -8,6 +8,7 @@ ghost use Rattle.warp_gates.specs.Inner.Fronts.{AreFronts, AreSettled, AreReader
 ghost use Rattle.warp_gates.specs.Inner.Undoing.{AreFollowing};
 ghost use Rattle.warp_gates.specs.Inner.Held.{AreHeld, ArePassedOn};
 
+use crate::clocked::Clocked;
 use crate::evaluate::evaluate_all;
 use crate::first::fronts_of;
 use crate::front::{Front, show_all, unshow_all};
@@ -31,13 +32,14 @@ pub struct Gates {
     fronts: Vec<Front>,
     values: Vec<Logic>,
     readers: Groups,
-    clocked: Groups,
+    clocked: Clocked,
     outputs: Outputs,
 }
 
 impl Model for Gates {
     ghost use Rattle.warp_gates.specs.Cells.{Gates};
-    ghost use Rattle.warp_gates.specs.Inner.Held.{gates_of, AreHeld};
+    ghost use Rattle.warp_gates.specs.Inner.Held.{AreHeld};
+    ghost use Rattle.warp_gates.specs.Shown.Held.{gates_of};
 
     ghost Value = { Gates };
 
@@ -136,7 +138,8 @@ impl Gates {
         ensures err { OnErr result (self.new ≡ self.old) }
         ensures unput { OnErr result (puts.new.items ≡ puts.old.items) }
     {
-        let room = room_for(&self.clocked, words).saturating_add(room_for(&self.readers, words));
+        let flops = self.clocked.room_for(words);
+        let room = room_for(&self.readers, words).saturating_add(flops);
         puts.reserve(room)?;
         pass_on(
             &mut self.fronts,
@@ -188,7 +191,7 @@ fn pass_on(
     fronts: &mut [Front],
     values: &mut [Logic],
     readers: &Groups,
-    clocked: &Groups,
+    clocked: &Clocked,
     outputs: &Outputs,
     wiring: &Wiring,
     words: &[Word],

@@ -11,6 +11,7 @@
 //! The definitions that contracts cite stand in `specs/Cells`, how gates lie in memory in `specs/Inner`.
 #![tactic(auto)]
 
+mod clocked;
 mod evaluate;
 mod first;
 mod front;

@@ -10,12 +10,12 @@ ghost use Rattle.warp_gates.specs.Inner.Fronts.{AreClocked, AreSettled};
 ghost use Rattle.warp_gates.specs.Inner.Told.{AreTold, is_flop, all_edges};
 ghost use Rattle.warp_gates.specs.Inner.Loading.{AreFlipped, AreLoaded, MayLoad, StillPutOut};
 
+use crate::clocked::Clocked;
 use crate::evaluate::put_out;
 use crate::front::Front;
 use crate::put::Put;
 use crate::wiring::Wiring;
 use gate_values::{Logic, flip};
-use number_groups::Groups;
 use warp_stores::{PLACES, Word};
 
 /// Whether a flip-flop may load when its clock goes from one value to another.
@@ -78,7 +78,7 @@ fn load(
     ensures room { vec_len puts.new ≤ vec_len puts.old + length flops.now }
     ensures capacity { vec_capacity puts.new ≡ vec_capacity puts.old }
 {
-    if !is_edge(before, after) {
+    if flops.is_empty() || !is_edge(before, after) {
         return;
     }
     for flop in flops {
@@ -89,7 +89,7 @@ fn load(
 /// Lets the flip-flops load whose clocks some words change. The values are those before.
 pub(crate) fn load_all(
     fronts: &mut [Front],
-    clocked: &Groups,
+    clocked: &Clocked,
     words: &[Word],
     values: &[Logic],
     wiring: &Wiring,

@@ -1,6 +1,6 @@
 //! The values at a gate's inputs, in a byte.
 ghost use Rattle.std.specs.Prelude.{◌≡◌, ◌<◌, slice_set};
-ghost use Rattle.warp_stores.specs.Inner.Words.{code_of, value_of};
+ghost use Rattle.warp_stores.specs.Shown.Words.{code_of, value_of};
 ghost use Rattle.warp_gates.specs.Inner.Pins.{pins_of, pins_in};
 
 use gate_values::Logic;

@@ -5,6 +5,7 @@ ghost use Rattle.warp_gates.specs.Cells.{IsCell, cell_at};
 ghost use Rattle.warp_gates.specs.Inner.Fronts.{AreReaders, AreClocked, inputs_of, pin_of};
 ghost use Rattle.warp_gates.specs.Inner.First.{AreListed, AreTimed};
 
+use crate::clocked::Clocked;
 use crate::front::EDGES;
 use crate::pins::PINS;
 use crate::wiring::Wiring;
@@ -57,16 +58,18 @@ fn pin_of(inputs: &[u32], k: usize) -> u32
 }
 
 /// The flip-flops that each place clocks. An error is a refused growth.
-pub(crate) fn clocked_of(alloc: Global, wiring: &Wiring) -> Result<Groups, AllocError>
+pub(crate) fn clocked_of(alloc: Global, wiring: &Wiring) -> Result<Clocked, AllocError>
     requires few { length wiring.now ≤ PLACES }
     requires cells { All (IsCell (length wiring.now)) wiring.now }
-    ensures { IfOk result (λ rows. AreClocked wiring.now rows) }
+    ensures { IfOk result (λ clocked. AreClocked wiring.now clocked) }
 {
     let mut flops = Vec::new(alloc);
     for place in 0..wiring.len() {
         push_clock(&mut flops, wiring, place)?;
     }
-    Groups::of(alloc, wiring.len() as u32, &flops)
+    let places = wiring.len() as u32;
+    let rows = Groups::of(alloc, places, &flops)?;
+    Ok(Clocked::of(rows, places))
 }
 
 /// A place under its clock, if it is a flip-flop's.

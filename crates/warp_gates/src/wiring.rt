@@ -5,7 +5,7 @@ ghost use Rattle.warp_gates.specs.Cells.{Outside, Gate, Flop, cell_at};
 ghost use Rattle.warp_gates.specs.Inner.Fronts.{inputs_of};
 ghost use Rattle.warp_gates.specs.Inner.Told.{is_flop, data_of};
 ghost use Rattle.warp_gates.specs.Inner.First.{kind_of, clock_of};
-ghost use Rattle.warp_gates.specs.Inner.Wiring.{cell_of};
+ghost use Rattle.warp_gates.specs.Shown.Wiring.{cell_of};
 
 use gate_values::Kind;
 use number_groups::Rows;
@@ -30,7 +30,7 @@ pub struct Wiring {
 impl Model for Wiring {
     ghost use Rattle.std.specs.Prelude.{◌≡◌, List, length};
     ghost use Rattle.warp_gates.specs.Cells.{Cell};
-    ghost use Rattle.warp_gates.specs.Inner.Wiring.{cells_of};
+    ghost use Rattle.warp_gates.specs.Shown.Wiring.{cells_of};
 
     ghost Value = { List Cell };
 

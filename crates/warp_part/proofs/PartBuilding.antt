@@ -20,7 +20,8 @@ use Rattle.warp_part.specs.declared.cell.Span.{Span}
 use Rattle.warp_part.specs.Portion.{slot_of, uses, does_use}
 use Rattle.warp_part.specs.PartOf.{is_own, is_used_by, part_nets, part_source}
 use Rattle.warp_part.specs.Shown.Part.{stretch}
-use Rattle.warp_part.specs.Inner.Building.{driver_uses, place_of, has, is_used_among, IsCell, HasMore, AreCells}
+use Rattle.warp_part.specs.Inner.Building.{driver_uses, has, is_used_among, IsCell, HasMore, AreCells}
+use Rattle.warp_part.specs.Shown.Building.{place_of}
 use Rattle.warp_part.proofs.Slots.{slot_at, slot_is}
 use Rattle.warp_part.proofs.PartLists.{any_below, any_kept, any_same, has_at, has_past, has_kept, past_kept, range_below, kept_below, kept_is, kept_rises, kept_few}
 

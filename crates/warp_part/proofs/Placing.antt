@@ -9,7 +9,7 @@ use Rattle.gate_values.specs.Behaviour.{Source, Outside, Gate, Flop, before}
 use Rattle.place_names.specs.Names.{IsNamed, IsBelow, StandForNets}
 use Rattle.place_names.proofs.Naming.{moments_same}
 use Rattle.warp_part.specs.Portion.{Portion, IsPortion, slot_of, at_slot, source_of, is_driven, uses}
-use Rattle.warp_part.specs.Inner.Building.{place_of}
+use Rattle.warp_part.specs.Shown.Building.{place_of}
 use Rattle.warp_part.specs.Placing.{net_of_place, placed, place_source, place_given}
 use Rattle.warp_part.proofs.Slots.{slot_at}
 use Rattle.warp_part.proofs.PartBuilding.{place_is}

@@ -9,7 +9,7 @@ use Rattle.warp_part.specs.declared.cell.Cell.{Cell}
 use Rattle.warp_part.specs.declared.cell.Cell.TheVariants.{Input, Foreign, Pair, Gate, Flop}
 use Rattle.warp_part.specs.Shown.Part.{cell_source, stretch}
 use Rattle.warp_part.specs.Inner.HeldPart.{CellFits}
-use Rattle.warp_part.specs.Inner.Building.{place_of}
+use Rattle.warp_part.specs.Shown.Building.{place_of}
 use Rattle.warp_part.specs.Placing.{cell_by}
 use Rattle.warp_part.specs.Inner.Wired.{wired, begun}
 use Rattle.warp_part.proofs.Slots.{slot_at}

@@ -6,7 +6,7 @@ use Rattle.gate_values.specs.Behaviour.{Source, Outside, Gate, Flop}
 use Rattle.warp_gates.specs.Cells as cells
 use Rattle.warp_gates.specs.Cells.{Cell}
 use Rattle.warp_part.specs.Portion.{Portion}
-use Rattle.warp_part.specs.Inner.Building.{place_of}
+use Rattle.warp_part.specs.Shown.Building.{place_of}
 
 abbrev pub net_of_place : Portion → ℕ → ℕ
 net_of_place p i = get_or p.nets i 0

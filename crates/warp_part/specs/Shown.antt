@@ -1,2 +1,3 @@
 -- What contracts see of the types of this crate: the value that each shows of its fields.
 pub mod Part
+pub mod Building

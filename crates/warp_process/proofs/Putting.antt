@@ -15,7 +15,7 @@ use Rattle.warp_process.specs.Shown.Heard.{heard_by}
 use Rattle.warp_process.specs.Shown.Rows.{queue_in}
 use Rattle.warp_process.specs.Inner.Rows.{entry_at, AreRows, IsEntered}
 use Rattle.warp_process.specs.Inner.Heard.{IsHeld}
-use Rattle.warp_process.specs.Inner.Receive.{IsPut}
+use Rattle.warp_process.specs.Shown.Receive.{IsPut}
 use Rattle.warp_process.proofs.Hearing.{held_entry, queue_entry, queues_are, queues_count, no_place}
 use Rattle.warp_process.proofs.Queued.{queued, queued_entry, same_queues}
 use Rattle.warp_process.proofs.Sure.{sure_put}

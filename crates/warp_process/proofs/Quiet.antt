@@ -4,7 +4,8 @@ use Rattle.gate_values.specs.declared.logic.Logic.{Logic}
 use Rattle.gate_values.specs.declared.logic.Logic.TheVariants.{Zero, One, X, Z}
 use Rattle.gate_values.specs.declared.logic.Change.{Change}
 use Rattle.gate_values.specs.Tables.{flip_of}
-use Rattle.gate_values.specs.Behaviour.{Source, Flop, before, value, content, history}
+use Rattle.gate_values.specs.Behaviour.{Source, Flop, before, value, history}
+use Rattle.gate_values.specs.Inner.Behaviour.{content}
 use Rattle.gate_values.specs.Changes.{pair_at}
 use Rattle.gate_values.proofs.Behaving.{content_is}
 use Rattle.warp_part.specs.Portion.{is_driven, source_of}

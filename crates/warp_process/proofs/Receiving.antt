@@ -16,7 +16,7 @@ use Rattle.warp_process.specs.Entries.{number_of, with_number, bump_of, weight_o
 use Rattle.warp_process.specs.View.{View, Saved, entry_of, effective_at, is_busy}
 use Rattle.warp_process.specs.Lawful.{IsLawful, IsSaved, AreSpaced, AreSaved}
 use Rattle.warp_process.specs.Receive.{IsTaken, IsRefusal, does_tell}
-use Rattle.warp_process.specs.Inner.Receive.{IsPut, IsAdmitted}
+use Rattle.warp_process.specs.Shown.Receive.{IsPut, IsAdmitted}
 use Rattle.warp_process.specs.declared.fault.BlockFault.{BlockFault}
 use Rattle.warp_process.specs.declared.fault.BlockFault.TheVariants.{Memory}
 use Rattle.warp_process.proofs.SavingBusy.{busy_agree}

@@ -6,7 +6,7 @@ use Rattle.warp_process.specs.declared.entry.Entry.{Entry}
 use Rattle.warp_process.specs.Entries.{is_settled}
 use Rattle.warp_process.specs.View.{View, entry_of}
 use Rattle.warp_process.specs.Commit.{IsUnsettledBelow}
-use Rattle.warp_process.specs.Inner.Receive.{IsPut}
+use Rattle.warp_process.specs.Shown.Receive.{IsPut}
 
 -- what isn't unsettled is settled
 pub settled_of : (v : View) (end : ℕ) → ((n t : ℕ) → IsUnsettledBelow v end n t → ⊥) → (n t : ℕ) → t < end → is_settled (entry_of v n t) ≡ true

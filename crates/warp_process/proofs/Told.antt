@@ -9,7 +9,8 @@ use Rattle.warp_process.specs.declared.message.Message.{Message}
 use Rattle.warp_process.specs.declared.message.Sign.{Sign}
 use Rattle.warp_part.specs.Portion.{Portion}
 use Rattle.warp_process.specs.Sends.{Place, is_change, is_message, same_sign}
-use Rattle.warp_process.specs.Inner.Step.{net_at, sent, told}
+use Rattle.warp_process.specs.Inner.Step.{told}
+use Rattle.warp_process.specs.Shown.Step.{net_at, sent}
 
 -- a test that no item passes
 pub count-none : {A : Type 0} (f : A → Bool) (xs : List A) → All (λ x. f x ≡ false) xs → count_by f xs ≡ 0

@@ -5,6 +5,5 @@ pub mod Told
 pub mod Entries
 pub mod Heard
 pub mod Logs
-pub mod Receive
 pub mod Step
 pub mod View

@@ -1,3 +1,5 @@
 -- What contracts see of the types of this crate: the value that each shows of its fields.
 pub mod Rows
 pub mod Heard
+pub mod Receive
+pub mod Step

@@ -14,7 +14,7 @@ ghost use Rattle.warp_process.specs.Heard.{IsReceived, IsHeardFrom, IsToldOf};
 ghost use Rattle.warp_process.specs.Opening.{silent_view, opening_queue};
 ghost use Rattle.warp_process.specs.Receive.{is_for, refusal_of, IsRefusal};
 ghost use Rattle.warp_process.specs.Commit.{IsUnsettledBelow, IsFirstUnsettled};
-ghost use Rattle.warp_process.specs.Inner.Receive.{IsAdmitted, IsFirstAt, IsPut};
+ghost use Rattle.warp_process.specs.Shown.Receive.{IsAdmitted, IsFirstAt, IsPut};
 ghost use Rattle.warp_process.specs.Inner.Rows.{entry_at, AreRows};
 
 use crate::by_time::Rows;

@@ -6,3 +6,4 @@ pub mod Turn
 pub mod Visit
 pub mod Words
 pub mod Inner
+pub mod Shown

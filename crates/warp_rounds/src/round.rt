@@ -22,7 +22,8 @@ pub struct Round {
 
 impl Model for Round {
     ghost use Rattle.warp_rounds.specs.Seats.{RoundView};
-    ghost use Rattle.warp_rounds.specs.Inner.Inside.{view_of_round, IsKept};
+    ghost use Rattle.warp_rounds.specs.Inner.Inside.{IsKept};
+    ghost use Rattle.warp_rounds.specs.Shown.Inside.{view_of_round};
 
     ghost Value = { RoundView };
 
@@ -40,7 +41,8 @@ pub struct RoundSeat {
 
 impl Model for RoundSeat {
     ghost use Rattle.warp_rounds.specs.Seats.{SeatView};
-    ghost use Rattle.warp_rounds.specs.Inner.Inside.{view_of_seat, IsSeat};
+    ghost use Rattle.warp_rounds.specs.Inner.Inside.{IsSeat};
+    ghost use Rattle.warp_rounds.specs.Shown.Inside.{view_of_seat};
 
     ghost Value = { SeatView };
 

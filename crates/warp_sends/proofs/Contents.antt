@@ -8,7 +8,7 @@ use Rattle.gate_values.specs.Behaviour.{Outside, initial_of}
 use Rattle.warp_part.specs.Portion.{Portion, IsPortion, source_of, readers_of}
 use Rattle.warp_part.proofs.Slots.{of_net-at}
 use Rattle.warp_process.specs.declared.message.Message.{Message}
-use Rattle.warp_process.specs.Inner.Step.{net_at}
+use Rattle.warp_process.specs.Shown.Step.{net_at}
 use Rattle.warp_process.specs.Opening.{first_messages}
 
 -- the messages on what a net begins with

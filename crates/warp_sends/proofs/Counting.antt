@@ -16,7 +16,7 @@ use Rattle.warp_part.specs.Portion.{Portion, IsPortion, slot_of}
 use Rattle.warp_part.proofs.Slots.{slot_is, slot_at}
 use Rattle.warp_process.specs.declared.message.Sign.{Sign}
 use Rattle.warp_process.specs.Inner.Logs.{IsLog}
-use Rattle.warp_process.specs.Inner.Step.{net_at, sent}
+use Rattle.warp_process.specs.Shown.Step.{net_at, sent}
 use Rattle.warp_process.specs.Sends.{Place, is_change, is_message, same_sign}
 use Rattle.warp_process.proofs.Told.{count-apart, count-changes}
 use Rattle.warp_sends.specs.Told.{told_of}

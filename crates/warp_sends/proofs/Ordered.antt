@@ -12,7 +12,7 @@ use Rattle.warp_stores.specs.Dated.{Dated, undated}
 use Rattle.warp_part.specs.Portion.{Portion}
 use Rattle.warp_process.specs.declared.message.Message.{Message}
 use Rattle.warp_process.specs.declared.message.Sign.{Sign}
-use Rattle.warp_process.specs.Inner.Step.{net_at, sent}
+use Rattle.warp_process.specs.Shown.Step.{net_at, sent}
 use Rattle.warp_sends.specs.Told.{AreTold, told_of}
 use Rattle.warp_sends.specs.declared.telling.Telling.{Telling}
 use Rattle.warp_sends.specs.Inner.Tellings.{word_of, has_readers, is_told}

@@ -17,7 +17,7 @@ use Rattle.warp_process.specs.declared.message.Message.{Message}
 use Rattle.warp_process.specs.declared.message.Sign.{Sign}
 use Rattle.warp_process.specs.declared.message.Sign.TheVariants.{Plus, Minus}
 use Rattle.warp_process.specs.Inner.Logs.{IsLog}
-use Rattle.warp_process.specs.Inner.Step.{net_at, sent}
+use Rattle.warp_process.specs.Shown.Step.{net_at, sent}
 use Rattle.warp_process.specs.Lawful.{IsLawful}
 use Rattle.warp_process.specs.Sends.{Place, is_change, is_message, is_told, same_sign, messages, antimessages, standing, IsSendOf, SendsOnce}
 use Rattle.warp_process.specs.View.{View}

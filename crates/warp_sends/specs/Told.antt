@@ -7,7 +7,7 @@ use Rattle.warp_stores.specs.Dated.{Dated}
 use Rattle.warp_part.specs.Portion.{Portion}
 use Rattle.warp_process.specs.declared.message.Message.{Message}
 use Rattle.warp_process.specs.declared.message.Sign.{Sign}
-use Rattle.warp_process.specs.Inner.Step.{net_at, sent}
+use Rattle.warp_process.specs.Shown.Step.{net_at, sent}
 
 -- the messages on a word to the readers of its place's net
 abbrev pub told_of : Sign → Portion → Dated Move → List Message

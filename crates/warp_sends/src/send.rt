@@ -1,6 +1,7 @@
 //! Messages to the readers of a net.
 ghost use Rattle.std.specs.Prelude.{◌≡◌, ◌++◌, OnOk};
-ghost use Rattle.warp_process.specs.Inner.Step.{sent, Extends};
+ghost use Rattle.warp_process.specs.Inner.Step.{Extends};
+ghost use Rattle.warp_process.specs.Shown.Step.{sent};
 
 use gate_values::Change;
 use std::alloc::AllocError;

@@ -6,8 +6,9 @@ use Rattle.std.proofs.lemmas.List.Edits.{length-between, between_none}
 use Rattle.std.proofs.lemmas.List.{map-append, append-nil, take_all, take_more, length-take-le}
 use Rattle.warp_stores.specs.declared.place.Place.{Place}
 use Rattle.warp_stores.specs.Dated.{Dated, at, later}
-use Rattle.warp_stores.specs.Inner.StopBits.{Tally}
-use Rattle.warp_stores.specs.Inner.Stops.{total, dated, told, IsSpan, HaveMore, end_of}
+use Rattle.warp_stores.specs.Shown.StopBits.{Tally}
+use Rattle.warp_stores.specs.Inner.Stops.{total, IsSpan, HaveMore}
+use Rattle.warp_stores.specs.Shown.Stops.{dated, told, end_of}
 use Rattle.warp_stores.proofs.Parts.{between_cons, take_between}
 use Rattle.warp_stores.proofs.Stops.{total-append, total-take, IsPlace-more}
 use Rattle.warp_stores.proofs.Telling.{told-append, told-none, dated-append, le_true, le_false}

@@ -5,8 +5,9 @@ use Rattle.std.proofs.lemmas.List.Elements.{All-nil, All-push, All-head, All-tai
 use Rattle.std.proofs.lemmas.List.{take-append-drop, take-append-le, drop-append-le, map-append, append-nil, nil_from_length}
 use Rattle.warp_stores.specs.declared.place.Place.{Place}
 use Rattle.warp_stores.specs.Dated.{Dated, at, last_time, standing}
-use Rattle.warp_stores.specs.Inner.StopBits.{Tally}
-use Rattle.warp_stores.specs.Inner.Stops.{total, dated, Climbs, IsPlace, HaveMore, end_of, IsQueue, line_of}
+use Rattle.warp_stores.specs.Shown.StopBits.{Tally}
+use Rattle.warp_stores.specs.Inner.Stops.{total, Climbs, IsPlace, HaveMore, IsQueue}
+use Rattle.warp_stores.specs.Shown.Stops.{dated, end_of, line_of}
 use Rattle.warp_stores.proofs.Parts.{between-take, between_end}
 use Rattle.warp_stores.proofs.Stops.{total-append}
 use Rattle.warp_stores.proofs.Telling.{dated-append, length-span}

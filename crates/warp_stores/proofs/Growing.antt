@@ -4,8 +4,9 @@ use Rattle.std.specs.List.{All}
 use Rattle.std.proofs.lemmas.List.Elements.{All-nil, All-cons, All-head, All-tail, All-push}
 use Rattle.std.proofs.lemmas.List.{take-append-drop, take_more, take-append-le, drop-append-le, take_all, drop_all, append-nil, map-append, set_split, length_push, length-take-le}
 use Rattle.warp_stores.specs.Dated.{Dated, last_from, RisesFrom}
-use Rattle.warp_stores.specs.Inner.StopBits.{Tally}
-use Rattle.warp_stores.specs.Inner.Stops.{total, dated, Climbs, AreFull, IsJoined, HaveOneMore}
+use Rattle.warp_stores.specs.Shown.StopBits.{Tally}
+use Rattle.warp_stores.specs.Inner.Stops.{total, Climbs, AreFull, IsJoined, HaveOneMore}
+use Rattle.warp_stores.specs.Shown.Stops.{dated}
 use Rattle.warp_stores.proofs.Parts.{All-left}
 use Rattle.warp_stores.proofs.Stops.{total-append}
 use Rattle.warp_stores.proofs.Telling.{dated-append}

@@ -13,9 +13,11 @@ use Rattle.gate_values.specs.declared.logic.Change.{Change}
 use Rattle.warp_stores.specs.Words.{Move}
 use Rattle.warp_stores.specs.Lists.{words_at, changes_at, AreLonger, AreShorter}
 use Rattle.warp_stores.specs.Dated.{Dated, at, undated}
-use Rattle.warp_stores.specs.Inner.StopBits.{Tally}
-use Rattle.warp_stores.specs.Inner.Stops.{total, dated}
-use Rattle.warp_stores.specs.Inner.Lists.{lists_of, ArePut}
+use Rattle.warp_stores.specs.Shown.StopBits.{Tally}
+use Rattle.warp_stores.specs.Inner.Stops.{total}
+use Rattle.warp_stores.specs.Shown.Stops.{dated}
+use Rattle.warp_stores.specs.Inner.Lists.{ArePut}
+use Rattle.warp_stores.specs.Shown.Lists.{lists_of}
 use Rattle.warp_stores.proofs.Parts.{take_between}
 use Rattle.warp_stores.proofs.Stops.{total-append, total-take, total-more}
 use Rattle.warp_stores.proofs.Telling.{dated-append, undated-dated}

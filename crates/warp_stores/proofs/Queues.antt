@@ -8,8 +8,9 @@ use Rattle.std.proofs.lemmas.List.Edits.{between_more}
 use Rattle.std.proofs.lemmas.Grind.{common_steps}
 use Rattle.warp_stores.specs.declared.place.Place.{Place}
 use Rattle.warp_stores.specs.Dated.{Dated, Line, at, before, since, undated, standing, first_time, last_time, Rises}
-use Rattle.warp_stores.specs.Inner.StopBits.{Tally}
-use Rattle.warp_stores.specs.Inner.Stops.{total, dated, AreSince, AreBefore, Climbs, told, IsPlace, IsSpan, IsParted, HaveOneMore, end_of, IsQueue, line_of}
+use Rattle.warp_stores.specs.Shown.StopBits.{Tally}
+use Rattle.warp_stores.specs.Inner.Stops.{total, AreSince, AreBefore, Climbs, IsPlace, IsSpan, IsParted, HaveOneMore, IsQueue}
+use Rattle.warp_stores.specs.Shown.Stops.{dated, told, end_of, line_of}
 use Rattle.warp_stores.proofs.Parts.{between_append, between-take, between_end, between_cons, All-between}
 use Rattle.warp_stores.proofs.Stops.{Climbs-append, Climbs-behind}
 use Rattle.warp_stores.proofs.Telling.{told-append, before-told, since-told, undated-told, length-told, length-span, total-span, told-none, told-take, told-drop, IsPlace-end, before-all, before-none}

@@ -7,7 +7,8 @@ use Rattle.std.proofs.Math.Seq.{take-set-lt}
 use Rattle.warp_stores.specs.declared.least.TheConstants.{NEVER}
 use Rattle.warp_stores.specs.declared.least.Seat.{Seat}
 use Rattle.warp_stores.specs.Least.{least_of}
-use Rattle.warp_stores.specs.Inner.Least.{leaves, IsWon, IsTournament, HasPlaces, Covers, IsSeat, AreLater, IsHalf}
+use Rattle.warp_stores.specs.Inner.Least.{IsWon, IsTournament, HasPlaces, Covers, IsSeat, AreLater, IsHalf}
+use Rattle.warp_stores.specs.Shown.Least.{leaves}
 use Rattle.warp_stores.proofs.Tournaments.{root_least}
 
 twice : (k : ℕ) → 2 ^ suc k ≡ 2 ^ k * 2

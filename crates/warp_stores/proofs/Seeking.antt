@@ -4,7 +4,7 @@ use Rattle.std.specs.List.{between}
 use Rattle.std.proofs.lemmas.List.Elements.{All-nil}
 use Rattle.std.proofs.lemmas.List.Edits.{between_none}
 use Rattle.warp_stores.specs.declared.place.Place.{Place}
-use Rattle.warp_stores.specs.Inner.StopBits.{Tally}
+use Rattle.warp_stores.specs.Shown.StopBits.{Tally}
 use Rattle.warp_stores.specs.Inner.Stops.{total, AreSince, AreBefore, Climbs, IsPlace, IsSpan, IsParted}
 use Rattle.warp_stores.proofs.Stops.{total-take, total-more, IsPlace-more, IsPlace-less, before_more, since_more, since_from, before_upto}
 

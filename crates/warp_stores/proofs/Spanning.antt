@@ -12,9 +12,10 @@ use Rattle.gate_values.specs.declared.logic.Change.{Change}
 use Rattle.warp_stores.specs.Words.{Move}
 use Rattle.warp_stores.specs.Lists.{changes_at, AreLonger}
 use Rattle.warp_stores.specs.Dated.{Dated, at}
-use Rattle.warp_stores.specs.Inner.StopBits.{Tally}
-use Rattle.warp_stores.specs.Inner.Stops.{total, dated}
-use Rattle.warp_stores.specs.Inner.Lists.{lists_of}
+use Rattle.warp_stores.specs.Shown.StopBits.{Tally}
+use Rattle.warp_stores.specs.Inner.Stops.{total}
+use Rattle.warp_stores.specs.Shown.Stops.{dated}
+use Rattle.warp_stores.specs.Shown.Lists.{lists_of}
 use Rattle.warp_stores.specs.Inner.Spans.{words_within, AreGrown, AreCut}
 use Rattle.warp_stores.proofs.Listing.{eq_cases, eqb_other, AreLonger-append, stop_told}
 

@@ -5,7 +5,7 @@ use Rattle.std.proofs.lemmas.List.Elements.{All-nil, All-cons, All-push, All-wea
 use Rattle.std.proofs.lemmas.List.{take-append-drop, take_more}
 use Rattle.std.proofs.lemmas.List.Edits.{between_more}
 use Rattle.warp_stores.specs.declared.place.Place.{Place}
-use Rattle.warp_stores.specs.Inner.StopBits.{Tally}
+use Rattle.warp_stores.specs.Shown.StopBits.{Tally}
 use Rattle.warp_stores.specs.Inner.Stops.{total, AreSince, AreBefore, Climbs, IsPlace}
 use Rattle.warp_stores.proofs.Parts.{take_between, between_append, between_cons}
 

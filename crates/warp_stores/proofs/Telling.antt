@@ -9,8 +9,9 @@ use Rattle.warp_stores.proofs.Stops.{total-between, total-take}
 use Rattle.std.proofs.lemmas.Grind.{common_steps}
 use Rattle.warp_stores.specs.declared.place.Place.{Place}
 use Rattle.warp_stores.specs.Dated.{Dated, before, since, undated}
-use Rattle.warp_stores.specs.Inner.StopBits.{Tally}
-use Rattle.warp_stores.specs.Inner.Stops.{total, dated, AreSince, AreBefore, told, IsPlace, IsSpan, IsParted, end_of}
+use Rattle.warp_stores.specs.Shown.StopBits.{Tally}
+use Rattle.warp_stores.specs.Inner.Stops.{total, AreSince, AreBefore, IsPlace, IsSpan, IsParted}
+use Rattle.warp_stores.specs.Shown.Stops.{dated, told, end_of}
 
 pub dated-append : {T : Type 0} (a b : List Tally) (u v : List T) → total a ≡ length u → dated (a ++ b) (u ++ v) ≡ dated a u ++ dated b v
 dated-append [] b u v h = rw (nil_from_length u (sym h)) refl

@@ -3,7 +3,8 @@ use Rattle.std.proofs.Common.{◌≡◌, ℕ, zero, suc, ◌+◌, ◌-◌, ◌*�
 use Rattle.std.proofs.lemmas.List.{get_or-drop}
 use Rattle.warp_stores.specs.declared.least.TheConstants.{NEVER}
 use Rattle.warp_stores.specs.Least.{least_of}
-use Rattle.warp_stores.specs.Inner.Least.{leaves, IsWon, IsTournament}
+use Rattle.warp_stores.specs.Inner.Least.{IsWon, IsTournament}
+use Rattle.warp_stores.specs.Shown.Least.{leaves}
 
 -- what is at most each time is at most the least
 least_of-low : (m : ℕ) (ts : List ℕ) → m ≤ NEVER → ((k : ℕ) → k < length ts → m ≤ get_or ts k 0) → m ≤ least_of ts

@@ -1,4 +1,3 @@
-pub mod Words
 pub mod StopBits
 pub mod Stops
 pub mod Least

@@ -5,3 +5,4 @@ pub mod Delays
 pub mod Order
 pub mod Lists
 pub mod Inner
+pub mod Shown

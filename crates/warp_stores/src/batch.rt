@@ -1,6 +1,7 @@
 //! Words to be told at once.
 ghost use Rattle.std.specs.Prelude.{◌≡◌, ◌<◌, ◌++◌, [], IfOk, OnOk, OnErr, length};
-ghost use Rattle.warp_stores.specs.Inner.Stops.{total, dated};
+ghost use Rattle.warp_stores.specs.Inner.Stops.{total};
+ghost use Rattle.warp_stores.specs.Shown.Stops.{dated};
 ghost use Rattle.warp_stores.specs.Dated.{at, undated};
 
 use crate::place::{append_all, part};
@@ -21,7 +22,8 @@ impl<T> Model for Batch<T> {
 
     ghost Value = { List (Dated T) };
 
-    ghost use Rattle.warp_stores.specs.Inner.Stops.{total, dated};
+    ghost use Rattle.warp_stores.specs.Inner.Stops.{total};
+    ghost use Rattle.warp_stores.specs.Shown.Stops.{dated};
 
     ghost view = { λ batch. dated batch.stops.items batch.words.items };
 

@@ -26,7 +26,8 @@ impl Model for Least {
 
     ghost Value = { List ℕ };
 
-    ghost use Rattle.warp_stores.specs.Inner.Least.{HasPlaces, leaves};
+    ghost use Rattle.warp_stores.specs.Inner.Least.{HasPlaces};
+    ghost use Rattle.warp_stores.specs.Shown.Least.{leaves};
 
     ghost view = { λ least. take least.count (leaves least.nodes.items) };
 

@@ -3,8 +3,10 @@ ghost use Rattle.std.specs.Prelude.{◌≡◌, ◌≤◌, ◌<◌, ◌^◌, ◌�
 ghost use Rattle.std.specs.List.{All};
 ghost use Rattle.warp_stores.specs.Lists.{AreLonger, AreShorter};
 ghost use Rattle.warp_stores.specs.Dated.{at};
-ghost use Rattle.warp_stores.specs.Inner.Lists.{lists_of, ArePut};
-ghost use Rattle.warp_stores.specs.Inner.Stops.{total, dated};
+ghost use Rattle.warp_stores.specs.Inner.Lists.{ArePut};
+ghost use Rattle.warp_stores.specs.Shown.Lists.{lists_of};
+ghost use Rattle.warp_stores.specs.Inner.Stops.{total};
+ghost use Rattle.warp_stores.specs.Shown.Stops.{dated};
 
 use crate::batch::Batch;
 use crate::place::part;
@@ -30,8 +32,10 @@ impl Model for Lists {
     ghost Value = { List (List Change) };
 
     ghost use Rattle.warp_stores.specs.Dated.{at};
-    ghost use Rattle.warp_stores.specs.Inner.Lists.{lists_of, ArePut};
-    ghost use Rattle.warp_stores.specs.Inner.Stops.{total, dated};
+    ghost use Rattle.warp_stores.specs.Inner.Lists.{ArePut};
+    ghost use Rattle.warp_stores.specs.Shown.Lists.{lists_of};
+    ghost use Rattle.warp_stores.specs.Inner.Stops.{total};
+    ghost use Rattle.warp_stores.specs.Shown.Stops.{dated};
 
     ghost view = { λ lists. lists_of lists.lists.items };
 }

@@ -1,7 +1,8 @@
 //! Places between stops.
 ghost use Rattle.std.specs.Prelude.{◌≡◌, ◌<◌, ◌≤◌, ◌+◌, ◌-◌, ◌^◌, ◌++◌, ◌∷◌, [], OnOk, OnErr, length, drop};
 ghost use Rattle.std.specs.List.{between};
-ghost use Rattle.warp_stores.specs.Inner.Stops.{total, Climbs, IsSpan, IsParted, HaveOneMore, HaveMore, end_of, told};
+ghost use Rattle.warp_stores.specs.Inner.Stops.{total, Climbs, IsSpan, IsParted, HaveOneMore, HaveMore};
+ghost use Rattle.warp_stores.specs.Shown.Stops.{end_of, told};
 ghost use Rattle.warp_stores.specs.Dated.{at, later};
 
 use crate::batch::Batch;

@@ -28,7 +28,8 @@ impl<T> Model for Queue<T> {
 
     ghost Value = { Line T };
 
-    ghost use Rattle.warp_stores.specs.Inner.Stops.{IsQueue, line_of};
+    ghost use Rattle.warp_stores.specs.Inner.Stops.{IsQueue};
+    ghost use Rattle.warp_stores.specs.Shown.Stops.{line_of};
 
     ghost view = { λ q. line_of q.stops.items q.words.items q.dead q.read };
 

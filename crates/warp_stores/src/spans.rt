@@ -4,9 +4,10 @@ ghost use Rattle.std.specs.Prelude.{◌≡◌, ◌<◌, ◌^◌, ◌∷◌, [], 
 ghost use Rattle.std.specs.List.{All};
 ghost use Rattle.warp_stores.specs.Lists.{AreLonger};
 ghost use Rattle.warp_stores.specs.Dated.{at};
-ghost use Rattle.warp_stores.specs.Inner.Lists.{lists_of};
+ghost use Rattle.warp_stores.specs.Shown.Lists.{lists_of};
 ghost use Rattle.warp_stores.specs.Inner.Spans.{words_within, AreGrown, AreCut};
-ghost use Rattle.warp_stores.specs.Inner.Stops.{total, dated};
+ghost use Rattle.warp_stores.specs.Inner.Stops.{total};
+ghost use Rattle.warp_stores.specs.Shown.Stops.{dated};
 
 use crate::lists::push_one;
 use crate::place::part;
@@ -16,7 +17,7 @@ use gate_values::Change;
 use std::alloc::AllocError;
 
 /// So many lists, with the ends of what they hold, stay near a processor.
-const SPAN: usize = 4096;
+const SPAN: usize = 16384;
 
 /// There are hardly more spans than these, since the words are looked at once for each.
 const MOST_SPANS: usize = 16;

@@ -16,7 +16,8 @@ pub(crate) struct Stop {
 }
 
 impl Model for Stop {
-    ghost use Rattle.warp_stores.specs.Inner.StopBits.{Tally, tally_of, bits_of, bits_of-tally_of};
+    ghost use Rattle.warp_stores.specs.Inner.StopBits.{bits_of, bits_of-tally_of};
+    ghost use Rattle.warp_stores.specs.Shown.StopBits.{Tally, tally_of};
 
     ghost Value = { Tally };
 

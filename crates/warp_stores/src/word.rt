@@ -1,6 +1,6 @@
 //! A change in four bytes.
 ghost use Rattle.std.specs.Prelude.{◌≡◌, ◌<◌};
-ghost use Rattle.warp_stores.specs.Inner.Words.{code_of, value_of};
+ghost use Rattle.warp_stores.specs.Shown.Words.{code_of, value_of};
 
 use gate_values::Logic;
 use std::marker::Model;
@@ -22,7 +22,7 @@ impl Model for Word {
 
     ghost Value = { Move };
 
-    ghost use Rattle.warp_stores.specs.Inner.Words.{move_of, bits_of, bits_of-move_of};
+    ghost use Rattle.warp_stores.specs.Shown.Words.{move_of, bits_of, bits_of-move_of};
 
     ghost view = { λ word. move_of word.bits };
 

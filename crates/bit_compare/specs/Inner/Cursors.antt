@@ -6,7 +6,8 @@ use Rattle.gate_values.specs.declared.logic.Change.{Change}
 use Rattle.bit_compare.specs.declared.recent.Recent.{Recent}
 use Rattle.bit_compare.specs.declared.cursor.Cursor.{Cursor}
 use Rattle.bit_compare.specs.Agreement.{IsAmong}
-use Rattle.bit_compare.specs.Inner.Moments.{moments, shown, value_after, IsCount, IsPassed, IsShown}
+use Rattle.bit_compare.specs.Inner.Moments.{IsCount, IsPassed}
+use Rattle.bit_compare.specs.Shown.Moments.{moments, shown, value_after, IsShown}
 
 -- of a value, the last stretch that has it
 abbrev pub recent_of : Recent → Logic → Option ℕ

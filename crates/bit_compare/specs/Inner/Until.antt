@@ -6,7 +6,7 @@ use Rattle.bit_compare.specs.declared.difference.Tolerance.{Tolerance}
 use Rattle.bit_compare.specs.declared.times.Times.{Times}
 use Rattle.bit_compare.specs.Agreement.{Agrees, IsCompared}
 use Rattle.bit_compare.specs.Inner.Cursors.{IsAt}
-use Rattle.bit_compare.specs.Inner.Steps.{IsNext}
+use Rattle.bit_compare.specs.Shown.Steps.{IsNext}
 
 -- From a time up to an end it holds; where the end isn't later than the time, it doesn't hold there.
 pub record IsUntil (time : ℕ) (Law : ℕ → Type 0) (end : ℕ) : Type 0 where

@@ -1,13 +1,9 @@
 -- What contracts see of waves.
-use Rattle.std.specs.Prelude.{ℕ, ◌<◌, ◌^◌, List, map, length}
+use Rattle.std.specs.Prelude.{ℕ, ◌<◌, ◌^◌, List, length}
 use Rattle.gate_values.specs.declared.logic.Change.{Change}
 use Rattle.gate_vcd.specs.declared.timeline.Stop.{Stop}
-use Rattle.gate_vcd.specs.declared.waves.Waves.TheInside.{Inside}
 use Rattle.gate_vcd.specs.Waves.{wave_of, IsWave}
 use Rattle.gate_vcd.specs.Inner.Waves.{AreStopsOf}
-
-abbrev pub lists_of : Inside → List (List Change)
-lists_of w = map (λ list. list.items) w.lists.items
 
 -- each list is a wave, and the stops are in step with the lists
 pub record IsInStep (lists : List (List Change)) (stops : List Stop) : Type 0 where

@@ -1,5 +1,5 @@
 -- What a reader of changes keeps of the codes of a text.
-use Rattle.std.specs.Prelude.{◌≡◌, ◌⊎◌, ◌≤◌, ℕ, zero, suc, Bool, false, ◌&&◌, ◌||◌, nat_eq, if◌then◌else◌, List, length, map, get_or, slice_get, position, Option, Some, None, is_some, option_map, option_and_then}
+use Rattle.std.specs.Prelude.{◌≡◌, ◌⊎◌, ◌≤◌, ℕ, zero, suc, Bool, false, ◌&&◌, ◌||◌, nat_eq, if◌then◌else◌, List, length, map, get_or, slice_get, position, Option, Some, None, is_some, option_and_then}
 use Rattle.std.specs.Option.{option_map_or}
 use Rattle.std.specs.List.{list_any}
 use Rattle.std.specs.Str.{bytes_eq}
@@ -9,13 +9,7 @@ use Rattle.gate_vcd.specs.declared.source.Source.{Source as Held}
 use Rattle.gate_vcd.specs.declared.known.KnownCodes.{KnownCodes}
 use Rattle.gate_vcd.specs.Inner.Table.{found_in}
 use Rattle.gate_vcd.specs.Changes.{Source}
-
--- a source, without where it lies in memory
-abbrev pub source : Held → Source
-source s = record { code = s.code.now; place = s.place }
-
-abbrev pub source_by : Option Held → Option Source
-source_by s = option_map source s
+use Rattle.gate_vcd.specs.Shown.Known.{source, is_of}
 
 abbrev pub same_source : Source → Source → Bool
 same_source a b = bytes_eq a.code b.code && nat_eq a.place b.place
@@ -34,9 +28,6 @@ number_of sources s = position (λ k. same_source s (source k)) sources.keys
 abbrev pub last_below : {X : Type 0} → (X → Bool) → List X → ℕ → Option ℕ
 last_below p xs zero = None
 last_below p xs (suc n) = if option_map_or p (slice_get xs n) false then Some n else last_below p xs n
-
-abbrev pub is_of : List ℕ → Source → Bool
-is_of code s = bytes_eq s.code code
 
 -- the places of the sources fall
 abbrev pub AreFalling : List Source → Type 0
@@ -68,17 +59,9 @@ knows known code = is_some (found_in known.last code)
 abbrev pub IsLinked : KnownCodes → Type 0
 IsLinked known = AreLinked (λ code. flat (found_in known.last code)) known.before.items (sources_in known)
 
--- some net takes its values from the code
-abbrev pub is_used : List (Option Source) → List ℕ → Bool
-is_used nets code = list_any (λ taken. option_map_or (is_of code) taken false) nets
-
 -- some net takes the source
 abbrev pub takes : List (Option Source) → Source → Bool
 takes nets s = list_any (λ taken. option_map_or (same_source s) taken false) nets
-
--- sources, without where they lie in memory
-abbrev pub sources_by : List (Option Held) → List (Option Source)
-sources_by nets = map source_by nets
 
 -- no source that is kept stands at a place below that of this one
 abbrev pub IsLeast : KnownCodes → Option Source → Type 0

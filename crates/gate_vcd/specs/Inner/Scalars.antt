@@ -9,15 +9,15 @@ use Rattle.indexmap.specs.IndexMap.{IndexMap, get_by}
 use Rattle.gate_vcd.specs.declared.fault.StimFault.{StimFault}
 use Rattle.gate_vcd.specs.declared.inputs.Inputs.{Inputs}
 use Rattle.gate_vcd.specs.declared.inputs.Inputs.TheVariants.{Found, Lacking}
-use Rattle.gate_vcd.specs.declared.vectors.Vector.{Vector as HeldVector}
 use Rattle.gate_vcd.specs.declared.vectors.Bit.{Bit as HeldBit}
 use Rattle.gate_vcd.specs.declared.runs.Kept.{Kept}
 use Rattle.gate_vcd.specs.declared.vectors.Vectors.{Vectors}
 use Rattle.gate_vcd.specs.Declarations.{Variable}
 use Rattle.gate_vcd.specs.Changes.{Source}
-use Rattle.gate_vcd.specs.Vectors.{Vector, Bit}
+use Rattle.gate_vcd.specs.Vectors.{Bit}
 use Rattle.gate_vcd.specs.Inputs.{first_given, scalar_code, source_in}
-use Rattle.gate_vcd.specs.Inner.Known.{Sources, number_of, sources_by}
+use Rattle.gate_vcd.specs.Inner.Known.{Sources, number_of}
+use Rattle.gate_vcd.specs.Shown.Known.{sources_by}
 use Rattle.gate_vcd.specs.Inner.Runs.{kept_at}
 
 -- codes by the names of the nets that they are scalars of
@@ -31,13 +31,6 @@ code_in scalars name = option_map (λ (code : Bor (List ℕ)). code.now) (get_by
 -- for each name the code of the first scalar is kept
 abbrev pub AreScalars : Scalars → List Variable → Type 0
 AreScalars scalars vs = (name : List ℕ) → code_in scalars name ≡ scalar_code vs name
-
--- vectors and bits, without where they lie in memory
-abbrev pub vector : HeldVector → Vector
-vector v = record { base = v.base.now; left = v.left; right = v.right }
-
-abbrev pub vector_by : Option HeldVector → Option Vector
-vector_by v = option_map vector v
 
 abbrev pub bit : HeldBit → Bit
 bit b = record { base = b.base.now; index = b.index }

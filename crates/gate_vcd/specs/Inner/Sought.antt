@@ -1,6 +1,6 @@
 -- What is kept of the variables for the inputs.
 use Rattle.gate_vcd.specs.declared.inputs.Given.{Given}
-use Rattle.gate_vcd.specs.Inner.Commands.{variables}
+use Rattle.gate_vcd.specs.Shown.Commands.{variables}
 use Rattle.gate_vcd.specs.Inner.Scalars.{AreScalars, AreVectors}
 
 -- the scalars and the vectors are those of the variables

@@ -1,16 +1,7 @@
 -- What contracts see of a text that is read word by word.
-use Rattle.std.specs.Prelude.{ℕ, ◌+◌, ◌<◌, ◌^◌, List, length, map, Option, option_map}
+use Rattle.std.specs.Prelude.{ℕ, ◌+◌, ◌<◌, ◌^◌, List, length, Option, option_map}
 use Rattle.std.specs.Borrow.{Bor}
 use Rattle.gate_vcd.specs.declared.words.Words.TheInside.{Inside}
-use Rattle.gate_vcd.specs.declared.words.Word.{Word}
-use Rattle.gate_vcd.specs.Tokens.{Token, tokens_from}
-
-abbrev pub token_of : Word → Token
-token_of w = record { at = w.at; text = w.text.now }
-
--- the tokens that are left
-abbrev pub tokens_left : Inside → List Token
-tokens_left w = tokens_from w.at w.rest.now
 
 -- no offset passes the machine's numbers
 abbrev pub IsWithin : Inside → Type 0
@@ -19,7 +10,3 @@ IsWithin w = w.at + length w.rest.now < 2 ^ 64
 -- bytes, without where they lie in memory
 abbrev pub bytes_of : Option (Bor (List ℕ)) → Option (List ℕ)
 bytes_of text = option_map (λ (bytes : Bor (List ℕ)). bytes.now) text
-
--- what the bytes are that these slices lend
-abbrev pub texts : List (Bor (List ℕ)) → List (List ℕ)
-texts parts = map (λ (part : Bor (List ℕ)). part.now) parts

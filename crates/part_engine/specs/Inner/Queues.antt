@@ -5,7 +5,8 @@ use Rattle.std.specs.List.Sorted.{IsStrictlyIncreasing}
 use Rattle.gate_values.specs.Behaviour.{Outside, source_delay}
 use Rattle.warp_part.specs.Portion.{Portion, is_driven, is_used}
 use Rattle.warp_part.specs.Placing.{net_of_place}
-use Rattle.warp_part.specs.Inner.Building.{place_of, has}
+use Rattle.warp_part.specs.Inner.Building.{has}
+use Rattle.warp_part.specs.Shown.Building.{place_of}
 
 -- the delay of a place
 abbrev pub delay_at : Portion → ℕ → ℕ

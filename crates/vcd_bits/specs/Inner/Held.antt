@@ -1,6 +1,5 @@
 -- What a reader of a dump's declarations keeps, and what it has read.
-use Rattle.std.specs.Prelude.{◌≡◌, ℕ, ◌-◌, ◌++◌, ◌∷◌, Bool, if◌then◌else◌, List, [], map, length, take, get_or, None, Vec, Result, Ok, Err}
-use Rattle.std.specs.declared.alloc.Global.{Global}
+use Rattle.std.specs.Prelude.{◌≡◌, ℕ, ◌-◌, ◌++◌, ◌∷◌, Bool, if◌then◌else◌, List, [], length, take, get_or, None, Result, Ok, Err}
 use Rattle.gate_vcd.specs.declared.fault.StimFault.{StimFault}
 use Rattle.gate_vcd.specs.declared.keyword.Keyword.{Keyword}
 use Rattle.gate_vcd.specs.declared.keyword.Keyword.TheVariants as words
@@ -8,14 +7,11 @@ use Rattle.gate_vcd.specs.Faults.{out_of_memory}
 use Rattle.gate_vcd.specs.Tokens.{Token}
 use Rattle.gate_vcd.specs.Reading.{Fails}
 use Rattle.gate_vcd.specs.Declarations.{inner_path}
-use Rattle.gate_vcd.specs.Inner.Headers.{IsHeader, asked_of}
+use Rattle.gate_vcd.specs.Shown.Headers.{IsHeader, asked_of}
 use Rattle.vcd_bits.specs.declared.scoped.Scoped.{Scoped as Held}
 use Rattle.vcd_bits.specs.Scopes.{Scoped, declaring, path_noted}
 use Rattle.vcd_bits.specs.Inner.Paths.{IsOpen}
-
--- what these vectors hold
-abbrev pub texts_in : List (Vec ℕ Global) → List (List ℕ)
-texts_in vs = map (λ (v : Vec ℕ Global). v.items) vs
+use Rattle.vcd_bits.specs.Shown.Held.{texts_in}
 
 -- what is kept are these declarations, of all scopes
 pub record IsScoped (held : Held) (s : Scoped) : Type 0 where

@@ -1,7 +1,7 @@
 -- The pairs that are kept.
 use Rattle.std.specs.Prelude.{◌≡◌, ℕ, ◌++◌, ◌∷◌, ◌<◌, ◌^◌, List, [], length, map, slice_get, Option, Some, option_map}
 use Rattle.gate_vcd.specs.declared.source.Source.{Source as HeldSource}
-use Rattle.gate_vcd.specs.Inner.Known.{sources_by}
+use Rattle.gate_vcd.specs.Shown.Known.{sources_by}
 use Rattle.vcd_bits.specs.Names.{Bit}
 use Rattle.vcd_compare.specs.declared.pairs.Pairs.{Pairs}
 use Rattle.vcd_compare.specs.Pairs.{Pair}

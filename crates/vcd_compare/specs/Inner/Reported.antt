@@ -4,7 +4,7 @@ use Rattle.gate_vcd.specs.declared.fault.StimFault.{StimFault}
 use Rattle.gate_vcd.specs.declared.timescale.Timescale.{Timescale}
 use Rattle.gate_vcd.specs.Changes.{Event, events_from, items, nothing}
 use Rattle.gate_vcd.specs.Given.{Given}
-use Rattle.gate_vcd.specs.Inner.Commands.{variables}
+use Rattle.gate_vcd.specs.Shown.Commands.{variables}
 use Rattle.gate_vcd.specs.Reading.{Fails}
 use Rattle.gate_vcd.specs.Stimulus.{has_code}
 use Rattle.bit_compare.specs.Agreement.{IsCompared}
@@ -14,7 +14,7 @@ use Rattle.vcd_compare.specs.declared.fault.CompareFault.{CompareFault}
 use Rattle.vcd_compare.specs.declared.fault.CompareFault.TheVariants as faults
 use Rattle.vcd_compare.specs.declared.report.Report.{Report}
 use Rattle.vcd_compare.specs.declared.sight.Sight.{Sight}
-use Rattle.vcd_compare.specs.Answer.{actual_by, expected_by}
+use Rattle.vcd_compare.specs.Inner.Answer.{actual_by, expected_by}
 use Rattle.vcd_compare.specs.Comparison.{out_of_memory}
 use Rattle.vcd_compare.specs.Pairs.{alone}
 use Rattle.vcd_compare.specs.Inner.Found.{AreFoundUpTo, IsFoundBy}

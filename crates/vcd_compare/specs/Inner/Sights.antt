@@ -4,7 +4,7 @@ use Rattle.gate_vcd.specs.declared.timescale.Timescale.{Timescale}
 use Rattle.vcd_compare.specs.declared.report.Options.{Options}
 use Rattle.vcd_compare.specs.Times.{finer, how_of, times_of, units_in}
 use Rattle.bit_compare.specs.Bits.{Lens}
-use Rattle.bit_compare.specs.Inner.Steps.{AreSmall}
+use Rattle.bit_compare.specs.Shown.Steps.{AreSmall}
 use Rattle.vcd_compare.specs.declared.sight.Sight.{Sight}
 
 abbrev pub expected_through : Sight → Lens

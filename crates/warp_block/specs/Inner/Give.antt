@@ -3,7 +3,8 @@ use Rattle.std.specs.Prelude.{◌≡◌, ◌≢◌, ℕ, ◌<◌, IsTrue, List}
 use Rattle.gate_values.specs.declared.logic.Change.{Change}
 use Rattle.gate_vcd.specs.Waves.{wave_of}
 use Rattle.warp_part.specs.Portion.{Portion, is_driven}
-use Rattle.warp_process.specs.Inner.Step.{source_at, net_at, log_at}
+use Rattle.warp_process.specs.Inner.Step.{source_at, log_at}
+use Rattle.warp_process.specs.Shown.Step.{net_at}
 
 -- a gate or flip-flop of the block sets the net at a place
 abbrev pub IsOwnAt : Portion → ℕ → Type 0

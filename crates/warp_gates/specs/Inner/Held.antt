@@ -1,15 +1,11 @@
 -- How gates lie in lists.
-use Rattle.std.specs.Prelude.{◌≡◌, ℕ, ◌<◌, ◌≤◌, List, length, map}
+use Rattle.std.specs.Prelude.{◌≡◌, ℕ, ◌<◌, ◌≤◌, List, length}
 use Rattle.std.specs.List.{All}
 use Rattle.gate_values.specs.declared.logic.Logic.{Logic}
 use Rattle.warp_stores.specs.declared.word.TheConstants.{PLACES}
 use Rattle.warp_gates.specs.declared.front.Front.{Front}
-use Rattle.warp_gates.specs.Cells.{Cell, Gates, IsCell, cell_at, next_output}
+use Rattle.warp_gates.specs.Cells.{Cell, IsCell, cell_at, next_output}
 use Rattle.warp_gates.specs.Inner.Fronts.{front_at, AreFronts, AreSettled, AreReaders, AreClocked}
-
--- what these lists hold
-abbrev pub gates_of : List Cell → List Front → List Logic → Gates
-gates_of cells fronts values = record { cells = cells; queues = map (λ (f : Front). f.queue) fronts; values = values; outputs = map (λ (f : Front). f.output) fronts }
 
 -- what is true of gates as they lie: their cells, what is at hand of each place, the values, and who reads each place
 pub record AreHeld (cells : List Cell) (at_hand : List Front) (held : List Logic) (rows flops : List (List ℕ)) : Type 0 where

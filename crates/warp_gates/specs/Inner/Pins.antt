@@ -1,7 +1,7 @@
 -- How the values at inputs lie in a byte.
 use Rattle.std.specs.Prelude.{ℕ, ◌/◌, ◌%◌, List, [], ◌∷◌, map}
 use Rattle.gate_values.specs.declared.logic.Logic.{Logic}
-use Rattle.warp_stores.specs.Inner.Words.{value_of}
+use Rattle.warp_stores.specs.Shown.Words.{value_of}
 use Rattle.warp_gates.specs.declared.pins.Pins.{Pins}
 
 -- the four values, each in two bits

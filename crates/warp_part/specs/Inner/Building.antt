@@ -1,5 +1,5 @@
 -- What the building of a part says, net by net.
-use Rattle.std.specs.Prelude.{◌≡◌, ℕ, ◌<◌, Bool, ◌&&◌, ◌++◌, ◌==◌, not, List, length, get_or, unwrap_or}
+use Rattle.std.specs.Prelude.{◌≡◌, ℕ, ◌<◌, Bool, ◌&&◌, ◌++◌, ◌==◌, not, List, length, get_or}
 use Rattle.std.specs.List.{list_any, All}
 use Rattle.gate_values.specs.Behaviour.{Source}
 use Rattle.gate_netlist.specs.Circuit.{Design, driver_of, source_by, is_input}
@@ -9,15 +9,11 @@ use Rattle.warp_part.specs.declared.cell.Cell.{Cell}
 use Rattle.warp_part.specs.Inner.HeldPart.{CellFits}
 use Rattle.warp_part.specs.Shown.Part.{cell_source, is_input_cell}
 use Rattle.warp_part.specs.PartOf.{is_own, part_source}
-use Rattle.warp_part.specs.Portion.{uses, slot_of}
+use Rattle.warp_part.specs.Portion.{uses}
 
 -- the nets that a driver uses
 abbrev pub driver_uses : Driver → List ℕ
 driver_uses driver = uses (source_by driver 1)
-
--- the place of a net that is among others
-abbrev pub place_of : List ℕ → ℕ → ℕ
-place_of nets n = unwrap_or (slot_of nets n) 0
 
 -- the list has the number
 abbrev pub has : List ℕ → ℕ → Bool

@@ -6,7 +6,8 @@ ghost use Rattle.gate_values.specs.Behaviour.{Gate};
 ghost use Rattle.gate_netlist.specs.Circuit.{IsDelay, nets_of, driver_of, source_of, is_input as is_outer};
 ghost use Rattle.warp_part.specs.Portion.{slot_of};
 ghost use Rattle.warp_part.specs.PartOf.{is_own, part_nets, part_source};
-ghost use Rattle.warp_part.specs.Inner.Building.{driver_uses, place_of, IsCell, HasMore, AreCells};
+ghost use Rattle.warp_part.specs.Inner.Building.{driver_uses, IsCell, HasMore, AreCells};
+ghost use Rattle.warp_part.specs.Shown.Building.{place_of};
 
 use super::slots::place_in;
 use crate::cell::{Cell, Span};

@@ -1,7 +1,8 @@
 ghost use Rattle.std.specs.Prelude.{◌≡◌, ◌<◌, ℕ, IsTrue, is_some, length};
 ghost use Rattle.std.specs.List.Sorted.{IsStrictlyIncreasing};
 ghost use Rattle.warp_part.specs.Portion.{slot_of};
-ghost use Rattle.warp_part.specs.Inner.Building.{place_of, has};
+ghost use Rattle.warp_part.specs.Inner.Building.{has};
+ghost use Rattle.warp_part.specs.Shown.Building.{place_of};
 
 use crate::cell::Cell;
 use std::alloc::{AllocError, Global};

@@ -1,5 +1,5 @@
 -- What the processing of a time adds to the logs and sends, place by place.
-use Rattle.std.specs.Prelude.{◌≡◌, ℕ, zero, suc, ◌+◌, ◌++◌, nat_le, if◌then◌else◌, List, [], ◌∷◌, map, get_or, slice_index, ◌<◌, ◌≤◌, ◌⊎◌, false, IsTrue}
+use Rattle.std.specs.Prelude.{◌≡◌, ℕ, zero, suc, ◌+◌, ◌++◌, nat_le, if◌then◌else◌, List, [], ◌∷◌, get_or, ◌<◌, ◌≤◌, ◌⊎◌, false, IsTrue}
 use Rattle.std.specs.List.{flat_map, filter}
 use Rattle.gate_values.specs.declared.logic.Logic.{Logic}
 use Rattle.gate_values.specs.declared.logic.Logic.TheVariants.{X}
@@ -10,13 +10,11 @@ use Rattle.warp_process.specs.declared.message.Message.{Message}
 use Rattle.warp_process.specs.declared.message.Sign.{Sign}
 use Rattle.warp_part.specs.Inner.Building.{has}
 use Rattle.warp_part.specs.Portion.{Portion, is_driven}
+use Rattle.warp_process.specs.Shown.Step.{net_at, sent}
 
 -- what sets the net at a place
 abbrev pub source_at : Portion → ℕ → Source
 source_at p i = get_or p.sources i Outside
-
-abbrev pub net_at : Portion → ℕ → ℕ
-net_at p i = slice_index p.nets i
 
 abbrev pub log_at : List (List Change) → ℕ → List Change
 log_at logs i = get_or logs i []
@@ -34,10 +32,6 @@ emitted p m i log s horizon =
 -- the changes from a time on
 abbrev pub since_time : ℕ → List Change → List Change
 since_time end cs = filter (λ c. nat_le end c.time) cs
-
--- a message on a change to each reader of a net
-abbrev pub sent : Sign → ℕ → List ℕ → Change → List Message
-sent sign net readers c = map (λ r. record { time = c.time; block = r; net = net; value = c.value; sign = sign }) readers
 
 -- the messages on some changes of the first places to their readers
 abbrev pub told : Sign → Portion → (ℕ → List Change) → ℕ → List Message

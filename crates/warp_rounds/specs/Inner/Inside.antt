@@ -5,24 +5,13 @@ use Rattle.warp_rounds.specs.declared.hand.Hand.{Hand}
 use Rattle.warp_rounds.specs.declared.round.Round.TheInside as round
 use Rattle.warp_rounds.specs.declared.round.RoundSeat.TheInside as seat
 use Rattle.warp_rounds.specs.Words.{never, times_in}
-use Rattle.warp_rounds.specs.Seats.{RoundView, SeatView, drawn_times, least_of}
-
-abbrev pub view_of_round : round.Inside → RoundView
-view_of_round r = record { round = record { table = r.table.shared.table_id; blocks = r.blocks }; seats = r.seats }
+use Rattle.warp_rounds.specs.Seats.{SeatView, drawn_times, least_of}
 
 pub record IsKept (r : round.Inside) : Type 0 where
   pub words : r.table.shared.table_id.words ≡ 2
   pub slots : r.table.shared.table_id.slots ≡ 0
   pub blocks : r.table.shared.key.blocks ≡ r.blocks
   pub seats : r.table.shared.key.seats ≡ r.seats
-
-abbrev pub view_of_seat : seat.Inside → SeatView
-view_of_seat s = record {
-  round = record { table = s.seat.table_id; blocks = s.seat.me.0.blocks };
-  draws = s.seat.me.0.draws;
-  least = s.seat.me.0.least;
-  marked = s.marked;
-}
 
 pub record IsSeat (s : seat.Inside) : Type 0 where
   pub one : s.seat.me.0.shares ≡ 1

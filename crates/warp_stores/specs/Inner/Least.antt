@@ -1,12 +1,9 @@
 -- How times lie in a tournament.
-use Rattle.std.specs.Prelude.{◌≡◌, ◌≢◌, ℕ, ◌+◌, ◌*◌, ◌/◌, ◌^◌, ◌<◌, ◌≤◌, List, length, drop, get_or, slice_index, min}
+use Rattle.std.specs.Prelude.{◌≡◌, ◌≢◌, ℕ, ◌+◌, ◌*◌, ◌/◌, ◌^◌, ◌<◌, ◌≤◌, List, length, get_or, slice_index, min}
 use Rattle.std.specs.Int.{IsPowerOfTwo}
 use Rattle.warp_stores.specs.declared.least.TheConstants.{NEVER}
 use Rattle.warp_stores.specs.declared.least.Seat.{Seat}
-
--- the times: the second half of the nodes
-abbrev pub leaves : List ℕ → List ℕ
-leaves nodes = drop (length nodes / 2) nodes
+use Rattle.warp_stores.specs.Shown.Least.{leaves}
 
 -- a node has the lesser of two others
 abbrev pub IsWon : List ℕ → ℕ → Type 0

@@ -1,14 +1,9 @@
 -- Vectors as lists, and lists on the way.
-use Rattle.std.specs.Prelude.{◌≡◌, ℕ, List, map, take, Vec}
-use Rattle.std.specs.declared.alloc.Global.{Global}
+use Rattle.std.specs.Prelude.{◌≡◌, ℕ, List, take}
 use Rattle.gate_values.specs.declared.logic.Change.{Change}
 use Rattle.warp_stores.specs.Words.{Move}
 use Rattle.warp_stores.specs.Dated.{Dated, undated}
 use Rattle.warp_stores.specs.Lists.{AreLonger}
-
--- what these vectors hold
-abbrev pub lists_of : List (Vec Change Global) → List (List Change)
-lists_of vectors = map (λ (v : Vec Change Global). v.items) vectors
 
 -- so many of some words are put, at times
 pub record ArePut (count : ℕ) (words : List Move) (old new : List (List Change)) : Type 0 where

@@ -1,19 +1,13 @@
 -- How words that came at times lie in stops.
-use Rattle.std.specs.Prelude.{◌≡◌, ℕ, ◌+◌, ◌<◌, ◌≤◌, ◌-◌, ◌⊎◌, List, [], ◌∷◌, ◌++◌, length, take, drop, map, slice_index_or, slice_set}
+use Rattle.std.specs.Prelude.{◌≡◌, ℕ, ◌+◌, ◌<◌, ◌≤◌, ◌-◌, ◌⊎◌, List, [], ◌∷◌, ◌++◌, length, take, slice_index_or, slice_set}
 use Rattle.std.specs.List.{All, between}
-use Rattle.warp_stores.specs.Dated.{Dated, Line}
-use Rattle.warp_stores.specs.Inner.StopBits.{Tally}
+use Rattle.warp_stores.specs.Shown.StopBits.{Tally}
 use Rattle.warp_stores.specs.declared.place.Place.{Place}
 
 -- how many words some stops have
 abbrev pub total : List Tally → ℕ
 total [] = 0
 total (s ∷ ss) = s.count + total ss
-
--- words at the times of their stops
-abbrev pub dated : {T : Type 0} → List Tally → List T → List (Dated T)
-dated [] words = []
-dated (s ∷ ss) words = map (λ w. (s.time, w)) (take s.count words) ++ dated ss (drop s.count words)
 
 -- each stop is at a time or later
 abbrev pub AreSince : ℕ → List Tally → Type 0
@@ -37,19 +31,11 @@ pub record IsPlace (stops : List Tally) (place : Place) : Type 0 where
   pub within : place.stops ≤ length stops
   pub words : total (take place.stops stops) ≡ place.words
 
--- the place behind all stops
-abbrev pub end_of : {T : Type 0} → List Tally → List T → Place
-end_of stops words = record { stops = length stops; words = length words }
-
 -- two places, the first of them not behind the second
 pub record IsSpan (stops : List Tally) (from to : Place) : Type 0 where
   pub begin : IsPlace stops from
   pub end : IsPlace stops to
   pub order : from.stops ≤ to.stops
-
--- the words between two places
-abbrev pub told : {T : Type 0} → List Tally → List T → Place → Place → List (Dated T)
-told stops words from to = dated (between from.stops to.stops stops) (between from.words to.words words)
 
 -- a place parts the stops between two others into those before a time and those that aren't
 pub record IsParted (time : ℕ) (stops : List Tally) (from to place : Place) : Type 0 where
@@ -83,7 +69,3 @@ pub record IsQueue {T : Type 0} (stops : List Tally) (words : List T) (dead read
   pub full : AreFull stops
   pub span : IsSpan stops dead read
   pub climbs : Climbs 0 (between dead.stops (length stops) stops)
-
--- what a queue has
-abbrev pub line_of : {T : Type 0} → List Tally → List T → Place → Place → Line T
-line_of stops words dead read = record { dead = dead.words; read = told stops words dead read; ahead = told stops words read (end_of stops words) }

@@ -1,5 +1,5 @@
 use Rattle.std.proofs.Common.{◌∙◌, ap, sym}
-use Rattle.bit_compare.specs.Inner.Moments.{shown}
+use Rattle.bit_compare.specs.Shown.Moments.{shown}
 use Rattle.bit_compare.proofs.Agreeing.{stands-on, until-along}
 use Rattle.bit_compare.proofs.Stretches.{at-ready}
 use Rattle.bit_compare.proofs.difference.difference_between.Goals as goal

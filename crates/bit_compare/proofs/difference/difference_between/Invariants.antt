@@ -1,6 +1,6 @@
 use Rattle.std.proofs.Common.{◌≡◌, ◌+◌, ◌-◌}
 use Rattle.std.specs.Option.{option_map_or}
-use Rattle.bit_compare.specs.Inner.Moments.{shown}
+use Rattle.bit_compare.specs.Shown.Moments.{shown}
 use Rattle.bit_compare.specs.Inner.Cursors.{IsReady}
 use Rattle.bit_compare.specs.Inner.Until.{Stands}
 use Rattle.bit_compare.proofs.difference.difference_between.Given as goal

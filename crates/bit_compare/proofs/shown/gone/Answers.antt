@@ -1,5 +1,5 @@
 use Rattle.std.proofs.Common.{sym, ◌∙◌}
-use Rattle.bit_compare.specs.Inner.Moments.{lens}
+use Rattle.bit_compare.specs.Shown.Moments.{lens}
 use Rattle.bit_compare.proofs.Moments.{gone-after}
 use Rattle.bit_compare.proofs.shown.gone.Goals as goal
 

@@ -1,6 +1,7 @@
 use Rattle.std.proofs.Common.{◌≡◌, ◌<◌, ℕ, get_or, true}
 use Rattle.gate_values.specs.declared.logic.Change.{Change}
-use Rattle.bit_compare.specs.Inner.Moments.{is_gone, lens}
+use Rattle.bit_compare.specs.Inner.Moments.{is_gone}
+use Rattle.bit_compare.specs.Shown.Moments.{lens}
 use Rattle.bit_compare.proofs.shown.gone.Given as goal
 
 -- the changes so far are gone

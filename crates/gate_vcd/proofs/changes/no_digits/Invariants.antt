@@ -1,5 +1,5 @@
 use Rattle.std.proofs.Common.{◌≡◌, ℕ, List, [], replicate}
-use Rattle.gate_vcd.specs.Inner.Words.{texts}
+use Rattle.gate_vcd.specs.Shown.Words.{texts}
 use Rattle.gate_vcd.proofs.changes.no_digits.Given as goal
 
 abbrev pub invariant-loop : goal.invariant-loop

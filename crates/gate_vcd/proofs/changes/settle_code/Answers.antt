@@ -3,7 +3,8 @@ use Rattle.std.proofs.lemmas.List.{length-map, get_or_default}
 use Rattle.gate_vcd.specs.Changes.{Source, value_at_place}
 use Rattle.gate_vcd.specs.Inner.Items.{makes, reaches}
 use Rattle.gate_vcd.specs.Inner.Settled.{settled}
-use Rattle.gate_vcd.specs.Inner.Known.{flat, source, sources_in}
+use Rattle.gate_vcd.specs.Inner.Known.{flat, sources_in}
+use Rattle.gate_vcd.specs.Shown.Known.{source}
 use Rattle.gate_vcd.specs.Inner.Table.{found_in}
 use Rattle.gate_vcd.proofs.Links.{rank, slice_get-is}
 use Rattle.gate_vcd.proofs.SettleLaws.{IsSettling, no_source, settling-stands, settling-start, settling-stops, settling-less, settling-end, settling-step}

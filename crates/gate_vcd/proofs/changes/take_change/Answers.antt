@@ -1,7 +1,7 @@
 use Rattle.std.proofs.Common.{◌∙◌, ap, sym, is_some}
 use Rattle.gate_vcd.specs.Inner.Items.{taken_in}
 use Rattle.gate_vcd.specs.Inner.Known.{flat}
-use Rattle.gate_vcd.specs.Inner.Words.{token_of}
+use Rattle.gate_vcd.specs.Shown.Words.{token_of}
 use Rattle.gate_vcd.proofs.SettleLaws.{takes-digits}
 use Rattle.gate_vcd.proofs.changes.take_change.Goals as goal
 

@@ -1,6 +1,7 @@
 use Rattle.std.proofs.Common.{arith}
 use Rattle.std.proofs.lemmas.List.{length-map}
-use Rattle.gate_vcd.specs.Inner.Known.{source, sources_in}
+use Rattle.gate_vcd.specs.Inner.Known.{sources_in}
+use Rattle.gate_vcd.specs.Shown.Known.{source}
 use Rattle.gate_vcd.proofs.Holding.{held-digits, held-within}
 use Rattle.gate_vcd.proofs.changes.take_digits.Goals as goal
 

@@ -1,5 +1,6 @@
 use Rattle.std.proofs.lemmas.Result.{err_from_is_err_and}
-use Rattle.gate_vcd.specs.Inner.Words.{bytes_of, token_of}
+use Rattle.gate_vcd.specs.Inner.Words.{bytes_of}
+use Rattle.gate_vcd.specs.Shown.Words.{token_of}
 use Rattle.gate_vcd.specs.Inner.Items.{taken_in}
 use Rattle.gate_vcd.proofs.ItemLaws.{takes-stamp, takes-change, refuses-change}
 use Rattle.gate_vcd.proofs.changes.take_item.Goals as goal

@@ -2,8 +2,8 @@ use Rattle.std.proofs.Common.{◌≡◌, ◌∙◌, ◌∷◌, ◌++◌, [], ℕ
 use Rattle.std.proofs.lemmas.List.{map-append}
 use Rattle.gate_vcd.specs.declared.keyword.Keyword.TheVariants as words
 use Rattle.gate_vcd.specs.Declarations.{keyword_of, inner_path}
-use Rattle.gate_vcd.specs.Inner.Commands.{variable}
-use Rattle.gate_vcd.specs.Inner.Words.{texts}
+use Rattle.gate_vcd.specs.Shown.Commands.{variable}
+use Rattle.gate_vcd.specs.Shown.Words.{texts}
 use Rattle.gate_vcd.proofs.DeclarationLaws.{closed}
 use Rattle.gate_vcd.proofs.declarations.declare.Goals as goal
 

@@ -1,8 +1,8 @@
 use Rattle.std.proofs.Common.{◌∙◌, refl, sym, ap, inr, Err}
 use Rattle.std.proofs.lemmas.Result.{err_from_is_err_and}
 use Rattle.gate_vcd.specs.Declarations.{keyword_of}
-use Rattle.gate_vcd.specs.Inner.Headers.{asked_of}
-use Rattle.gate_vcd.specs.Inner.Words.{token_of, texts}
+use Rattle.gate_vcd.specs.Shown.Headers.{asked_of}
+use Rattle.gate_vcd.specs.Shown.Words.{token_of, texts}
 use Rattle.gate_vcd.proofs.DeclarationLaws.{declaring-bad, command_fails, effect_fails, command_goes_on, declared-alike}
 use Rattle.gate_vcd.proofs.declarations.read_command.Goals as goal
 

@@ -1,6 +1,6 @@
 use Rattle.std.proofs.Common.{ap, ℕ, List, Bor, option_map}
 use Rattle.gate_vcd.specs.Declarations.{no_header}
-use Rattle.gate_vcd.specs.Inner.Headers.{asked_of}
+use Rattle.gate_vcd.specs.Shown.Headers.{asked_of}
 use Rattle.gate_vcd.proofs.DeclarationLaws.{declaring-end}
 use Rattle.gate_vcd.proofs.declarations.read_declarations.Goals as goal
 

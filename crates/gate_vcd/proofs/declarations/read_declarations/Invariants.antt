@@ -1,6 +1,6 @@
 use Rattle.std.proofs.Common.{◌≡◌, None, length}
 use Rattle.gate_vcd.specs.Declarations.{Header, declaring, no_header}
-use Rattle.gate_vcd.specs.Inner.Headers.{IsHeader, asked_of}
+use Rattle.gate_vcd.specs.Shown.Headers.{IsHeader, asked_of}
 use Rattle.gate_vcd.proofs.declarations.read_declarations.Given as goal
 
 -- the reading goes on from the header so far

@@ -1,6 +1,6 @@
 use Rattle.std.proofs.Common.{◌≡◌, ◌++◌, ◌≤◌, length, option_map}
-use Rattle.gate_vcd.specs.Inner.Words.{texts}
-use Rattle.gate_vcd.specs.Inner.Commands.{until_end}
+use Rattle.gate_vcd.specs.Shown.Words.{texts}
+use Rattle.gate_vcd.specs.Shown.Commands.{until_end}
 use Rattle.gate_vcd.proofs.declarations.rest_of_command.Given as goal
 
 -- the texts so far stand before those that are left

@@ -1,5 +1,5 @@
-use Rattle.gate_vcd.specs.Inner.Commands.{variables}
-use Rattle.gate_vcd.specs.Inner.Known.{sources_by}
+use Rattle.gate_vcd.specs.Shown.Commands.{variables}
+use Rattle.gate_vcd.specs.Shown.Known.{sources_by}
 use Rattle.gate_vcd.proofs.InputLaws.{below-start, below-more, below-refused}
 use Rattle.gate_vcd.proofs.inputs.inputs_of.Goals as goal
 

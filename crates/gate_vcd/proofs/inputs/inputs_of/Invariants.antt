@@ -1,7 +1,7 @@
 use Rattle.std.proofs.Common.{◌≡◌, Ok}
-use Rattle.gate_vcd.specs.Inner.Commands.{variables}
+use Rattle.gate_vcd.specs.Shown.Commands.{variables}
 use Rattle.gate_vcd.specs.Inputs.{sources_below}
-use Rattle.gate_vcd.specs.Inner.Known.{sources_by}
+use Rattle.gate_vcd.specs.Shown.Known.{sources_by}
 use Rattle.gate_vcd.proofs.inputs.inputs_of.Given as goal
 
 -- the nets so far have these sources

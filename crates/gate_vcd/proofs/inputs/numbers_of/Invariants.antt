@@ -1,5 +1,5 @@
 use Rattle.std.proofs.Common.{◌≡◌, take}
-use Rattle.gate_vcd.specs.Inner.Known.{sources_by}
+use Rattle.gate_vcd.specs.Shown.Known.{sources_by}
 use Rattle.gate_vcd.specs.Inner.Scalars.{numbers_of}
 use Rattle.gate_vcd.proofs.inputs.numbers_of.Given as goal
 

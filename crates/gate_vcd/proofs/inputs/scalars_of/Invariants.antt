@@ -1,5 +1,5 @@
 use Rattle.std.proofs.Common.{take}
-use Rattle.gate_vcd.specs.Inner.Commands.{variables}
+use Rattle.gate_vcd.specs.Shown.Commands.{variables}
 use Rattle.gate_vcd.specs.Inner.Scalars.{AreScalars}
 use Rattle.gate_vcd.proofs.inputs.scalars_of.Given as goal
 

@@ -1,6 +1,6 @@
 use Rattle.std.proofs.Common.{◌≡◌, ◌∙◌, ◌∷◌, sym, refl, arith}
 use Rattle.std.proofs.lemmas.Grind.{common_steps}
-use Rattle.gate_vcd.specs.Inner.Words.{token_of}
+use Rattle.gate_vcd.specs.Shown.Words.{token_of}
 use Rattle.gate_vcd.specs.Changes.{items}
 use Rattle.gate_vcd.proofs.DeclarationLaws.{alike-start, alike-next, alike-found, alike-none}
 use Rattle.gate_vcd.proofs.items.skip_command.Goals as goal

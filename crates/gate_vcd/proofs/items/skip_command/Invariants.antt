@@ -1,5 +1,5 @@
 use Rattle.std.proofs.Common.{◌≡◌, ◌≤◌, length}
-use Rattle.gate_vcd.specs.Inner.Words.{token_of}
+use Rattle.gate_vcd.specs.Shown.Words.{token_of}
 use Rattle.gate_vcd.specs.Changes.{items, end_of}
 use Rattle.gate_vcd.proofs.DeclarationLaws.{EndsAlike}
 use Rattle.gate_vcd.proofs.items.skip_command.Given as goal

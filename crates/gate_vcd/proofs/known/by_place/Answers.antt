@@ -1,7 +1,8 @@
 use Rattle.std.proofs.Common.{◌≡◌, ◌∙◌, ap, sym, subst, arith, rules, length, drop, reverse, List, Option}
 use Rattle.std.proofs.lemmas.List.Sorted.{IsNonDecreasingBy-from_sort_by_key}
 use Rattle.gate_vcd.specs.declared.source.Source.{Source as Held}
-use Rattle.gate_vcd.specs.Inner.Known.{AreFallingNets, sources_by}
+use Rattle.gate_vcd.specs.Inner.Known.{AreFallingNets}
+use Rattle.gate_vcd.specs.Shown.Known.{sources_by}
 use Rattle.gate_vcd.proofs.KnownLaws.{any-permuted, falls-turned, place_key, written-over}
 use Rattle.gate_vcd.proofs.known.by_place.Goals as goal
 

@@ -3,12 +3,13 @@ use Rattle.std.proofs.lemmas.Result.{err_from_is_err_and}
 use Rattle.gate_vcd.specs.declared.fault.StimFault.{StimFault}
 use Rattle.gate_vcd.specs.Tokens.{Token}
 use Rattle.gate_vcd.specs.Reading.{Fails}
-use Rattle.gate_vcd.specs.Inner.Commands.{variables}
+use Rattle.gate_vcd.specs.Shown.Commands.{variables}
 use Rattle.gate_vcd.specs.Declarations.{Header}
 use Rattle.gate_vcd.specs.Changes.{items, nothing}
 use Rattle.gate_netlist.specs.Circuit.{nets_of}
 use Rattle.gate_vcd.specs.Inputs.{sources_below}
-use Rattle.gate_vcd.specs.Inner.Known.{knows, sources_by}
+use Rattle.gate_vcd.specs.Inner.Known.{knows}
+use Rattle.gate_vcd.specs.Shown.Known.{sources_by}
 use Rattle.gate_vcd.specs.Stimulus.{has_code}
 use Rattle.gate_vcd.proofs.Meaning.{declared-fails, changes-fail, inputs-fail, reads, means, laid, declared-read, known-codes, unused-codes, events-fail, events-read}
 use Rattle.gate_vcd.proofs.reading.read_stimulus.Goals as goal

@@ -1,7 +1,8 @@
 use Rattle.std.proofs.lemmas.Result.{err_from_is_err_and}
 use Rattle.gate_vcd.specs.Changes.{items, nothing}
-use Rattle.gate_vcd.specs.Inner.Commands.{variables}
-use Rattle.gate_vcd.specs.Inner.Known.{knows, sources_by}
+use Rattle.gate_vcd.specs.Shown.Commands.{variables}
+use Rattle.gate_vcd.specs.Inner.Known.{knows}
+use Rattle.gate_vcd.specs.Shown.Known.{sources_by}
 use Rattle.gate_vcd.specs.Stimulus.{has_code}
 use Rattle.gate_vcd.proofs.Meaning.{declared-codes, events-fail, events-read, laid, value-is}
 use Rattle.gate_vcd.proofs.sources.read_sources.Goals as goal

@@ -1,6 +1,6 @@
 use Rattle.std.proofs.Common.{◌≡◌, ◌++◌, drop}
 use Rattle.std.specs.List.{concat}
-use Rattle.gate_vcd.specs.Inner.Words.{texts}
+use Rattle.gate_vcd.specs.Shown.Words.{texts}
 use Rattle.gate_vcd.proofs.variable.joined.Given as goal
 
 -- the text so far, and the parts that are left

@@ -1,5 +1,5 @@
 use Rattle.std.proofs.Common.{◌≡◌, ◌≢◌, ◌∙◌, ◌-◌, ◌<◌, List, ℕ, zero, suc, length, get_or, ap, sym, refl, arith}
-use Rattle.number_groups.specs.Rows.{start_at}
+use Rattle.number_groups.specs.Inner.Rows.{start_at}
 use Rattle.number_groups.proofs.Rowing.{start_at-zero, start_at-suc}
 use Rattle.number_groups.proofs.rows.start_of.Goals as goal
 

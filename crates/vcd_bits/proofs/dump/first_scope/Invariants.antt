@@ -1,7 +1,7 @@
 use Rattle.std.proofs.Common.{◌≡◌, drop}
-use Rattle.gate_vcd.specs.Inner.Commands.{variables}
+use Rattle.gate_vcd.specs.Shown.Commands.{variables}
 use Rattle.vcd_bits.specs.Names.{first_scope}
-use Rattle.vcd_bits.specs.Inner.Held.{texts_in}
+use Rattle.vcd_bits.specs.Shown.Held.{texts_in}
 use Rattle.vcd_bits.proofs.dump.first_scope.Given as goal
 
 -- the variables so far have no bits

@@ -1,4 +1,4 @@
-use Rattle.vcd_bits.specs.Inner.Tables.{bits_in}
+use Rattle.vcd_bits.specs.Shown.Tables.{bits_in}
 use Rattle.vcd_bits.proofs.CodeLaws.{declared-coded, declared-source}
 use Rattle.vcd_compare.specs.Times.{asked_in}
 use Rattle.vcd_compare.proofs.Answering.{answers-actual, answers-before, answers-behind, answers-expected, answers-report, changes-fail, dump-read, dump_by, open-fails, opened-counts}

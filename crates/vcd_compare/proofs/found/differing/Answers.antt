@@ -1,5 +1,5 @@
 use Rattle.std.proofs.Common.{arith, ap, get_or, refl, ◌≡◌, length}
-use Rattle.vcd_bits.specs.Inner.Tables.{bits_in}
+use Rattle.vcd_bits.specs.Shown.Tables.{bits_in}
 use Rattle.vcd_compare.specs.Inner.Found.{IsFoundBy}
 use Rattle.vcd_compare.proofs.FoundLaws.{found-more, found-none}
 use Rattle.vcd_compare.proofs.found.differing.Goals as goal

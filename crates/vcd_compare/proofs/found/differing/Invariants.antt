@@ -1,4 +1,4 @@
-use Rattle.vcd_bits.specs.Inner.Tables.{bits_in}
+use Rattle.vcd_bits.specs.Shown.Tables.{bits_in}
 use Rattle.vcd_compare.specs.Inner.Found.{AreFoundUpTo, IsFoundBy}
 use Rattle.vcd_compare.proofs.found.differing.Given as goal
 

@@ -1,6 +1,6 @@
 use Rattle.std.proofs.Common.{◌<◌, length, get_or, arith, sym, ◌∙◌}
 use Rattle.gate_vcd.proofs.Links.{slice_get-is}
-use Rattle.vcd_bits.specs.Inner.Tables.{bits_in}
+use Rattle.vcd_bits.specs.Shown.Tables.{bits_in}
 use Rattle.vcd_compare.specs.Pairs.{lacks}
 use Rattle.vcd_compare.proofs.AloneLaws.{alone-no, alone-yes, no_bit}
 use Rattle.vcd_compare.proofs.lonely.alone.Goals as goal

@@ -1,7 +1,7 @@
 use Rattle.std.proofs.Common.{inl, inr}
 use Rattle.gate_netlist.specs.Passes.{lines_after}
 use Rattle.gate_netlist.proofs.Accepting.{line_counted}
-use Rattle.vcd_bits.specs.Inner.Tables.{bits_in}
+use Rattle.vcd_bits.specs.Shown.Tables.{bits_in}
 use Rattle.vcd_compare.proofs.MapLaws.{all_read, line_read, line_refused}
 use Rattle.vcd_compare.proofs.mapped.pairs_said.Goals as goal
 

@@ -1,7 +1,7 @@
 use Rattle.std.proofs.Common.{◌+◌, ◌≤◌, length}
 use Rattle.gate_netlist.specs.Passes.{lines_after}
 use Rattle.gate_netlist.proofs.Accepting.{text_left}
-use Rattle.vcd_bits.specs.Inner.Tables.{bits_in}
+use Rattle.vcd_bits.specs.Shown.Tables.{bits_in}
 use Rattle.vcd_compare.specs.Map.{pairs_said}
 use Rattle.vcd_compare.specs.Inner.Mapping.{IsMappedSoFar}
 use Rattle.vcd_compare.proofs.mapped.pairs_said.Given as goal

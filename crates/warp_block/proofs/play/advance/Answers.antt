@@ -1,11 +1,10 @@
-use Rattle.std.proofs.Common.{◌≡◌, ◌∙◌, ◌<◌, ◌≤◌, ◌⊎◌, inl, inr, List, refl, ap, sym, subst}
+use Rattle.std.proofs.Common.{◌≡◌, ◌∙◌, inl, inr, List, refl, ap, sym, subst}
 use Rattle.gate_values.specs.declared.logic.Change.{Change}
 use Rattle.gate_vcd.proofs.Waving.{on_err}
-use Rattle.event_times.specs.Marks.{Played}
 use Rattle.warp_stores.specs.Lists.{AreLonger}
 use Rattle.warp_journal.specs.Books.{Book}
 use Rattle.warp_engine.specs.Runs.{Run, makings}
-use Rattle.warp_process.specs.Advance.{IsAdvanced, IsAfterEvent}
+use Rattle.warp_process.specs.Advance.{IsAfterEvent}
 use Rattle.warp_process.specs.Played.{played_view}
 use Rattle.warp_process.specs.View.{View, IsDone}
 use Rattle.warp_sends.proofs.Sending.{tells_longer}

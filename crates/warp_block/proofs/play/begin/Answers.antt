@@ -1,4 +1,4 @@
-use Rattle.std.proofs.Common.{◌≡◌, ◌∙◌, sym, subst, arith}
+use Rattle.std.proofs.Common.{arith}
 use Rattle.warp_part.specs.Placing.{place_source, place_given}
 use Rattle.warp_process.specs.View.{given_by}
 use Rattle.warp_block.proofs.Stepping.{ran, brought_as, at_begun, at_kept}

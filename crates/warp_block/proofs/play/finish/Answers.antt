@@ -1,4 +1,4 @@
-use Rattle.std.proofs.Common.{◌≡◌, ◌∙◌, ℕ, ◌≤◌, List, length, nat_lt, refl, ap, sym, subst, arith}
+use Rattle.std.proofs.Common.{◌≡◌, ◌∙◌, ◌≤◌, length, nat_lt, refl, ap, sym, subst, arith}
 use Rattle.std.specs.List.{filter}
 use Rattle.event_times.specs.Marks.{Played}
 use Rattle.warp_journal.specs.Books.{Book}
@@ -7,7 +7,6 @@ use Rattle.warp_part.specs.Placing.{place_source, place_given}
 use Rattle.warp_part.proofs.Placing.{nothing_past}
 use Rattle.warp_process.specs.View.{View, given_by}
 use Rattle.part_engine.proofs.RunLogs.{cells_are}
-use Rattle.warp_block.specs.Inner.Held.{IsAt}
 use Rattle.warp_block.proofs.Stepping.{at_given_up, at_told, like_book, same_makings, told_low, told_high}
 use Rattle.warp_block.proofs.play.finish.Goals as goal
 

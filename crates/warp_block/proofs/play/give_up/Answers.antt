@@ -1,4 +1,3 @@
-use Rattle.std.proofs.Common.{◌≡◌, ◌∙◌, sym, subst}
 use Rattle.warp_part.specs.Placing.{place_source, place_given}
 use Rattle.warp_process.specs.View.{given_by}
 use Rattle.warp_block.proofs.Stepping.{ran, at_given_up}

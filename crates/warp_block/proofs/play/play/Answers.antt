@@ -1,4 +1,4 @@
-use Rattle.std.proofs.Common.{◌≡◌, ◌∙◌, ◌≤◌, refl, arith}
+use Rattle.std.proofs.Common.{◌∙◌, refl, arith}
 use Rattle.warp_engine.specs.Runs.{Run}
 use Rattle.warp_process.specs.View.{View}
 use Rattle.warp_process.specs.Played.{played_view}

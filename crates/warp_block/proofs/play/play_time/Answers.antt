@@ -1,4 +1,4 @@
-use Rattle.std.proofs.Common.{◌≡◌, ◌∙◌, suc, sym, subst}
+use Rattle.std.proofs.Common.{sym, subst}
 use Rattle.event_times.specs.Marks.{Played}
 use Rattle.warp_part.specs.Placing.{place_source, place_given}
 use Rattle.warp_process.specs.View.{given_by}

@@ -1,6 +1,4 @@
-use Rattle.std.proofs.Common.{◌≡◌, ◌≤◌, sym, subst, arith, Some}
-use Rattle.warp_process.specs.View.{IsLeast, IsEventTime}
-use Rattle.warp_process.specs.Played.{played_view}
+use Rattle.std.proofs.Common.{arith}
 use Rattle.warp_block.proofs.Stepping.{least_on}
 use Rattle.warp_block.proofs.play.step.Goals as goal
 

@@ -1,4 +1,4 @@
-use Rattle.std.proofs.Common.{◌≡◌, ◌∙◌, ◌<◌, ◌≤◌, ℕ, List, length, get_or, ap, sym, subst, arith, All}
+use Rattle.std.proofs.Common.{◌<◌, List, length, get_or, sym, subst, arith, All}
 use Rattle.event_times.specs.Marks.{Played}
 use Rattle.warp_stores.specs.Words.{Move}
 use Rattle.warp_stores.specs.Dated.{Dated}

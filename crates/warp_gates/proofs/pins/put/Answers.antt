@@ -1,7 +1,7 @@
 use Rattle.std.proofs.Common.{◌<◌, map, set, ap, ◌∙◌, rules}
 use Rattle.std.proofs.lemmas.List.{map-set}
 use Rattle.gate_values.specs.declared.logic.Logic.{Logic}
-use Rattle.warp_stores.specs.Inner.Words.{value_of}
+use Rattle.warp_stores.specs.Shown.Words.{value_of}
 use Rattle.warp_gates.proofs.Bits.{put, put-small, codes_in, codes_in-put, code_of-small, value_of-code_of}
 use Rattle.warp_gates.proofs.pins.put.Goals as goal
 

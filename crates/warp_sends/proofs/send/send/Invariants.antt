@@ -1,5 +1,5 @@
 use Rattle.std.proofs.Common.{◌≡◌, ◌++◌, take}
-use Rattle.warp_process.specs.Inner.Step.{sent}
+use Rattle.warp_process.specs.Shown.Step.{sent}
 use Rattle.warp_sends.proofs.send.send.Given as goal
 
 abbrev pub invariant-loop-reader : goal.invariant-loop-reader

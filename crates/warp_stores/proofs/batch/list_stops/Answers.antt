@@ -1,5 +1,5 @@
 use Rattle.std.proofs.Common.{◌≡◌, arith, ap}
-use Rattle.warp_stores.specs.Inner.StopBits.{Tally}
+use Rattle.warp_stores.specs.Shown.StopBits.{Tally}
 use Rattle.warp_stores.proofs.Listing.{stop_fits}
 use Rattle.warp_stores.proofs.Batches.{listed_on}
 use Rattle.warp_stores.proofs.batch.list_stops.Goals as goal

@@ -1,5 +1,6 @@
 use Rattle.std.proofs.Common.{◌≡◌, take}
-use Rattle.warp_stores.specs.Inner.Stops.{total, dated}
+use Rattle.warp_stores.specs.Inner.Stops.{total}
+use Rattle.warp_stores.specs.Shown.Stops.{dated}
 use Rattle.warp_stores.proofs.batch.list_stops.Given as goal
 
 abbrev pub invariant-loop-stop : goal.invariant-loop-stop

@@ -4,8 +4,8 @@ use Rattle.std.specs.declared.alloc.Global.{Global}
 use Rattle.std.proofs.lemmas.List.{length-map}
 use Rattle.gate_values.specs.declared.logic.Change.{Change}
 use Rattle.warp_stores.specs.Words.{Move}
-use Rattle.warp_stores.specs.Inner.StopBits.{Tally}
-use Rattle.warp_stores.specs.Inner.Lists.{lists_of}
+use Rattle.warp_stores.specs.Shown.StopBits.{Tally}
+use Rattle.warp_stores.specs.Shown.Lists.{lists_of}
 use Rattle.warp_stores.proofs.Listing.{stop_fits, all_part, err_within, put_more, longer_stop}
 use Rattle.warp_stores.proofs.lists.push_batch.Goals as goal
 

@@ -1,5 +1,5 @@
 use Rattle.std.proofs.Common.{◌≡◌, ◌-◌, ◌++◌, ◌∷◌, [], true, not, is_ok, sym, ap, ◌∙◌, subst, arith, List}
-use Rattle.warp_stores.specs.Inner.StopBits.{Tally}
+use Rattle.warp_stores.specs.Shown.StopBits.{Tally}
 use Rattle.warp_stores.specs.Inner.Stops.{HaveMore}
 use Rattle.warp_stores.proofs.Extending.{more_push}
 use Rattle.warp_stores.proofs.place.count_all.Goals as goal

@@ -1,6 +1,7 @@
 use Rattle.std.proofs.Common.{◌≡◌, ◌-◌, ◌++◌, length}
 use Rattle.warp_stores.specs.Dated.{later}
-use Rattle.warp_stores.specs.Inner.Stops.{IsSpan, end_of, told}
+use Rattle.warp_stores.specs.Inner.Stops.{IsSpan}
+use Rattle.warp_stores.specs.Shown.Stops.{end_of, told}
 use Rattle.warp_stores.proofs.place.tell.Given as goal
 
 abbrev pub invariant-loop-place : goal.invariant-loop-place

@@ -1,4 +1,4 @@
-use Rattle.warp_stores.specs.Inner.Lists.{lists_of}
+use Rattle.warp_stores.specs.Shown.Lists.{lists_of}
 use Rattle.warp_stores.specs.Inner.Spans.{AreCut}
 use Rattle.warp_stores.proofs.spans.cut_all.Given as goal
 

@@ -6,8 +6,8 @@ use Rattle.gate_values.specs.declared.logic.Change.{Change}
 use Rattle.warp_stores.specs.Words.{Move}
 use Rattle.warp_stores.specs.Dated.{Dated}
 use Rattle.warp_stores.specs.Lists.{AreLonger}
-use Rattle.warp_stores.specs.Inner.Stops.{dated}
-use Rattle.warp_stores.specs.Inner.Lists.{lists_of}
+use Rattle.warp_stores.specs.Shown.Stops.{dated}
+use Rattle.warp_stores.specs.Shown.Lists.{lists_of}
 use Rattle.warp_stores.specs.Inner.Spans.{words_within}
 use Rattle.warp_stores.proofs.Listing.{longer_none, on_err_fact}
 use Rattle.warp_stores.proofs.Spanning.{longer_spans, within_none, within_dated, grown_of, grown_then}

@@ -1,6 +1,6 @@
 use Rattle.std.proofs.Common.{take}
 use Rattle.warp_stores.specs.Dated.{at}
-use Rattle.warp_stores.specs.Inner.Lists.{lists_of}
+use Rattle.warp_stores.specs.Shown.Lists.{lists_of}
 use Rattle.warp_stores.specs.Inner.Spans.{words_within}
 use Rattle.warp_stores.proofs.Listing.{on_err_fact}
 use Rattle.warp_stores.proofs.Spanning.{grown_of}

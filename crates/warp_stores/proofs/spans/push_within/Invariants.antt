@@ -1,7 +1,7 @@
 use Rattle.std.proofs.Common.{take}
 use Rattle.warp_stores.specs.Dated.{at}
 use Rattle.warp_stores.specs.Lists.{AreLonger}
-use Rattle.warp_stores.specs.Inner.Lists.{lists_of}
+use Rattle.warp_stores.specs.Shown.Lists.{lists_of}
 use Rattle.warp_stores.specs.Inner.Spans.{words_within}
 use Rattle.warp_stores.proofs.spans.push_within.Given as goal
 

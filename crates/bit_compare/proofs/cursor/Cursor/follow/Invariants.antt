@@ -1,5 +1,6 @@
 use Rattle.std.proofs.Common.{◌≡◌, length, ◌-◌}
-use Rattle.bit_compare.specs.Inner.Moments.{IsPassed, IsShown}
+use Rattle.bit_compare.specs.Inner.Moments.{IsPassed}
+use Rattle.bit_compare.specs.Shown.Moments.{IsShown}
 use Rattle.bit_compare.specs.Inner.Cursors.{AreRecent, seen_by}
 use Rattle.bit_compare.proofs.cursor.Cursor.follow.Given as goal
 

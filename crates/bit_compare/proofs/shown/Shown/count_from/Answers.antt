@@ -1,5 +1,5 @@
 use Rattle.std.proofs.Common.{arith}
-use Rattle.bit_compare.specs.Inner.Moments.{moments}
+use Rattle.bit_compare.specs.Shown.Moments.{moments}
 use Rattle.bit_compare.proofs.Moments.{counts-all, passed-more}
 use Rattle.bit_compare.proofs.shown.Shown.count_from.Goals as goal
 

@@ -1,5 +1,6 @@
 use Rattle.std.proofs.Common.{length, ◌-◌}
-use Rattle.bit_compare.specs.Inner.Moments.{IsPassed, moments}
+use Rattle.bit_compare.specs.Inner.Moments.{IsPassed}
+use Rattle.bit_compare.specs.Shown.Moments.{moments}
 use Rattle.bit_compare.proofs.shown.Shown.count_from.Given as goal
 
 -- the changes so far aren't later

@@ -1,5 +1,5 @@
 use Rattle.std.proofs.Common.{refl}
-use Rattle.bit_compare.specs.Inner.Moments.{lens}
+use Rattle.bit_compare.specs.Shown.Moments.{lens}
 use Rattle.bit_compare.proofs.Moments.{seen-shown, shown-values, whole-drop}
 use Rattle.bit_compare.proofs.shown.Shown.new.Goals as goal
 

@@ -1,5 +1,5 @@
 use Rattle.std.proofs.Common.{sym, ◌∙◌}
-use Rattle.bit_compare.specs.Inner.Moments.{lens_of}
+use Rattle.bit_compare.specs.Shown.Moments.{lens_of}
 use Rattle.bit_compare.proofs.Moments.{value_after-map}
 use Rattle.bit_compare.proofs.shown.Shown.value.Goals as goal
 

@@ -2,9 +2,10 @@ use Rattle.std.proofs.Common.{false}
 use Rattle.std.specs.List.{list_any}
 use Rattle.std.specs.Option.{option_map_or}
 use Rattle.std.specs.Str.{bytes_eq}
-use Rattle.gate_vcd.specs.Inner.Commands.{variables}
+use Rattle.gate_vcd.specs.Shown.Commands.{variables}
 use Rattle.gate_vcd.specs.Declarations.{Variable}
-use Rattle.gate_vcd.specs.Inner.Known.{is_of, is_taken, knows, same_source, sources_by}
+use Rattle.gate_vcd.specs.Inner.Known.{is_taken, knows, same_source}
+use Rattle.gate_vcd.specs.Shown.Known.{is_of, sources_by}
 use Rattle.gate_vcd.proofs.KnownLaws.{above-least, above-next, codes-next, sourced-at, sources-next}
 use Rattle.gate_vcd.proofs.known.KnownCodes.of_sorted.Goals as goal
 

@@ -2,8 +2,9 @@ use Rattle.std.proofs.Common.{◌≡◌, ℕ, List, ◌||◌, take}
 use Rattle.std.specs.List.{list_any}
 use Rattle.std.specs.Str.{bytes_eq}
 use Rattle.gate_vcd.specs.Changes.{Source}
-use Rattle.gate_vcd.specs.Inner.Commands.{variables}
-use Rattle.gate_vcd.specs.Inner.Known.{IsLinked, is_used, is_taken, knows, sources_by, takes}
+use Rattle.gate_vcd.specs.Shown.Commands.{variables}
+use Rattle.gate_vcd.specs.Inner.Known.{IsLinked, is_taken, knows, takes}
+use Rattle.gate_vcd.specs.Shown.Known.{is_used, sources_by}
 use Rattle.gate_vcd.proofs.KnownLaws.{AreAbove}
 use Rattle.gate_vcd.proofs.known.KnownCodes.of_sorted.Given as goal
 

@@ -1,5 +1,5 @@
 use Rattle.std.proofs.Common.{◌∙◌, sym}
-use Rattle.gate_vcd.specs.Inner.Known.{source}
+use Rattle.gate_vcd.specs.Shown.Known.{source}
 use Rattle.gate_vcd.proofs.KnownLaws.{takes-same, takes-none}
 use Rattle.gate_vcd.proofs.known.KnownCodes.put.Goals as goal
 

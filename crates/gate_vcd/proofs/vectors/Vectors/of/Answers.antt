@@ -1,5 +1,5 @@
 use Rattle.std.proofs.Common.{drop, arith}
-use Rattle.gate_vcd.specs.Inner.Commands.{variables}
+use Rattle.gate_vcd.specs.Shown.Commands.{variables}
 use Rattle.gate_vcd.proofs.VectorLaws.{put-step}
 use Rattle.gate_vcd.proofs.vectors.Vectors.of.Goals as goal
 

@@ -1,5 +1,5 @@
 use Rattle.std.proofs.Common.{◌≤◌, length, drop}
-use Rattle.gate_vcd.specs.Inner.Commands.{variables}
+use Rattle.gate_vcd.specs.Shown.Commands.{variables}
 use Rattle.gate_vcd.specs.Inner.Scalars.{AreVectors}
 use Rattle.gate_vcd.proofs.vectors.Vectors.of.Given as goal
 

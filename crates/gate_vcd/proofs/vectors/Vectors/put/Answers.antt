@@ -1,6 +1,6 @@
 use Rattle.std.proofs.Common.{◌≡◌, refl}
 use Rattle.gate_vcd.specs.declared.runs.Kept.{Kept}
-use Rattle.gate_vcd.specs.Inner.Scalars.{vector}
+use Rattle.gate_vcd.specs.Shown.Scalars.{vector}
 use Rattle.gate_vcd.proofs.Numbered.{number}
 use Rattle.gate_vcd.proofs.VectorLaws.{on_each, put-before}
 use Rattle.gate_vcd.proofs.vectors.Vectors.put.Goals as goal

@@ -1,5 +1,5 @@
-use Rattle.gate_vcd.specs.Inner.Commands.{variables}
-use Rattle.vcd_bits.specs.Inner.Tables.{bits_in}
+use Rattle.gate_vcd.specs.Shown.Commands.{variables}
+use Rattle.vcd_bits.specs.Shown.Tables.{bits_in}
 use Rattle.vcd_bits.proofs.CodeLaws.{coded-held, declared-source}
 use Rattle.vcd_bits.proofs.dump.Dump.source.Goals as goal
 

@@ -1,5 +1,5 @@
 use Rattle.std.proofs.Common.{refl}
-use Rattle.gate_vcd.specs.Inner.Words.{texts}
+use Rattle.gate_vcd.specs.Shown.Words.{texts}
 use Rattle.vcd_bits.proofs.ScopedLaws.{noted-scope}
 use Rattle.vcd_bits.proofs.scoped.Scoped.note.Goals as goal
 

@@ -1,7 +1,7 @@
 use Rattle.std.proofs.Common.{◌∙◌, ◌++◌, None, refl, sym, ap, inl, inr, Err, List, ℕ, Bor, option_map}
 use Rattle.std.proofs.lemmas.Result.{err_from_is_err_and}
 use Rattle.gate_vcd.specs.Declarations.{keyword_of}
-use Rattle.gate_vcd.specs.Inner.Words.{token_of, texts}
+use Rattle.gate_vcd.specs.Shown.Words.{token_of, texts}
 use Rattle.gate_vcd.proofs.DeclarationLaws.{declared-alike}
 use Rattle.vcd_bits.specs.Scopes.{path_noted}
 use Rattle.vcd_bits.proofs.ScopedLaws.{declaring-bad, command_fails, effect_fails, command_goes_on, scopes-alike, scopes-declared}

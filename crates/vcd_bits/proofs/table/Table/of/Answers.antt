@@ -1,5 +1,5 @@
 use Rattle.std.proofs.Common.{arith}
-use Rattle.vcd_bits.specs.Inner.Tables.{bits_in}
+use Rattle.vcd_bits.specs.Shown.Tables.{bits_in}
 use Rattle.vcd_bits.proofs.TableLaws.{of-all, of-more}
 use Rattle.vcd_bits.proofs.table.Table.of.Goals as goal
 

@@ -1,8 +1,8 @@
 use Rattle.std.proofs.Common.{◌≡◌, [], take}
-use Rattle.gate_vcd.specs.Inner.Commands.{variables}
+use Rattle.gate_vcd.specs.Shown.Commands.{variables}
 use Rattle.vcd_bits.specs.Names.{all_bits, with_bits}
-use Rattle.vcd_bits.specs.Inner.Held.{texts_in}
-use Rattle.vcd_bits.specs.Inner.Tables.{bits_in}
+use Rattle.vcd_bits.specs.Shown.Held.{texts_in}
+use Rattle.vcd_bits.specs.Shown.Tables.{bits_in}
 use Rattle.vcd_bits.proofs.table.Table.of.Given as goal
 
 -- the bits of the variables so far are kept

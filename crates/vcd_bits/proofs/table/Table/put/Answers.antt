@@ -1,9 +1,9 @@
 use Rattle.std.proofs.Common.{◌≡◌, ◌∷◌, [], true, false, sym, ap, ◌∙◌, map}
 use Rattle.std.proofs.lemmas.List.{map-append}
 use Rattle.indexmap.proofs.CallerLemmas.{insert_entry-new}
-use Rattle.gate_vcd.specs.Inner.Known.{source}
+use Rattle.gate_vcd.specs.Shown.Known.{source}
 use Rattle.vcd_bits.specs.Names.{is_named}
-use Rattle.vcd_bits.specs.Inner.Tables.{bit_by, bits_in}
+use Rattle.vcd_bits.specs.Shown.Tables.{bit_by, bits_in}
 use Rattle.vcd_bits.proofs.TableLaws.{entry_bit, kept-named, none_is, with-new, with-there}
 use Rattle.vcd_bits.proofs.table.Table.put.Goals as goal
 

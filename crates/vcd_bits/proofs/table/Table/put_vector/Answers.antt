@@ -1,5 +1,5 @@
-use Rattle.gate_vcd.specs.Inner.Scalars.{vector as vector_in}
-use Rattle.vcd_bits.specs.Inner.Tables.{bits_in}
+use Rattle.gate_vcd.specs.Shown.Scalars.{vector as vector_in}
+use Rattle.vcd_bits.specs.Shown.Tables.{bits_in}
 use Rattle.vcd_bits.proofs.TableLaws.{vector-more}
 use Rattle.vcd_bits.proofs.table.Table.put_vector.Goals as goal
 

@@ -1,7 +1,7 @@
 use Rattle.std.proofs.Common.{◌≡◌}
-use Rattle.gate_vcd.specs.Inner.Scalars.{vector as vector_in}
+use Rattle.gate_vcd.specs.Shown.Scalars.{vector as vector_in}
 use Rattle.vcd_bits.specs.Names.{vector_bits, with_bits}
-use Rattle.vcd_bits.specs.Inner.Tables.{bits_in}
+use Rattle.vcd_bits.specs.Shown.Tables.{bits_in}
 use Rattle.vcd_bits.proofs.table.Table.put_vector.Given as goal
 
 -- the bits so far are kept

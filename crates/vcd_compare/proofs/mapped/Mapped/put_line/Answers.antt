@@ -1,5 +1,5 @@
 use Rattle.std.proofs.Common.{None, Some, inr}
-use Rattle.vcd_bits.specs.Inner.Tables.{bits_in}
+use Rattle.vcd_bits.specs.Shown.Tables.{bits_in}
 use Rattle.vcd_compare.proofs.MapLaws.{line-of-names, line-of-none}
 use Rattle.vcd_compare.proofs.mapped.Mapped.put_line.Goals as goal
 

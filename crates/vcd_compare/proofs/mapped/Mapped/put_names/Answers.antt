@@ -1,6 +1,6 @@
 use Rattle.std.proofs.Common.{◌≡◌, [], ◌∷◌, ◌++◌, true, false, inr, refl, sym, ◌∙◌}
-use Rattle.gate_vcd.specs.Inner.Known.{source}
-use Rattle.vcd_bits.specs.Inner.Tables.{bits_in}
+use Rattle.gate_vcd.specs.Shown.Known.{source}
+use Rattle.vcd_bits.specs.Shown.Tables.{bits_in}
 use Rattle.vcd_compare.specs.declared.fault.MapCause.TheVariants.{NamedTwice}
 use Rattle.vcd_compare.specs.Map.{is_paired, pair_of}
 use Rattle.vcd_compare.proofs.MapLaws.{mapped-more, mark-read, names-again, names-put, number-known}

@@ -1,5 +1,5 @@
 use Rattle.std.proofs.Common.{take}
-use Rattle.vcd_bits.specs.Inner.Tables.{bits_in}
+use Rattle.vcd_bits.specs.Shown.Tables.{bits_in}
 use Rattle.vcd_compare.specs.Pairs.{pairs_of}
 use Rattle.vcd_compare.specs.Inner.Held.{ArePairs}
 use Rattle.vcd_compare.proofs.pairs.Pairs.of.Given as goal

@@ -1,6 +1,6 @@
 use Rattle.std.proofs.Common.{sym, ◌∙◌}
 use Rattle.gate_vcd.proofs.Links.{slice_get-is}
-use Rattle.vcd_bits.specs.Inner.Tables.{bits_in}
+use Rattle.vcd_bits.specs.Shown.Tables.{bits_in}
 use Rattle.vcd_compare.proofs.AloneLaws.{no_bit}
 use Rattle.vcd_compare.proofs.PairLaws.{nothing-some}
 use Rattle.vcd_compare.proofs.pairs.Pairs.put.Goals as goal

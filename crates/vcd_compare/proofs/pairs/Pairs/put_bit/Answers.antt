@@ -1,6 +1,6 @@
 use Rattle.std.proofs.Common.{refl, sym}
-use Rattle.gate_vcd.specs.Inner.Known.{source}
-use Rattle.vcd_bits.specs.Inner.Tables.{bit_by, bits_in}
+use Rattle.gate_vcd.specs.Shown.Known.{source}
+use Rattle.vcd_bits.specs.Shown.Tables.{bit_by, bits_in}
 use Rattle.vcd_compare.proofs.PairLaws.{on-ok, pairs-passed, pairs-taken}
 use Rattle.vcd_compare.proofs.pairs.Pairs.put_bit.Goals as goal
 

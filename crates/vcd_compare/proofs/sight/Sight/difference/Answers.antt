@@ -1,7 +1,7 @@
 use Rattle.std.proofs.Common.{ap, ◌∙◌, arith}
 use Rattle.gate_vcd.specs.Given.{changes_of}
 use Rattle.bit_compare.specs.Bits.{value_through}
-use Rattle.bit_compare.specs.Inner.Moments.{shown}
+use Rattle.bit_compare.specs.Shown.Moments.{shown}
 use Rattle.vcd_compare.specs.Inner.Sights.{actual_through, expected_through}
 use Rattle.vcd_compare.proofs.SightLaws.{changes-rise, changes-small, found-same}
 use Rattle.vcd_compare.proofs.sight.Sight.difference.Goals as goal

@@ -1,4 +1,4 @@
-use Rattle.std.proofs.Common.{◌≡◌, ◌∙◌, ap, sym, subst}
+use Rattle.std.proofs.Common.{◌≡◌, ◌∙◌, ℕ, ap, sym, subst}
 use Rattle.event_times.specs.Marks.{Played}
 use Rattle.warp_engine.specs.Runs.{Run, HasDropped}
 use Rattle.warp_process.specs.View.{View, Process}
@@ -7,7 +7,7 @@ use Rattle.warp_process.specs.Commit.{IsCommittable, IsCommitted}
 use Rattle.part_engine.specs.Runs.{begins_of}
 use Rattle.warp_block.specs.Shown.Block.{seen_by, process_by}
 use Rattle.warp_block.specs.Inner.Held.{IsAtRest}
-use Rattle.warp_block.proofs.Keeping.{kept_rest, kept_committed}
+use Rattle.warp_block.proofs.Keeping.{kept_rest, kept_committed, own_committed}
 use Rattle.warp_block.proofs.block.Block.commit.Goals as goal
 
 pub commit-requires-clause-settled : goal.commit-requires-clause-settled
@@ -40,3 +40,11 @@ returns-clause-ok c =
     subst (λ (p : Process). IsCommitted p (process_by c.commit.new.self c.forget_below.new.self c.keep_from.new.self) c.args.floor) c.self.view_is
     (subst (λ (h : View). IsCommitted (process_by v run played) (process_by h c.forget_below.new.self c.keep_from.new.self) c.args.floor) (sym c.commit.ensures)
     (kept_committed v run played c.self.invariant.rest c.args.floor can c.keep_from.new.self c.keep_from.ensures c.forget_below.new.self dropped received))
+
+-- the floor is the block's own
+pub returns-then-floor-clause-ok : goal.returns-then-floor-clause-ok
+returns-then-floor-clause-ok c =
+    let own : c.args.floor ≡ c.self.inside.heard.floor = c.if-floor.true ∙ c.floor.ensures in
+    subst (λ (p : Process). IsCommitted p p c.args.floor) c.self.view_is
+    (subst (λ (time : ℕ). IsCommitted (process_by c.self.inside.heard c.self.inside.engine c.self.inside.times) (process_by c.self.inside.heard c.self.inside.engine c.self.inside.times) time) (sym own)
+    (own_committed c.self.inside.heard c.self.inside.engine c.self.inside.times c.self.invariant.rest))

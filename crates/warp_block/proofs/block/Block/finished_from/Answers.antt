@@ -1,7 +1,7 @@
-use Rattle.std.proofs.Common.{◌≡◌, ◌≤◌, ℕ, sym, subst, ◌∙◌, arith}
+use Rattle.std.proofs.Common.{◌≤◌, sym, subst, ◌∙◌, arith}
 use Rattle.warp_process.specs.Played.{was_busy}
 use Rattle.warp_process.specs.View.{Process}
-use Rattle.warp_block.specs.Shown.Block.{mark_by, process_by}
+use Rattle.warp_block.specs.Shown.Block.{mark_by}
 use Rattle.warp_block.proofs.Times.{times_from_cut}
 use Rattle.warp_block.proofs.Resting.{rest_times, count_same}
 use Rattle.warp_block.proofs.block.Block.finished_from.Goals as goal

@@ -1,4 +1,4 @@
-use Rattle.std.proofs.Common.{◌≡◌, ◌<◌, ◌≤◌, ℕ, true, false, get_or, None, inl, inr, refl, ap, sym, ◌∙◌, subst, arith}
+use Rattle.std.proofs.Common.{◌≡◌, ◌<◌, ℕ, true, get_or, None, inl, inr, refl, ap, sym, ◌∙◌, subst, arith}
 use Rattle.std.specs.Result.{IfErr}
 use Rattle.std.proofs.lemmas.Bool.{cases_Bool}
 use Rattle.warp_engine.specs.Runs.{Run}
@@ -9,7 +9,7 @@ use Rattle.warp_process.specs.declared.message.Sign.TheVariants.{Minus}
 use Rattle.warp_process.specs.Entries.{one_message, no_messages}
 use Rattle.warp_process.specs.View.{View, Process, entry_of}
 use Rattle.warp_process.specs.Receive.{IsTaken, IsRefusal, refusal_of}
-use Rattle.warp_process.specs.Inner.Receive.{IsAdmitted, IsFirstAt}
+use Rattle.warp_process.specs.Shown.Receive.{IsAdmitted, IsFirstAt}
 use Rattle.warp_process.specs.Sends.{SendsOnce}
 use Rattle.warp_process.proofs.Sends.{once_nothing, same_logs, same_standing}
 use Rattle.warp_process.proofs.Receiving.{refused_memory}

@@ -1,7 +1,7 @@
 use Rattle.std.proofs.Common.{◌≡◌, ◌∙◌, ◌++◌, List, take, drop, length, map, sym, ap, subst, arith}
 use Rattle.warp_gates.specs.declared.front.Front.{Front}
 use Rattle.warp_gates.specs.Cells.{Gates, HaveRestored}
-use Rattle.warp_gates.specs.Inner.Held.{gates_of}
+use Rattle.warp_gates.specs.Shown.Held.{gates_of}
 use Rattle.warp_gates.proofs.Steps.{written_back}
 use Rattle.warp_gates.proofs.Undoing.{queues_map, queues_restored, have_restored}
 use Rattle.warp_gates.proofs.gates.Gates.restore.Goals as goal

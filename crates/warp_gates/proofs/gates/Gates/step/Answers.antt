@@ -3,7 +3,7 @@ use Rattle.gate_values.specs.declared.logic.Logic.{Logic}
 use Rattle.warp_gates.specs.declared.front.Front.{Front}
 use Rattle.warp_gates.specs.declared.put.Put.{Put}
 use Rattle.warp_gates.specs.Cells.{Gates, ArePut, HaveNext}
-use Rattle.warp_gates.specs.Inner.Held.{gates_of}
+use Rattle.warp_gates.specs.Shown.Held.{gates_of}
 use Rattle.warp_gates.proofs.Moving.{length-moved}
 use Rattle.warp_gates.proofs.Steps.{written_back, passed_next, passed_puts, passed_queues}
 use Rattle.warp_gates.proofs.gates.Gates.step.Goals as goal

@@ -2,7 +2,7 @@ use Rattle.std.proofs.Common.{◌≡◌, ◌∙◌, ◌++◌, List, take, drop, 
 use Rattle.gate_values.specs.declared.logic.Logic.{Logic}
 use Rattle.warp_gates.specs.declared.front.Front.{Front}
 use Rattle.warp_gates.specs.Cells.{Gates, HaveSettled}
-use Rattle.warp_gates.specs.Inner.Held.{gates_of}
+use Rattle.warp_gates.specs.Shown.Held.{gates_of}
 use Rattle.warp_gates.proofs.Steps.{written_back}
 use Rattle.warp_gates.proofs.Undoing.{length-unmoved, queues_map, have_settled}
 use Rattle.warp_gates.proofs.gates.Gates.undo.Goals as goal

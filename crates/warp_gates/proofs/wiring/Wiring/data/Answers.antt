@@ -3,7 +3,7 @@ use Rattle.std.specs.Option.{unwrap_or}
 use Rattle.std.specs.List.{slice_get}
 use Rattle.warp_gates.specs.Cells.{Cell, cell_at}
 use Rattle.warp_gates.specs.Inner.Told.{is_flop, data_of}
-use Rattle.warp_gates.specs.Inner.Wiring.{cells_of}
+use Rattle.warp_gates.specs.Shown.Wiring.{cells_of}
 use Rattle.warp_gates.proofs.Wirings.{length-cells_of, data_of-cells_of}
 use Rattle.warp_gates.proofs.wiring.Wiring.data.Goals as goal
 

@@ -1,7 +1,7 @@
 use Rattle.std.proofs.Common.{◌≡◌, ◌∙◌, ◌++◌, ◌∷◌, [], List, ℕ, ap}
 use Rattle.warp_gates.specs.declared.wiring.Shape.{Shape}
 use Rattle.warp_gates.specs.Cells.{Cell}
-use Rattle.warp_gates.specs.Inner.Wiring.{cell_of, cells_of}
+use Rattle.warp_gates.specs.Shown.Wiring.{cell_of, cells_of}
 use Rattle.warp_gates.proofs.Wirings.{cells_of-push}
 use Rattle.warp_gates.proofs.wiring.Wiring.push.Goals as goal
 

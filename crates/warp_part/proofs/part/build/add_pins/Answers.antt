@@ -1,4 +1,4 @@
-use Rattle.warp_part.specs.Inner.Building.{place_of}
+use Rattle.warp_part.specs.Shown.Building.{place_of}
 use Rattle.warp_part.proofs.PartBuilding.{pushed_more}
 use Rattle.warp_part.proofs.part.build.add_pins.Goals as goal
 

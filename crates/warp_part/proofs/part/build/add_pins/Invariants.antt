@@ -1,5 +1,5 @@
 use Rattle.std.proofs.Common.{◌≡◌, ◌++◌, map, take}
-use Rattle.warp_part.specs.Inner.Building.{place_of}
+use Rattle.warp_part.specs.Shown.Building.{place_of}
 use Rattle.warp_part.proofs.part.build.add_pins.Given as goal
 
 abbrev pub invariant-loop-input : goal.invariant-loop-input

@@ -1,7 +1,8 @@
 use Rattle.std.proofs.Common.{List, ℕ, map, false, ap, subst, arith}
 use Rattle.gate_values.specs.Behaviour.{Gate}
 use Rattle.warp_part.specs.declared.cell.Cell.TheVariants as cell
-use Rattle.warp_part.specs.Inner.Building.{place_of, IsCell}
+use Rattle.warp_part.specs.Inner.Building.{IsCell}
+use Rattle.warp_part.specs.Shown.Building.{place_of}
 use Rattle.warp_part.proofs.PartHeld.{two_are}
 use Rattle.warp_part.proofs.PartBuilding.{pair_cell, gate_cell, places_within}
 use Rattle.warp_part.proofs.part.build.gate_cell.Goals as goal

@@ -1,6 +1,6 @@
 use Rattle.std.proofs.Common.{◌∙◌, take}
 use Rattle.warp_stores.specs.Dated.{at}
-use Rattle.warp_stores.specs.Inner.Lists.{lists_of}
+use Rattle.warp_stores.specs.Shown.Lists.{lists_of}
 use Rattle.warp_stores.proofs.Listing.{shorter_again, undated-at}
 use Rattle.warp_stores.proofs.lists.Lists.append.Goals as goal
 

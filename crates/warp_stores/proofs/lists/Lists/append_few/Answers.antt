@@ -6,8 +6,9 @@ use Rattle.std.proofs.lemmas.List.{length-map}
 use Rattle.std.proofs.lemmas.List.Elements.{All-take}
 use Rattle.gate_values.specs.declared.logic.Change.{Change}
 use Rattle.warp_stores.specs.Words.{Move}
-use Rattle.warp_stores.specs.Inner.Stops.{dated}
-use Rattle.warp_stores.specs.Inner.Lists.{lists_of, ArePut}
+use Rattle.warp_stores.specs.Shown.Stops.{dated}
+use Rattle.warp_stores.specs.Inner.Lists.{ArePut}
+use Rattle.warp_stores.specs.Shown.Lists.{lists_of}
 use Rattle.warp_stores.proofs.Listing.{within_undated, shorter_again}
 use Rattle.warp_stores.proofs.lists.Lists.append_few.Goals as goal
 

@@ -4,8 +4,8 @@ use Rattle.std.specs.Prelude.{Vec}
 use Rattle.std.specs.declared.alloc.Global.{Global}
 use Rattle.std.proofs.lemmas.List.{length-map}
 use Rattle.gate_values.specs.declared.logic.Change.{Change}
-use Rattle.warp_stores.specs.Inner.Stops.{dated}
-use Rattle.warp_stores.specs.Inner.Lists.{lists_of}
+use Rattle.warp_stores.specs.Shown.Stops.{dated}
+use Rattle.warp_stores.specs.Shown.Lists.{lists_of}
 use Rattle.warp_stores.proofs.Listing.{within_undated}
 use Rattle.warp_stores.proofs.Spanning.{cut_again}
 use Rattle.warp_stores.proofs.lists.Lists.append_many.Goals as goal

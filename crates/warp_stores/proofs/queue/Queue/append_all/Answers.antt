@@ -1,6 +1,6 @@
 use Rattle.std.proofs.Common.{◌≤◌, sym, subst}
 use Rattle.warp_stores.specs.Dated.{Line, last_time, standing}
-use Rattle.warp_stores.specs.Inner.Stops.{line_of}
+use Rattle.warp_stores.specs.Shown.Stops.{line_of}
 use Rattle.warp_stores.proofs.Queues.{line_equal, on_either, on_ok_both, Grows}
 use Rattle.warp_stores.proofs.Extending.{queue_extends}
 use Rattle.warp_stores.proofs.queue.Queue.append_all.Goals as goal

@@ -1,5 +1,6 @@
 use Rattle.std.proofs.Common.{arith}
-use Rattle.warp_stores.specs.Inner.Stops.{end_of, IsParted}
+use Rattle.warp_stores.specs.Inner.Stops.{IsParted}
+use Rattle.warp_stores.specs.Shown.Stops.{end_of}
 use Rattle.warp_stores.proofs.Queues.{queue_cut, line_cut_behind, line_cut_ahead}
 use Rattle.warp_stores.proofs.queue.Queue.cut_from.Goals as goal
 

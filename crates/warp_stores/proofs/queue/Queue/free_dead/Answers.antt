@@ -1,4 +1,4 @@
-use Rattle.warp_stores.specs.Inner.Stops.{end_of}
+use Rattle.warp_stores.specs.Shown.Stops.{end_of}
 use Rattle.warp_stores.proofs.Telling.{length-span}
 use Rattle.warp_stores.proofs.Queues.{live_span, line_equal, queue_freed, line_freed}
 use Rattle.warp_stores.proofs.queue.Queue.free_dead.Goals as goal

@@ -1,6 +1,6 @@
 use Rattle.std.proofs.Common.{◌≡◌, ◌-◌, ◌≤◌, length, arith}
 use Rattle.warp_stores.specs.Dated.{standing}
-use Rattle.warp_stores.specs.Inner.Stops.{end_of, line_of}
+use Rattle.warp_stores.specs.Shown.Stops.{end_of, line_of}
 use Rattle.warp_stores.proofs.Telling.{length-span}
 use Rattle.warp_stores.proofs.Queues.{live_span, length-standing, many_dead}
 use Rattle.warp_stores.proofs.queue.Queue.has_many_dead.Goals as goal

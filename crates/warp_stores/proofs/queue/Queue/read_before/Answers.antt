@@ -1,4 +1,5 @@
-use Rattle.warp_stores.specs.Inner.Stops.{end_of, IsParted}
+use Rattle.warp_stores.specs.Inner.Stops.{IsParted}
+use Rattle.warp_stores.specs.Shown.Stops.{end_of}
 use Rattle.warp_stores.proofs.Queues.{climbs_ahead_of, line_read}
 use Rattle.warp_stores.proofs.queue.Queue.read_before.Goals as goal
 

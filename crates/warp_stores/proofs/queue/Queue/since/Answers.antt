@@ -1,6 +1,7 @@
 use Rattle.std.proofs.Common.{◌≡◌, ◌∙◌, length}
 use Rattle.std.specs.List.{between}
-use Rattle.warp_stores.specs.Inner.Stops.{end_of, IsParted}
+use Rattle.warp_stores.specs.Inner.Stops.{IsParted}
+use Rattle.warp_stores.specs.Shown.Stops.{end_of}
 use Rattle.warp_stores.proofs.Telling.{length-span}
 use Rattle.warp_stores.proofs.Queues.{since_part}
 use Rattle.warp_stores.proofs.queue.Queue.since.Goals as goal

@@ -1,7 +1,8 @@
 use Rattle.std.proofs.Common.{◌≡◌, ◌++◌, ◌∙◌, List, sym, ap}
 use Rattle.std.specs.Result.{OnOk}
 use Rattle.warp_stores.specs.Dated.{Dated, since, later, standing}
-use Rattle.warp_stores.specs.Inner.Stops.{end_of, told, IsParted, line_of}
+use Rattle.warp_stores.specs.Inner.Stops.{IsParted}
+use Rattle.warp_stores.specs.Shown.Stops.{end_of, told, line_of}
 use Rattle.warp_stores.proofs.Telling.{since-told}
 use Rattle.warp_stores.proofs.Queues.{on_ok_both, standing-told}
 use Rattle.warp_stores.proofs.queue.Queue.tell_since.Goals as goal

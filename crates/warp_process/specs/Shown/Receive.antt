@@ -1,4 +1,4 @@
--- What only proofs need beside `Receive`.
+-- What a call that takes in a message says of the entry, and what is left once another is put.
 use Rattle.std.specs.Prelude.{◌≡◌, ℕ, ◌&&◌, ◌==◌, if◌then◌else◌, Some, None, IsTrue, ◌≤◌}
 use Rattle.warp_process.specs.declared.entry.Entry.{Entry}
 use Rattle.warp_process.specs.declared.message.Message.{Message}

@@ -4,7 +4,7 @@ use Rattle.std.specs.Borrow.{Bor}
 use Rattle.std.specs.declared.alloc.Global.{Global}
 use Rattle.gate_vcd.specs.declared.source.Source.{Source as Held}
 use Rattle.gate_vcd.specs.Changes.{Source}
-use Rattle.gate_vcd.specs.Inner.Known.{source}
+use Rattle.gate_vcd.specs.Shown.Known.{source}
 use Rattle.vcd_bits.specs.declared.table.Table.{Table}
 use Rattle.vcd_bits.specs.Names.{Bit}
 

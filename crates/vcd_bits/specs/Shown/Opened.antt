@@ -3,11 +3,11 @@ use Rattle.std.specs.Prelude.{◌≡◌, ℕ, List, Option, None, Result, Ok, Er
 use Rattle.gate_vcd.specs.declared.fault.StimFault.{StimFault}
 use Rattle.gate_vcd.specs.Tokens.{Token}
 use Rattle.gate_vcd.specs.Reading.{Fails}
-use Rattle.gate_vcd.specs.Inner.Commands.{variables}
+use Rattle.gate_vcd.specs.Shown.Commands.{variables}
 use Rattle.vcd_bits.specs.declared.dump.Dump.{Dump}
 use Rattle.vcd_bits.specs.Scopes.{Scoped, declaring, nothing_declared}
 use Rattle.vcd_bits.specs.Bits.{bits_declared}
-use Rattle.vcd_bits.specs.Inner.Tables.{bits_in}
+use Rattle.vcd_bits.specs.Shown.Tables.{bits_in}
 
 -- what is kept of these declarations, with the bits of a scope
 pub record IsOpened (asked : Option (List ℕ)) (s : Scoped) (d : Dump) : Type 0 where

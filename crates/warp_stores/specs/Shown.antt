@@ -1,0 +1,6 @@
+-- What contracts and views of this crate speak of: what its types show of what they hold, and what its calls do with that.
+pub mod Least
+pub mod Lists
+pub mod StopBits
+pub mod Stops
+pub mod Words
