@@ -1,6 +1,6 @@
 -- What workers have done in a round, visit by visit, and what comes of it at the round's end.
 use Rattle.std.proofs.Common.{◌≡◌, ℕ, zero, suc, ◌<◌, ◌≤◌, ◌*◌, ◌⊎◌, inl, inr, min, true, List, [], ◌∷◌, ◌++◌, All, length, fold, Option, Some, None, Err, refl, sym, ap, ◌∙◌, subst, arith, length-append}
-use Rattle.std.proofs.lemmas.List.Elements.{All-nil, All-head, All-tail, All-push}
+use Rattle.std.proofs.lemmas.List.Elements.{All-nil, All-head, All-tail, All-push, All-append}
 use Rattle.std.proofs.lemmas.List.Sums.{fold-append}
 use Rattle.std.proofs.lemmas.Bool.{true≢false}
 use Rattle.std.proofs.Math.Nat.{zero-mul, mul-one}
@@ -16,7 +16,7 @@ use Rattle.warp_rounds.specs.Words.{never}
 use Rattle.warp_rounds.specs.Seats.{RoundId, RoundView, SeatView, empty_seat, least_of, IsEnd, IsUnmarked}
 use Rattle.warp_rounds.specs.Visit.{IsVisit, IsFaultyVisit}
 use Rattle.warp_rounds.specs.Runs.{IsStall, IsBlockFault}
-use Rattle.warp_rounds.specs.Inner.Work.{IsUndelivered, Visited, IsVisited, HasPlayed, IsWorkFault, IsPlayedOut, IsOver, HasLaps, IsStartFault, IsRoundFault}
+use Rattle.warp_rounds.specs.Inner.Work.{IsUndelivered, Visited, IsVisited, lowered, least_told, AreVisits, HasPlayed, IsWorkFault, IsPlayedOut, IsOver, HasLaps, IsStartFault, IsRoundFault}
 
 -- ---- faults
 
@@ -63,28 +63,43 @@ pub visited_none : (round : RoundId) (floor window : ℕ) (s : SeatView) → s �
 visited_none round floor window s is = record {
   visits = [];
   visited = record { ours = ap (λ (v : SeatView). v.round) is; made = All-nil (IsVisited floor window); told = ap (λ (v : SeatView). min v.least never) is };
-  each = ap (λ (v : SeatView). length v.draws) (sym is);
+  each = omega (arith, ap (λ (v : SeatView). length v.draws) is);
 }
 
 min_assoc : (a b c : ℕ) → min a (min b c) ≡ min (min a b) c
 min_assoc a b c = omega arith
 
--- one more: a block is drawn, and the time that its visit told is kept to be reported
-pub visited_more : (round : RoundId) (floor window block kept time : ℕ) (sent : List Message) (s drawn : SeatView) → HasPlayed round floor window (record s { least = min s.least kept }) →
-    drawn ≡ record s { draws = s.draws ++ block ∷ [] } → IsVisit floor window [] sent time →
-    HasPlayed round floor window (record drawn { least = min drawn.least (min kept time) })
-visited_more round floor window block kept time sent s drawn before draw visit =
-    let v : Visited = record { sent = sent; least = time } in
+-- one visit
+pub one_visit : (floor window least : ℕ) (sent : List Message) → IsVisit floor window [] sent least → AreVisits floor window least
+one_visit floor window least sent visit =
+    let v : Visited = record { sent = sent; least = least } in
+    record { visits = v ∷ []; some = omega arith; made = All-push (IsVisited floor window) [] v (All-nil (IsVisited floor window)) visit; told = λ time. refl }
+
+-- some, and more
+pub both_visits : (floor window least more : ℕ) → AreVisits floor window least → AreVisits floor window more → AreVisits floor window (min least more)
+both_visits floor window least more first second = record {
+  visits = first.visits ++ second.visits;
+  some = omega (arith, length-append first.visits second.visits, first.some);
+  made = All-append (IsVisited floor window) first.visits second.visits first.made second.made;
+  told = λ time. fold-append (λ (n : ℕ) (u : Visited). min n u.least) time first.visits second.visits
+      ∙ (ap (λ n. lowered n second.visits) (first.told time) ∙ (second.told (min time least) ∙ sym (min_assoc time least more)));
+}
+
+-- a block is drawn, and the least time that visits told is kept to be reported
+pub visited_more : (round : RoundId) (floor window block kept least : ℕ) (s drawn : SeatView) → HasPlayed round floor window (record s { least = min s.least kept }) →
+    drawn ≡ record s { draws = s.draws ++ block ∷ [] } → AreVisits floor window least →
+    HasPlayed round floor window (record drawn { least = min drawn.least (min kept least) })
+visited_more round floor window block kept least s drawn before draw more =
     let draws : drawn.draws ≡ s.draws ++ block ∷ [] = ap (λ (u : SeatView). u.draws) draw in
     record {
-      visits = before.visits ++ v ∷ [];
+      visits = before.visits ++ more.visits;
       visited = record {
         ours = ap (λ (u : SeatView). u.round) draw ∙ before.visited.ours;
-        made = All-push (IsVisited floor window) before.visits v before.visited.made visit;
-        told = ap (λ (u : SeatView). min u.least (min kept time)) draw ∙ (min_assoc s.least kept time ∙ (ap (λ n. min n time) before.visited.told
-            ∙ sym (fold-append (λ (n : ℕ) (u : Visited). min n u.least) never before.visits (v ∷ []))));
+        made = All-append (IsVisited floor window) before.visits more.visits before.visited.made more.made;
+        told = ap (λ (u : SeatView). min u.least (min kept least)) draw ∙ (min_assoc s.least kept least ∙ (ap (λ n. min n least) before.visited.told
+            ∙ (sym (more.told (least_told before.visits)) ∙ sym (fold-append (λ (n : ℕ) (u : Visited). min n u.least) never before.visits more.visits))));
       };
-      each = omega (arith, length-append before.visits (v ∷ []), length-append s.draws (block ∷ []), ap length draws, before.each);
+      each = omega (arith, length-append before.visits more.visits, length-append s.draws (block ∷ []), ap length draws, before.each, more.some);
     }
 
 -- no block is left, and the time that was kept is reported
@@ -100,7 +115,7 @@ visited_over blocks round floor window kept s drawn new fault before mark report
           made = before.visited.made;
           told = ap (λ (u : SeatView). u.least) report ∙ (ap (λ (u : SeatView). min u.least kept) mark ∙ before.visited.told);
         };
-        each = before.each ∙ sym (ap (λ (u : SeatView). length u.draws) report ∙ ap (λ (u : SeatView). length u.draws) mark);
+        each = omega (arith, before.each, ap (λ (u : SeatView). length u.draws) report, ap (λ (u : SeatView). length u.draws) mark);
       },
       ap (λ (u : SeatView). u.marked) report ∙ ap (λ (u : SeatView). u.marked) mark,
     ) in

@@ -9,7 +9,8 @@
 //!
 //! [`run`] plays rounds until nothing is left, and answers the circuit's waves. A round of it goes over the blocks in laps: a number
 //! that is drawn stands for the block that it leaves when it is divided by the number of blocks, so that a block may take
-//! several turns between two floors. [`run_watched`] plays the same, counts what its blocks do, and tells a [`Watch`] how far it
+//! several turns between two floors; where turns are short, a worker goes on with blocks near by that have something to do, before it
+//! draws again. [`run_watched`] plays the same, counts what its blocks do, and tells a [`Watch`] how far it
 //! has come.
 //!
 //! Times are whole numbers in units of the stimulus's timescale. The definitions stand in `specs/`: `Turn` says what a
@@ -22,12 +23,14 @@
 
 mod counts;
 mod desk;
+mod drawn;
 mod fault;
 mod gate;
 mod hand;
 mod pace;
 mod round;
 mod runs;
+mod signs;
 mod site;
 mod turns;
 mod watch;

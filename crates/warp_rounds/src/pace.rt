@@ -32,6 +32,16 @@ const ENOUGH: u64 = 1 << 19;
 /// How often a round goes over the blocks at most.
 const MOST_LAPS: u32 = 256;
 
+/// A turn with less work is short. Where a block that is drawn takes a short one, its worker goes over the blocks of a group in short
+/// turns, so that what they tell one another needn't wait for the next lap.
+const SHORT: u64 = 1 << 7;
+
+/// So much work is done for one draw at most where turns are short.
+const DRAW: u64 = 1 << 11;
+
+/// So many neighbouring blocks are a group at most.
+const GROUP: usize = 16;
+
 /// The logs of so many nets stand for those of all.
 const SAMPLE: usize = 16;
 
@@ -97,11 +107,23 @@ fn known(delays: &[u32], block: u32) -> Option<u32> {
     }
 }
 
-/// How far a turn goes: about up to a time, and about so many changes.
+/// How far a turn goes: about up to a time, and about so many changes; and up to when nothing will be taken back that its block was
+/// told.
 #[derive(Clone, Copy)]
 pub(crate) struct Reach {
     pub(crate) until: u64,
     pub(crate) changes: u64,
+    pub(crate) sure: u64,
+}
+
+impl Reach {
+    /// As far, but in a short turn.
+    pub(crate) fn short(self) -> Reach {
+        Reach {
+            changes: self.changes.min(SHORT),
+            ..self
+        }
+    }
 }
 
 /// How many event times a block had lately, in how long, and how many changes it made at them; and for how long it had none
@@ -256,6 +278,11 @@ impl Tally {
         }
     }
 
+    /// Whether turns did something, all were short, and they may go on for the same draw.
+    pub(crate) fn is_short(&self) -> bool {
+        self.work > 0 && self.most < SHORT && self.work < DRAW
+    }
+
     /// Whether one worker alone had better do as much again, where the blocks were gone over so often: it would be little even if
     /// they were gone over as often as can be, or one turn had most of it.
     pub(crate) fn is_for_one(self, laps: u32) -> bool {
@@ -336,20 +363,28 @@ impl Lead {
     }
 }
 
-/// The pace of a round, and about how far all its blocks have come.
+/// The pace of a round, how many neighbouring blocks are a group, and about how far all blocks have come.
 #[derive(Drop)]
 pub(crate) struct Pace {
     lead: Lead,
+    group: usize,
     front: AtomicU64,
 }
 
 impl Pace {
-    /// The pace of a round at a floor.
-    pub(crate) fn at(lead: Lead, floor: u64) -> Pace {
+    /// The pace of a round at a floor, over so many blocks by so many workers. There are as many groups as workers at least.
+    pub(crate) fn at(lead: Lead, floor: u64, blocks: usize, workers: u32) -> Pace {
+        let group = (blocks / workers.max(1) as usize).clamp(1, GROUP);
         Pace {
             lead,
+            group,
             front: AtomicU64::new(floor),
         }
+    }
+
+    /// How many neighbouring blocks are a group.
+    pub(crate) fn group(&self) -> usize {
+        self.group
     }
 
     /// How often a round of so many workers goes over the blocks.
@@ -361,17 +396,22 @@ impl Pace {
     pub(crate) fn meet(&self, sites: &[Site]) {
         let mut front = u64::MAX;
         for site in sites {
-            front = front.min(site.settled());
+            front = front.min(site.signs().settled());
         }
         self.front.fetch_max(front, SeqCst);
     }
 
+    /// Up to when a turn goes, whoever may still take back what its block was told.
+    pub(crate) fn until(&self) -> u64 {
+        self.front.load(SeqCst).saturating_add(self.lead.time)
+    }
+
     /// How far a turn goes, of a block that nothing is taken back from up to a time.
     pub(crate) fn reach(&self, sure: u64) -> Reach {
-        let front = self.front.load(SeqCst);
         Reach {
-            until: front.saturating_add(self.lead.time).max(sure),
+            until: self.until().max(sure),
             changes: self.lead.changes,
+            sure,
         }
     }
 }

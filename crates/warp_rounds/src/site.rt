@@ -11,11 +11,10 @@ use crate::counts;
 use crate::counts::Counts;
 use crate::gate::Gate;
 use crate::pace::{Density, Reach, Teller, logged};
+use crate::signs::Signs;
 use crate::turns::{TurnReport, Turned, least_pending, turn_through};
 use std::alloc::{AllocError, Global};
 use std::mem;
-use std::sync::atomic::AtomicU64;
-use std::sync::atomic::Ordering::SeqCst;
 use std::sync::{Mutex, Wait};
 use warp_block::{Block, BlockFault, Look, Message};
 
@@ -28,29 +27,10 @@ use warp_block::{Block, BlockFault, Look, Message};
 pub struct Site {
     held: Mutex<Held>,
     inbox: Mutex<Vec<Message>>,
-    /// Up to when nothing will be taken back that the block tells, as its last visit knew. It sets the pace alone.
-    settled: Settled,
+    /// What others see of it. It sets the pace alone.
+    signs: Signs,
     /// Who tells the block, as far as that is known.
     tellers: Vec<Teller>,
-}
-
-/// A time that other visits read. There is room around it, so that they don't wait for who writes what lies beside it: processors pass
-/// memory on in lines of 64 bytes.
-#[derive(Drop)]
-struct Settled {
-    before: [u64; 8],
-    time: AtomicU64,
-    after: [u64; 8],
-}
-
-impl Settled {
-    fn at_start() -> Settled {
-        Settled {
-            before: [0; 8],
-            time: AtomicU64::new(0),
-            after: [0; 8],
-        }
-    }
 }
 
 /// What a site's lock keeps: the block, and what its visits leave to one another.
@@ -196,6 +176,15 @@ fn rest(
     })
 }
 
+/// The least time of some messages; the greatest u64 of none.
+fn least_time(messages: &[Message]) -> u64 {
+    let mut least = u64::MAX;
+    for message in messages {
+        least = least.min(message.time);
+    }
+    least
+}
+
 impl Site {
     /// The block behind its lock, and no message in the inbox. It takes no memory: what the inbox grows by is asked of the
     /// allocator later.
@@ -221,7 +210,7 @@ impl Site {
                 messages: Vec::new(alloc),
             }),
             inbox: Mutex::new(Vec::new(alloc)),
-            settled: Settled::at_start(),
+            signs: Signs::at_start(),
             tellers,
         }
     }
@@ -232,33 +221,49 @@ impl Site {
         let mut sure = u64::MAX;
         for teller in &self.tellers {
             if let Some(site) = sites.get(teller.block as usize) {
-                let settled = site.settled().max(floor);
+                let settled = site.signs.settled().max(floor);
                 sure = sure.min(settled.saturating_add(u64::from(teller.delay)));
             }
         }
         sure
     }
 
-    /// Up to when nothing will be taken back that the block tells, as its last visit knew.
-    pub(crate) fn settled(&self) -> u64 {
-        self.settled.time.load(SeqCst)
+    /// Whether the block has something to do before a time, or before its tellers may take something back, and nobody visits it.
+    pub(crate) fn has_work(&self, sites: &[Site], floor: u64, until: u64) -> bool {
+        let first = self.signs.first();
+        !self.signs.is_visited() && (first < until || self.is_sure(sites, floor, first))
     }
 
-    /// Says up to when nothing will be taken back that the block tells. All that it told below is in the inboxes.
-    pub(crate) fn settle(&self, until: u64) {
-        self.settled.time.store(until, SeqCst);
+    /// Whether nothing will be taken back up to a time, and at it, that the block was told.
+    fn is_sure(&self, sites: &[Site], floor: u64, time: u64) -> bool {
+        for teller in &self.tellers {
+            if let Some(site) = sites.get(teller.block as usize) {
+                let settled = site.signs.settled().max(floor);
+                if settled.saturating_add(u64::from(teller.delay)) <= time {
+                    return false;
+                }
+            }
+        }
+        time < u64::MAX
+    }
+
+    /// What others see of it.
+    pub(crate) fn signs(&self) -> &Signs {
+        &self.signs
     }
 
     /// Puts a message into the inbox: it is in flight until a visit takes it. The error is a refused growth; after it
     /// the inbox is as before.
     pub fn put<R: Wait>(&self, rt: &R, message: Message) -> Result<(), AllocError> {
         self.inbox.lock(rt).push(message)?;
+        self.signs.has_come(message.time);
         Ok(())
     }
 
     /// Puts some messages into the inbox, all or, where a growth is refused, none.
     pub(crate) fn put_all<R: Wait>(&self, rt: &R, messages: &[Message]) -> Result<(), AllocError> {
         self.inbox.lock(rt).extend_from_slice(messages)?;
+        self.signs.has_come(least_time(messages));
         Ok(())
     }
 
@@ -301,9 +306,13 @@ impl Site {
         let mut guard = self.held.lock(rt);
         let held = &mut *guard;
         gate.entered(&held.block);
+        self.signs.begins();
         mem::swap(&mut held.messages, &mut *self.inbox.lock(rt));
         let turned = held.turn(floor, window, reach, out);
         gate.leaving(&held.block);
+        if let Ok(turned) = &turned {
+            self.signs.ends(turned.next);
+        }
         turned
     }
 
@@ -332,7 +341,7 @@ impl Site {
         let Site {
             held,
             inbox: _,
-            settled: _,
+            signs: _,
             tellers: _,
         } = self;
         let Held {

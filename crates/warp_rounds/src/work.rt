@@ -9,6 +9,7 @@ ghost use Rattle.warp_rounds.specs.declared.fault.RunFault.TheVariants as fault;
 ghost use Rattle.warp_rounds.specs.Inner.Work.{IsReady, HasLaps, HasWorked, IsPlayedOut, IsPromised, IsWorkFault, IsStartFault, IsRoundFault};
 
 use crate::desk::Desk;
+use crate::drawn::{Played, play_drawn};
 use crate::fault::RunFault;
 use crate::gate::Gate;
 use crate::pace::{Lead, Pace, Tally};
@@ -45,15 +46,6 @@ impl<'a> Promise<Worker> for OfRound<'a> {
     ghost kept_by = { λ promise worker. HasWorked promise.blocks promise.round.now.round promise.floor promise.window worker };
 }
 
-/// What a round tells.
-#[derive(Clone, Copy)]
-pub struct Played {
-    /// The least time that the turns report.
-    pub least: u64,
-    /// What the turns did.
-    pub tally: Tally,
-}
-
 /// Plays a round: every block takes some turns at the floor, each of up to `window` event times, about as far as its tellers or
 /// the lead allow. So many workers let them, the first in the caller's thread and each other in one of its own. Their desks
 /// are taken from `desks`, as far as there are any, and put back. The least time that is told is above the floor.
@@ -76,7 +68,7 @@ pub fn play_round<G: Gate + Sync, R: Threads + Wait + Sync>(
     ensures later { IfOk result (λ played. floor < played.least) }
     ensures fault { IfErr result (IsRoundFault (length sites.now) workers floor window) }
 {
-    let pace = Pace::at(lead, floor);
+    let pace = Pace::at(lead, floor, sites.len(), workers);
     play_laps(rt, alloc, sites, desks, workers, floor, window, &pace, gate)
 }
 
@@ -275,11 +267,10 @@ fn work<G: Gate, R: Wait>(
             round.report(&mut worker.seat, least);
             return worker;
         };
-        let block = block_of(number, sites.len());
-        match play(
+        match play_drawn(
             rt,
             sites,
-            block,
+            number,
             &mut worker.desk,
             floor,
             window,
@@ -297,44 +288,4 @@ fn work<G: Gate, R: Wait>(
         }
     }
     unreachable!()
-}
-
-// The block that a number stands for: the blocks are gone over again and again.
-fn block_of(number: u32, blocks: usize) -> u32
-    requires { 0 < blocks }
-    ensures { result < blocks }
-{
-    (number as usize % blocks) as u32
-}
-
-// Lets a block take a turn, and delivers what it sent. As a lap begins, all are asked how far they have come.
-fn play<G: Gate, R: Wait>(
-    rt: &R,
-    sites: &[Site],
-    block: u32,
-    desk: &mut Desk,
-    floor: u64,
-    window: u32,
-    pace: &Pace,
-    gate: &G,
-) -> Result<Played, RunFault>
-    requires { block < length sites.now }
-    ensures visit { IfOk result (λ played. (sent : List Message) × IsVisit floor window [] sent played.least) }
-    ensures fault { IfErr result (IsWorkFault (length sites.now) floor window) }
-{
-    desk.sent.clear();
-    let site = &sites[block as usize];
-    let sure = site.sure(sites, floor);
-    if block == 0 {
-        pace.meet(sites);
-    }
-    let reach = Some(pace.reach(sure));
-    let turned = site.visit_through(rt, floor, window, reach, gate, &mut desk.sent)?;
-    let tally = Tally::of(&turned, desk.sent.len());
-    desk.deliver(rt, sites)?;
-    site.settle(turned.next.unwrap_or(sure).min(sure));
-    Ok(Played {
-        least: turned.report.least,
-        tally,
-    })
 }

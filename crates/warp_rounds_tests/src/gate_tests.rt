@@ -232,10 +232,16 @@ fn a_block_waits_for_what_it_is_told(rt: HostRuntime) -> Result<(), Fail> {
     Ok(())
 }
 
-/// C of block 0 stays Zero, while B swings there from 1 on. Block 1 reads C, and has nothing to do from 2 on until P rises.
-const IDLE: &str = "INPUT(P)\nINPUT(Q)\nB = NAND(B, Q)\nC = AND(B, P)\nA = AND(C, P)\n";
+/// C of block 0 stays Zero, while the other nets swing there from 1 on: some thousand changes, more than a worker makes for one draw.
+/// Block 1 reads C, and has nothing to do from 2 on until P rises.
+const IDLE: &str = "INPUT(P)\nINPUT(Q)\nB = NAND(B, Q)\nC = AND(B, P)\nA = AND(C, P)
+D = NAND(D, Q)\nE = NAND(E, Q)\nF = NAND(F, Q)\nG = NAND(G, Q)\nH = NAND(H, Q)\nI = NAND(I, Q)\nJ = NAND(J, Q)
+K = NAND(K, Q)\nL = NAND(L, Q)\nM = NAND(M, Q)\nN = NAND(N, Q)\nO = NAND(O, Q)\nR = NAND(R, Q)\nS = NAND(S, Q)
+";
 
-const IDLE_SETTINGS: &str = "[block]\nB = 0\nC = 0\nA = 1\n";
+const IDLE_SETTINGS: &str = "[block]\nB = 0\nC = 0\nA = 1\nD = 0\nE = 0\nF = 0\nG = 0\nH = 0\nI = 0
+J = 0\nK = 0\nL = 0\nM = 0\nN = 0\nO = 0\nR = 0\nS = 0
+";
 
 const IDLE_STIMULUS: &str = "$var wire 1 p P $end $var wire 1 q Q $end
 $enddefinitions $end
@@ -287,6 +293,6 @@ fn a_turn_may_rest_past_its_floor_alone(rt: HostRuntime) -> Result<(), Fail> {
     drop(circuit);
     ran?;
     assert!(rt; !gate.left.load(SeqCst));
-    assert!(rt; gate.rests.load(SeqCst) > 2);
+    assert!(rt; gate.rests.load(SeqCst) > 0);
     Ok(())
 }

@@ -34,9 +34,20 @@ pub record Visited : Type 0 where
 abbrev pub IsVisited : ℕ → ℕ → Visited → Type 0
 IsVisited floor window v = IsVisit floor window [] v.sent v.least
 
+-- a time, lowered to what each of some visits told
+abbrev pub lowered : ℕ → List Visited → ℕ
+lowered time visits = fold (λ t v. min t v.least) time visits
+
 -- the least time that visits told, `never` if there is none
 abbrev pub least_told : List Visited → ℕ
-least_told visits = fold (λ time v. min time v.least) never visits
+least_told visits = lowered never visits
+
+-- Some visits, one at least, and the least time that they told.
+pub record AreVisits (floor window least : ℕ) : Type 0 where
+  pub visits : List Visited
+  pub some : 0 < length visits
+  pub made : All (IsVisited floor window) visits
+  pub told : (time : ℕ) → lowered time visits ≡ min time least
 
 -- A seat of the round whose worker made these visits, and reported the time that each told.
 pub record HasVisited (round : RoundId) (floor window : ℕ) (s : SeatView) (visits : List Visited) : Type 0 where
@@ -44,11 +55,11 @@ pub record HasVisited (round : RoundId) (floor window : ℕ) (s : SeatView) (vis
   pub made : All (IsVisited floor window) visits
   pub told : s.least ≡ least_told visits
 
--- the worker made a visit for each block that its seat drew
+-- the worker made a visit for each block that its seat drew, if not more
 pub record HasPlayed (round : RoundId) (floor window : ℕ) (s : SeatView) : Type 0 where
   pub visits : List Visited
   pub visited : HasVisited round floor window s visits
-  pub each : length visits ≡ length s.draws
+  pub each : length s.draws ≤ length visits
 
 -- a worker that has done nothing yet in a round
 pub record IsReady (round : RoundId) (w : Worker) : Type 0 where

@@ -7,7 +7,7 @@ loop-init g c = let played = visited_none _ c.args.floor c.args.window _ c.requi
 
 pub loop-preserved : goal.loop-preserved
 loop-preserved g c =
-    let played = visited_more _ _ _ _ _ _ _ _ _ c.loop.invariant.played c.in-Some-draw.ensures.drawn c.in-Ok.ensures.visit.1 in
+    let played = visited_more _ _ _ _ _ _ _ _ c.loop.invariant.played c.in-Some-draw.ensures.drawn c.in-Ok.ensures.visits in
     search rules
 
 pub returns-in_default : goal.returns-in_default
@@ -16,5 +16,5 @@ returns-in_default g c = visited_over _ _ _ _ _ _ _ _ _ c.loop.invariant.played 
 pub returns-in-Err : goal.returns-in-Err
 returns-in-Err g c = visited_faulty _ _ _ _ _ _ _ _ _ c.loop.invariant.played c.in-Some-draw.ensures.drawn c.in-Err.ensures.fault
 
-pub block_of-block-requires : goal.block_of-block-requires
-block_of-block-requires g c = some_block _ _ _ c.requires.count c.in-Some-draw.ensures.below
+pub play_drawn-requires : goal.play_drawn-requires
+play_drawn-requires g c = some_block _ _ _ c.requires.count c.in-Some-draw.ensures.below

@@ -1,0 +1,201 @@
+//! What a worker does for a draw: the block that was drawn takes a turn, and where that is short, so do those near it that have
+//! something to do.
+ghost use Rattle.std.specs.Prelude.{◌≡◌, ◌<◌, min, IfOk, IfErr, IfSome, length};
+ghost use Rattle.warp_rounds.specs.Inner.Work.{AreVisits, IsWorkFault};
+
+use crate::desk::Desk;
+use crate::fault::RunFault;
+use crate::gate::Gate;
+use crate::pace::{Pace, Reach, Tally};
+use crate::site::Site;
+use std::sync::Wait;
+
+/// So many blocks are looked at for a draw at most.
+const LOOKS: u32 = 1 << 10;
+
+/// What turns tell.
+#[derive(Clone, Copy)]
+pub struct Played {
+    /// The least time that they report.
+    pub least: u64,
+    /// What they did.
+    pub tally: Tally,
+}
+
+impl Played {
+    /// Both together.
+    fn with(self, other: Played) -> Played
+        ensures { result.least ≡ min self.least other.least }
+    {
+        Played {
+            least: self.least.min(other.least),
+            tally: self.tally.with(other.tally),
+        }
+    }
+}
+
+/// Lets the block that a number stands for take a turn, and where that is short, so do the blocks of a group that have something to
+/// do, again and again. What they send is delivered. As a lap begins, all are asked how far they have come.
+pub(crate) fn play_drawn<G: Gate, R: Wait>(
+    rt: &R,
+    sites: &[Site],
+    number: u32,
+    desk: &mut Desk,
+    floor: u64,
+    window: u32,
+    pace: &Pace,
+    gate: &G,
+) -> Result<Played, RunFault>
+    requires { 0 < length sites.now }
+    ensures visits { IfOk result (λ played. AreVisits floor window played.least) }
+    ensures fault { IfErr result (IsWorkFault (length sites.now) floor window) }
+{
+    let block = block_of(number, sites.len());
+    if block == 0 {
+        pace.meet(sites);
+    }
+    let reach = pace.reach(sites[block].sure(sites, floor));
+    let drawn = play(rt, sites, block, desk, floor, window, reach, gate)?;
+    if !drawn.tally.is_short() {
+        return Ok(drawn);
+    }
+    let Some(first) = claimed(sites, number, pace.group()) else {
+        return Ok(drawn);
+    };
+    let played = go_over(rt, sites, first, drawn, desk, floor, window, pace, gate);
+    sites[first].signs().release();
+    played
+}
+
+// The block that a number stands for: the blocks are gone over again and again.
+fn block_of(number: u32, blocks: usize) -> usize
+    requires { 0 < blocks }
+    ensures { result < blocks }
+{
+    number as usize % blocks
+}
+
+// Claims a group of blocks: that of a number, or where another worker has it, one of the next. The answer is its first block.
+fn claimed(sites: &[Site], number: u32, group: usize) -> Option<usize>
+    ensures { IfSome result (λ first. first < length sites.now) }
+{
+    let groups = sites.len().div_ceil(group.max(1));
+    for tried in 0..groups {
+        let next = (number as usize).wrapping_add(tried) % groups;
+        let first = next.saturating_mul(group);
+        if let Some(site) = sites.get(first) {
+            if site.signs().claim() {
+                return Some(first);
+            }
+        }
+    }
+    None
+}
+
+// Lets the blocks of a group take short turns, as long as one of them has something to do within the pace's reach, and all turns are
+// short, those before included.
+fn go_over<G: Gate, R: Wait>(
+    rt: &R,
+    sites: &[Site],
+    first: usize,
+    before: Played,
+    desk: &mut Desk,
+    floor: u64,
+    window: u32,
+    pace: &Pace,
+    gate: &G,
+) -> Result<Played, RunFault>
+    requires first { first < length sites.now }
+    requires before { AreVisits floor window before.least }
+    ensures visits { IfOk result (λ played. AreVisits floor window played.least) }
+    ensures fault { IfErr result (IsWorkFault (length sites.now) floor window) }
+{
+    let end = first.saturating_add(pace.group());
+    let mut played = before;
+    let mut block = first;
+    let mut idle: usize = 0;
+    for _ in 0..LOOKS {
+        let more = play_near(rt, sites, block, played, desk, floor, window, pace, gate)?;
+        idle = idle_after(idle, played, more);
+        played = more;
+        if idle == pace.group() || !played.tally.is_short() {
+            break;
+        }
+        block = after(block, first, end, sites.len());
+    }
+    Ok(played)
+}
+
+// How many blocks one behind the other did nothing, where so many had before, and this is told before and after one.
+fn idle_after(idle: usize, before: Played, after: Played) -> usize {
+    if after.tally.work > before.tally.work {
+        return 0;
+    }
+    idle.saturating_add(1)
+}
+
+// Lets a block take a short turn, if it has something to do within the pace's reach. The answer is of this turn and those before.
+fn play_near<G: Gate, R: Wait>(
+    rt: &R,
+    sites: &[Site],
+    block: usize,
+    before: Played,
+    desk: &mut Desk,
+    floor: u64,
+    window: u32,
+    pace: &Pace,
+    gate: &G,
+) -> Result<Played, RunFault>
+    requires block { block < length sites.now }
+    requires before { AreVisits floor window before.least }
+    ensures visits { IfOk result (λ played. AreVisits floor window played.least) }
+    ensures fault { IfErr result (IsWorkFault (length sites.now) floor window) }
+{
+    let site = &sites[block];
+    if !site.has_work(sites, floor, pace.until()) {
+        return Ok(before);
+    }
+    let reach = pace.reach(site.sure(sites, floor)).short();
+    let turn = play(rt, sites, block, desk, floor, window, reach, gate)?;
+    Ok(before.with(turn))
+}
+
+// The block after one in a group, which the first one is behind the last.
+fn after(block: usize, first: usize, end: usize, blocks: usize) -> usize
+    requires { first < blocks }
+    ensures { result < blocks }
+{
+    let next = block.saturating_add(1);
+    if next < end && next < blocks {
+        return next;
+    }
+    first
+}
+
+// Lets a block take a turn, and delivers what it sent.
+fn play<G: Gate, R: Wait>(
+    rt: &R,
+    sites: &[Site],
+    block: usize,
+    desk: &mut Desk,
+    floor: u64,
+    window: u32,
+    reach: Reach,
+    gate: &G,
+) -> Result<Played, RunFault>
+    requires { block < length sites.now }
+    ensures visits { IfOk result (λ played. AreVisits floor window played.least) }
+    ensures fault { IfErr result (IsWorkFault (length sites.now) floor window) }
+{
+    desk.sent.clear();
+    let site = &sites[block];
+    let turned = site.visit_through(rt, floor, window, Some(reach), gate, &mut desk.sent)?;
+    let tally = Tally::of(&turned, desk.sent.len());
+    desk.deliver(rt, sites)?;
+    let next = turned.next.unwrap_or(u64::MAX);
+    site.signs().settle(next.min(reach.sure));
+    Ok(Played {
+        least: turned.report.least,
+        tally,
+    })
+}
