@@ -1,9 +1,9 @@
 -- Rows by time: what a change of one leaves.
-use Rattle.std.proofs.Common.{◌≡◌, ◌≢◌, ℕ, ◌+◌, ◌<◌, ◌≤◌, ◌&&◌, ◌==◌, Bool, true, false, cond, Option, Some, None, List, [], refl, ap, sym, ◌∙◌, subst, arith, inl, inr, Vec, is_eq, nat_cmp, is_some, IsSome, All, get_or}
+use Rattle.std.proofs.Common.{◌≡◌, ◌≢◌, ℕ, ◌+◌, ◌<◌, ◌≤◌, ◌&&◌, ◌==◌, Bool, true, false, cond, Option, Some, None, List, [], refl, ap, sym, ◌∙◌, subst, arith, inl, inr, is_eq, nat_cmp, is_some, IsSome, All, get_or}
 use Rattle.std.proofs.lemmas.Bool.Decides.{nat_tests}
-use Rattle.std.specs.declared.alloc.Global.{Global}
 use Rattle.std.specs.BTreeMap.{BTreeMap, get, is_at, IsOrdered, WritesThrough}
 use Rattle.std.proofs.lemmas.Bool.{cases_eq, cases_lt, cases_Bool, eq-eqb, ne_eqb}
+use Rattle.smallvec.specs.SmallVec.{SmallVec}
 use Rattle.warp_process.specs.declared.entry.Entry.{Entry}
 use Rattle.warp_process.specs.declared.by_time.Rows.{Rows}
 use Rattle.warp_process.specs.Entries.{no_messages}
@@ -15,7 +15,7 @@ pub same_time : (t u : ℕ) → is_eq (nat_cmp t u) ≡ (u == t)
 same_time t u = grind (arith, nat_tests)
 
 -- a map that has another value at a key
-pub row_set : (old new : Rows) (time : ℕ) (v : Vec Standing Global) → ((q : ℕ) → get nat_cmp new.times q ≡ cond (is_at (nat_cmp time) q) (Some v) (get nat_cmp old.times q)) →
+pub row_set : (old new : Rows) (time : ℕ) (v : SmallVec Standing) → ((q : ℕ) → get nat_cmp new.times q ≡ cond (is_at (nat_cmp time) q) (Some v) (get nat_cmp old.times q)) →
     (t : ℕ) → row_at new t ≡ cond (t == time) v.items (row_at old t)
 row_set old new time v set t =
     ap row_in (set t ∙ ap (λ b. cond b (Some v) (get nat_cmp old.times t)) (same_time time t)) ∙ go (t == time)
@@ -57,12 +57,12 @@ module _ (old new : Rows) (time : ℕ) (row : List Standing) (set : (t : ℕ) �
 pub row_none : (rows : Rows) (time : ℕ) → is_some (get nat_cmp rows.times time) ≡ false → row_at rows time ≡ []
 row_none rows time none = go (get nat_cmp rows.times time) none
   where
-    go : (o : Option (Vec Standing Global)) → is_some o ≡ false → row_in o ≡ []
+    go : (o : Option (SmallVec Standing)) → is_some o ≡ false → row_in o ≡ []
     go None e = refl
     go (Some v) e = absurd cc
 
 -- what is written through a row that is there
-module _ (old : Rows) (times : BTreeMap ℕ (Vec Standing Global)) (time : ℕ) (was v : Vec Standing Global) (found : Some was ≡ get nat_cmp old.times time) (writes : WritesThrough nat_cmp (nat_cmp time) old.times v times) where
+module _ (old : Rows) (times : BTreeMap ℕ (SmallVec Standing)) (time : ℕ) (was v : SmallVec Standing) (found : Some was ≡ get nat_cmp old.times time) (writes : WritesThrough nat_cmp (nat_cmp time) old.times v times) where
   abbrev written : Rows
   written = record { alloc = old.alloc; times = times }
 
@@ -70,7 +70,7 @@ module _ (old : Rows) (times : BTreeMap ℕ (Vec Standing Global)) (time : ℕ) 
   there = sym (ap row_in found)
 
   set : (t : ℕ) → row_at written t ≡ cond (t == time) v.items (row_at old t)
-  set = row_set old written time v (writes.3 (subst (λ (o : Option (Vec Standing Global)). IsSome o) found refl)).0
+  set = row_set old written time v (writes.3 (subst (λ (o : Option (SmallVec Standing)). IsSome o) found refl)).0
 
   pub written_rows : AreRows old → IsRow v.items → AreRows written
   written_rows are is = rows_after old written time v.items set are writes.4 is

@@ -1,7 +1,6 @@
 -- What rows, in the order of their times, have of a place: a queue.
-use Rattle.std.proofs.Common.{◌≡◌, ◌≢◌, ℕ, ◌<◌, ◌≤◌, Bool, true, false, cond, Some, None, List, [], ◌∷◌, get_or, refl, ap, sym, ◌∙◌, subst, arith, inl, inr, Vec, nat_cmp, Less, All, suc}
+use Rattle.std.proofs.Common.{◌≡◌, ◌≢◌, ℕ, ◌<◌, ◌≤◌, Bool, true, false, cond, Some, None, List, [], ◌∷◌, get_or, refl, ap, sym, ◌∙◌, subst, arith, inl, inr, nat_cmp, Less, All, suc}
 use Rattle.std.specs.Prelude.{⊤}
-use Rattle.std.specs.declared.alloc.Global.{Global}
 use Rattle.std.specs.List.{AllByRecursion}
 use Rattle.std.specs.List.Sorted.{IsStrictlySortedBy}
 use Rattle.std.specs.Map.{keys_of, lookup}
@@ -10,6 +9,7 @@ use Rattle.std.proofs.lemmas.Bool.{cases_eq, cases_lt, eq-eqb, ne_eqb, true≢fa
 use Rattle.std.proofs.lemmas.Bool.Decides.{nat_tests}
 use Rattle.std.proofs.lemmas.List.Elements.{All-cons}
 use Rattle.std.proofs.lemmas.List.Kept.{AllPairs-cons}
+use Rattle.smallvec.specs.SmallVec.{SmallVec}
 use Rattle.warp_process.specs.declared.entry.Entry.{Entry}
 use Rattle.warp_process.specs.Entries.{Received, IsQueue, entry_in, no_messages, same_entry}
 use Rattle.warp_process.specs.Rows.{Standing, entry_on}
@@ -22,7 +22,7 @@ use Rattle.warp_process.proofs.Settled.{same_entry_is, same_entry_from}
 
 -- some rows, each with its time
 abbrev pub Timed : Type 0
-Timed = ℕ × Vec Standing Global
+Timed = ℕ × SmallVec Standing
 
 -- all rows are of later times
 abbrev Late : ℕ → List Timed → Type 0

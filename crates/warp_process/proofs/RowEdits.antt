@@ -4,8 +4,9 @@ use Rattle.std.specs.List.{HoldsAt, insert, remove}
 use Rattle.std.specs.List.Sorted.{IsPartitionPoint}
 use Rattle.std.proofs.Math.Seq.{drop-cons}
 use Rattle.std.proofs.lemmas.Bool.{cases_lt, cases_eq, eq-eqb, ne_eqb}
-use Rattle.std.proofs.lemmas.List.{take_more, append-nil, get_or_default, set_split, get_or-take, get_or-drop, length-drop, length-take, take-append-drop}
-use Rattle.std.proofs.lemmas.List.Elements.{All-append, All-cons, All-take, All-drop}
+use Rattle.std.proofs.lemmas.List.{take_more, append-nil, get_or_default, set_split, get_or-take, get_or-drop, length-drop, length-take, take-append-drop, length-set, get_or-set_same, get_or-set_other}
+use Rattle.std.proofs.lemmas.List.Elements.{All-append, All-cons, All-take, All-drop, All-set}
+use Rattle.std.proofs.lemmas.List.Quantifiers.{all_pairs_remove}
 use Rattle.warp_process.specs.declared.entry.Entry.{Entry}
 use Rattle.warp_process.specs.Entries.{no_messages}
 use Rattle.warp_process.specs.Rows.{Standing, entry_on, IsRow}
@@ -79,6 +80,24 @@ inserted-row es i x row within split stands = record {
   in_order = rising-insert place_of es i x row.in_order within (λ k d lt. split.0 k d (omega arith) lt) split.1;
   kept = All-append (λ (e : Standing). e.entry ≢ no_messages) (take i es) (x ∷ drop i es) (All-take (λ (e : Standing). e.entry ≢ no_messages) i es row.kept)
       (All-cons (λ (e : Standing). e.entry ≢ no_messages) x (drop i es) stands (All-drop (λ (e : Standing). e.entry ≢ no_messages) i es row.kept));
+}
+
+pub removed-row : (es : List Standing) (i : ℕ) → IsRow es → i < length es → IsRow (remove es i)
+removed-row es i row l = record {
+  in_order = all_pairs_remove (λ (a b : Standing). a.place < b.place) es i l row.in_order;
+  kept = All-append (λ (e : Standing). e.entry ≢ no_messages) (take i es) (drop (suc i) es) (All-take (λ (e : Standing). e.entry ≢ no_messages) i es row.kept)
+      (All-drop (λ (e : Standing). e.entry ≢ no_messages) (suc i) es row.kept);
+}
+
+pub replaced-row : (es : List Standing) (i t : ℕ) (x : Standing) → IsRow es → i < length es → HoldsAt (λ e. e.place ≡ t) es i → x.place ≡ t → x.entry ≢ no_messages → IsRow (set es i x)
+replaced-row es i t x row l at same stands = record {
+  in_order = λ a b d before within.
+      let place_at : (k : ℕ) → (get_or (set es i x) k d).place ≡ (get_or es k d).place = λ k. elim (cases_eq k i) [
+        | inl e ↦ ap (λ (s : Standing). s.place) (ap (λ n. get_or (set es i x) n d) e ∙ get_or-set_same es i x d l) ∙ (same ∙ (sym (at d) ∙ ap (λ n. (get_or es n d).place) (sym e)))
+        | inr ne ↦ ap (λ (s : Standing). s.place) (get_or-set_other es i k x d ne)
+      ] in
+      omega (arith, place_at a, place_at b, row.in_order a b d before (omega (arith, within, length-set es i x)));
+  kept = All-set (λ (e : Standing). e.entry ≢ no_messages) es i x stands row.kept;
 }
 
 pub inserted-entries : (es : List Standing) (i : ℕ) (x : Standing) → Lacks es x.place → IsEdited es (insert es i x) x.place x.entry

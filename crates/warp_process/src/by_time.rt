@@ -8,17 +8,15 @@ use crate::entry::Entry;
 use crate::placed::Placed;
 use crate::row;
 use gate_values::Logic;
+use smallvec::SmallVec;
 use std::alloc::{AllocError, Global};
 use std::collections::BTreeMap;
-
-/// So many entries a row has room for at first.
-const FEW: usize = 4;
 
 /// For each time the row of the places that have an entry at it.
 #[derive(Debug, Drop)]
 pub(crate) struct Rows {
     alloc: Global,
-    times: BTreeMap<u64, Vec<Placed>>,
+    times: BTreeMap<u64, SmallVec<Placed, 1>>,
 }
 
 impl Rows {
@@ -42,8 +40,21 @@ impl Rows {
         ensures least { IsLeast (λ t. (from ≤ t) × IsTrue (is_listed self.now t)) (option_map (λ p. p.0) result) }
         ensures row { IfSome result (λ p. p.1.now ≡ row_at self.now p.0) }
     {
+        if self.is_past(from) {
+            return None;
+        }
         let (time, row) = self.times.range(from..).next()?;
         Some((*time, row.as_slice()))
+    }
+
+    /// Whether all that has been received is for times before one. It is false where nothing has been.
+    fn is_past(&self, time: u64) -> bool
+        ensures { IsTrue result → (t : ℕ) → time ≤ t → is_listed self.now t ≡ false }
+    {
+        match self.times.last_key_value() {
+            Some((last, _)) => *last < time,
+            None => false,
+        }
     }
 
     /// The row of a time.
@@ -106,6 +117,10 @@ impl Rows {
         ensures absent { OnErr result (entry_at self.old time place ≡ no_messages) }
         ensures err { OnErr result (AreSame self.old self.new) }
     {
+        if self.is_past(time) {
+            self.open(time, Placed::one_message(place, value))?;
+            return Ok(true);
+        }
         match self.times.get_mut(&time) {
             Some(row) => row::put_first(row, place, value),
             None => {
@@ -142,7 +157,7 @@ impl Rows {
         ensures put { OnOk result (IsEntered self.old self.new time placed.place placed.entry) }
         ensures err { OnErr result (AreSame self.old self.new) }
     {
-        let mut row = Vec::with_capacity(self.alloc, FEW)?;
+        let mut row = SmallVec::new(self.alloc);
         row.push(placed)?;
         self.times.insert(time, row)?;
         Ok(())

@@ -5,6 +5,7 @@ ghost use Rattle.warp_process.specs.Shown.Rows.{standing_of};
 use crate::entry::Entry;
 use gate_values::Logic;
 use std::alloc::{AllocError, Global};
+use std::default::MadeWith;
 use std::marker::Model;
 use std::mem::size_of;
 
@@ -44,6 +45,20 @@ impl Model for Placed {
     ghost use Rattle.warp_process.specs.Shown.Rows.{standing_of};
 
     ghost view = { λ placed. standing_of placed.numbers };
+}
+
+impl MadeWith<Global> for Placed {
+    fn made_with(_alloc: Global) -> Placed {
+        Placed {
+            numbers: Numbers::Small {
+                zero: 0,
+                one: 0,
+                x: 0,
+                z: 0,
+                place: 0,
+            },
+        }
+    }
 }
 
 impl Placed {

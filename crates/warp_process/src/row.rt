@@ -1,5 +1,5 @@
 //! What has been received at a time, by place.
-ghost use Rattle.std.specs.Prelude.{◌≡◌, ◌≢◌, ◌<◌, ◌≤◌, ◌↔◌, ℕ, ◌==◌, if◌then◌else◌, false, IsSome, IsTrue, OnErr, IfOk, IfErr, OnOk, length};
+ghost use Rattle.std.specs.Prelude.{◌≡◌, ◌≢◌, ◌<◌, ◌≤◌, ◌↔◌, ℕ, ◌==◌, if◌then◌else◌, false, IsSome, IsTrue, OnErr, IfOk, IfErr, OnOk, length, slice_set};
 ghost use Rattle.std.specs.List.{All, HoldsAt};
 ghost use Rattle.std.specs.List.Sorted.{IsPartitionPoint};
 ghost use Rattle.warp_process.specs.Entries.{effective_of, no_messages, one_message, is_settled};
@@ -8,6 +8,7 @@ ghost use Rattle.warp_process.specs.Rows.{entry_on, IsRow};
 use crate::entry::Entry;
 use crate::placed::Placed;
 use gate_values::Logic;
+use smallvec::SmallVec;
 use std::alloc::{AllocError, Global};
 
 /// So many of the last entries of a row are looked at one by one, before it is searched.
@@ -79,7 +80,11 @@ pub(crate) fn effective_on(row: &[Placed], place: u32) -> Option<Logic>
 
 /// Puts one message of a value into a row at a place, unless it has an entry there; answers whether it did. After an error nothing
 /// has changed.
-pub(crate) fn put_first(row: &mut Vec<Placed>, place: u32, value: Logic) -> Result<bool, AllocError>
+pub(crate) fn put_first(
+    row: &mut SmallVec<Placed, 1>,
+    place: u32,
+    value: Logic,
+) -> Result<bool, AllocError>
     requires { IsRow row.old.items }
     ensures row { IsRow row.new.items }
     ensures put { IfOk result (λ put. IsTrue put → (entry_on row.old.items place ≡ no_messages) × ((i : ℕ) → entry_on row.new.items i ≡ (if i == place then one_message value else entry_on row.old.items i))) }
@@ -87,7 +92,7 @@ pub(crate) fn put_first(row: &mut Vec<Placed>, place: u32, value: Logic) -> Resu
     ensures absent { OnErr result (entry_on row.old.items place ≡ no_messages) }
     ensures err { OnErr result (row.new.items ≡ row.old.items) }
 {
-    match find(row, place) {
+    match find(row.as_slice(), place) {
         Ok(_) => Ok(false),
         Err(at) => {
             row.insert(at, Placed::one_message(place, value))?;
@@ -97,13 +102,13 @@ pub(crate) fn put_first(row: &mut Vec<Placed>, place: u32, value: Logic) -> Resu
 }
 
 /// Puts an entry into a row at a place. After an error nothing has changed.
-pub(crate) fn put(row: &mut Vec<Placed>, place: u32, entry: Entry) -> Result<(), AllocError>
+pub(crate) fn put(row: &mut SmallVec<Placed, 1>, place: u32, entry: Entry) -> Result<(), AllocError>
     requires { IsRow row.old.items }
     ensures row { IsRow row.new.items }
     ensures ok { OnOk result ((i : ℕ) → entry_on row.new.items i ≡ (if i == place then entry else entry_on row.old.items i)) }
     ensures err { OnErr result (row.new.items ≡ row.old.items) }
 {
-    let found = find(row, place);
+    let found = find(row.as_slice(), place);
     if entry.is_empty() {
         if let Ok(at) = found {
             row.remove(at);
@@ -112,10 +117,20 @@ pub(crate) fn put(row: &mut Vec<Placed>, place: u32, entry: Entry) -> Result<(),
     }
     let placed = Placed::new(*row.allocator(), place, entry)?;
     match found {
-        Ok(at) => row[at] = placed,
+        Ok(at) => replace(row, at, placed),
         Err(at) => row.insert(at, placed)?,
     }
     Ok(())
+}
+
+/// Puts an entry in the place of another one.
+fn replace(row: &mut SmallVec<Placed, 1>, at: usize, placed: Placed)
+    requires { at < length row.old.items }
+    ensures { row.new.items ≡ slice_set row.old.items at placed }
+{
+    if let Some(standing) = row.get_mut(at) {
+        *standing = placed;
+    }
 }
 
 /// Whether some place of a row takes a value.
@@ -145,10 +160,10 @@ pub(crate) fn are_settled(row: &[Placed]) -> bool
 }
 
 /// A copy of a row.
-pub(crate) fn copy(alloc: Global, row: &[Placed]) -> Result<Vec<Placed>, AllocError>
+pub(crate) fn copy(alloc: Global, row: &[Placed]) -> Result<SmallVec<Placed, 1>, AllocError>
     ensures { IfOk result (λ copy. copy.items ≡ row.now) }
 {
-    let mut copy = Vec::with_capacity(alloc, row.len())?;
+    let mut copy = SmallVec::with_capacity(alloc, row.len())?;
     for placed in row {
         copy.push(placed.copy(alloc)?)?;
     }

@@ -72,7 +72,8 @@ impl Held {
         ensures fault { IfErr result (IsFaultyVisit floor most out.old.items out.new.items) }
     {
         self.block.law();
-        let start = least_pending(&self.block, self.messages.as_slice());
+        let next = self.block.next_time();
+        let start = least_pending(&self.block, next, self.messages.as_slice());
         let window = self.window(start, floor, reach, most);
         let messages = self.messages.as_slice();
         let turned = turn_from(

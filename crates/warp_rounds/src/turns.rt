@@ -90,7 +90,8 @@ pub(crate) fn turn_through(
     let finished = counts::advance(block, counts, window, out)?;
     let sent = out.len().saturating_sub(start);
     counts.end_turn(sent.saturating_sub(antimessages), antimessages);
-    let least = least_pending(block, &out[start..]);
+    let next = block.next_time();
+    let least = least_pending(block, next, &out[start..]);
     Ok(Turned {
         report: TurnReport {
             least: least.unwrap_or(block.horizon() + 1),
@@ -99,7 +100,7 @@ pub(crate) fn turn_through(
         risen: block.mark().saturating_sub(heard),
         finished,
         changes: u64::from(finished),
-        next: block.next_time(),
+        next,
     })
 }
 
@@ -127,11 +128,13 @@ fn receive_all(
     Ok(())
 }
 
-/// The least of the next time of a block and the times of some messages.
-pub(crate) fn least_pending(block: &Block, messages: &[Message]) -> Option<u64>
+/// The least of the next time of a block, which is known, and the times of some messages.
+pub(crate) fn least_pending(block: &Block, next: Option<u64>, messages: &[Message]) -> Option<u64>
+    requires { IsLeast (IsEventTime block.now.seen) next }
     ensures { IsLeast (IsPending block.now.seen messages.now) result }
 {
-    let mut least = block.next_time();
+    let _ = block;
+    let mut least = next;
     for message in messages {
         least = earlier(least, Some(message.time));
     }

@@ -1,14 +1,14 @@
 -- Rows by time.
-use Rattle.std.specs.Prelude.{◌≡◌, ℕ, Bool, ◌&&◌, ◌==◌, if◌then◌else◌, Option, Some, None, is_some, List, [], Vec}
-use Rattle.std.specs.declared.alloc.Global.{Global}
+use Rattle.std.specs.Prelude.{◌≡◌, ℕ, Bool, ◌&&◌, ◌==◌, if◌then◌else◌, Option, Some, None, is_some, List, []}
 use Rattle.std.specs.Ordering.{nat_cmp}
 use Rattle.std.specs.BTreeMap.{get, IsOrdered}
+use Rattle.smallvec.specs.SmallVec.{SmallVec}
 use Rattle.warp_process.specs.declared.entry.Entry.{Entry}
 use Rattle.warp_process.specs.declared.by_time.Rows.{Rows}
 use Rattle.warp_process.specs.Rows.{Standing, entry_on, IsRow}
 
 -- what a row holds, and nothing where there is none
-abbrev pub row_in : Option (Vec Standing Global) → List Standing
+abbrev pub row_in : Option (SmallVec Standing) → List Standing
 row_in None = []
 row_in (Some v) = v.items
 

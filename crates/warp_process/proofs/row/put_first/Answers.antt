@@ -13,20 +13,20 @@ on_err P (Err e) h = h
 
 pub returns-in_ok-insert-in-Err-clause-row : goal.returns-in_ok-insert-in-Err-clause-row
 returns-in_ok-insert-in-Err-clause-row c =
-    let belongs = rw c.deref.ensures.value at c.in-Err.ensures.belongs in
-    subst IsRow (sym (c.in_ok-insert-in-Err.ensures.items ∙ ap (insert c.args.row.now.items c.in-Err.at) c.one_message.ensures))
+    let belongs = rw c.as_slice.ensures at c.in-Err.ensures.belongs in
+    subst IsRow (sym (c.in_ok-insert-in-Err.ensures.ok ∙ ap (insert c.args.row.now.items c.in-Err.at) c.one_message.ensures))
     (inserted-row c.args.row.now.items c.in-Err.at (record { place = c.args.place; entry = one_message c.args.value }) c.requires belongs.0 belongs.1 (one_message-stands c.args.value))
 
 pub returns-in_ok-insert-in-Err-clause-put : goal.returns-in_ok-insert-in-Err-clause-put
 returns-in_ok-insert-in-Err-clause-put c = λ yes_.
-    (let belongs = rw c.deref.ensures.value at c.in-Err.ensures.belongs in
+    (let belongs = rw c.as_slice.ensures at c.in-Err.ensures.belongs in
     let lacks = lacks-between c.args.row.now.items c.args.place c.in-Err.at belongs.1 in (
       entry_on-none c.args.row.now.items c.args.place lacks,
-      λ i. ap (λ (ss : List Standing). entry_on ss i) (c.in_ok-insert-in-Err.ensures.items ∙ ap (insert c.args.row.now.items c.in-Err.at) c.one_message.ensures)
+      λ i. ap (λ (ss : List Standing). entry_on ss i) (c.in_ok-insert-in-Err.ensures.ok ∙ ap (insert c.args.row.now.items c.in-Err.at) c.one_message.ensures)
           ∙ inserted-entries c.args.row.now.items c.in-Err.at (record { place = c.args.place; entry = one_message c.args.value }) lacks i,
     ))
 
 pub returns-in_err-insert-in-Err-clause-absent : goal.returns-in_err-insert-in-Err-clause-absent
 returns-in_err-insert-in-Err-clause-absent c =
-    let belongs = rw c.deref.ensures.value at c.in-Err.ensures.belongs in
+    let belongs = rw c.as_slice.ensures at c.in-Err.ensures.belongs in
     on_err _ c.from_residual.result (entry_on-none c.args.row.now.items c.args.place (lacks-between c.args.row.now.items c.args.place c.in-Err.at belongs.1))

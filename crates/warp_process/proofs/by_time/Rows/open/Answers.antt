@@ -14,12 +14,12 @@ pub returns-clause-rows : goal.returns-clause-rows
 returns-clause-rows c =
     rows_after c.args.self.now (record { alloc = c.args.self.now.alloc; times = c.insert.new.self }) c.args.time c.push.new.self.items
     (row_set c.args.self.now (record { alloc = c.args.self.now.alloc; times = c.insert.new.self }) c.args.time c.push.new.self c.in_ok-insert.ensures.updates.0)
-    c.requires.rows c.insert.ensures.ordered (subst IsRow (sym (c.in_ok-push.ensures.items ∙ ap (λ (ss : List Standing). ss ++ c.args.placed ∷ []) c.in_ok-row.ensures.items)) (one_row c.args.placed c.requires.stands))
+    c.requires.rows c.insert.ensures.ordered (subst IsRow (sym (c.in_ok-push.ensures.ok ∙ ap (λ (ss : List Standing). ss ++ c.args.placed ∷ []) c.new-row.ensures.items)) (one_row c.args.placed c.requires.stands))
 
 pub returns-clause-put : goal.returns-clause-put
 returns-clause-put c =
     entered c.args.self.now (record { alloc = c.args.self.now.alloc; times = c.insert.new.self }) c.args.time c.push.new.self.items
     (row_set c.args.self.now (record { alloc = c.args.self.now.alloc; times = c.insert.new.self }) c.args.time c.push.new.self c.in_ok-insert.ensures.updates.0)
     c.args.placed.place c.args.placed.entry
-    (λ i. ap (λ (ss : List Standing). entry_on ss i) (c.in_ok-push.ensures.items ∙ ap (λ (ss : List Standing). ss ++ c.args.placed ∷ []) c.in_ok-row.ensures.items)
+    (λ i. ap (λ (ss : List Standing). entry_on ss i) (c.in_ok-push.ensures.ok ∙ ap (λ (ss : List Standing). ss ++ c.args.placed ∷ []) c.new-row.ensures.items)
     ∙ (one_entry c.args.placed i ∙ ap (λ (ss : List Standing). cond (i == c.args.placed.place) c.args.placed.entry (entry_on ss i)) (sym (row_none c.args.self.now c.args.time c.requires.none))))
