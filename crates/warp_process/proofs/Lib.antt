@@ -1,4 +1,4 @@
--- Rows of entries (`Rising`, `RowOrder`, `RowEdits`), rows by time (`ByTime`, `Scanning`, `Telling`), queues of entries (`QueueOrder`, `QueueOpening`, `Queued`, `Settled`,
+-- Rows of entries (`Rising`, `RowOrder`, `RowEdits`), rows by time (`ByTime`, `Scanning`, `Walking`, `Telling`), queues of entries (`QueueOrder`, `QueueOpening`, `Queued`, `Settled`,
 -- `Unsettled`, `Agreeing`), what is heard (`Hearing`, `Putting`, `Opened`, `Finding`, `Settling`, `Sure`, `Committing`), logs of runs and what they show (`Running`,
 -- `LogOrder`, `Views`, `Rows`, `Quiet`, `Next`, `Playing`), busy times and saved states (`SavingTimes`, `SavingBusy`, `SavingStates`, `SavingStep`, `SavingAdvance`,
 -- `Going`), what is sent (`Told`, `Sends`), and calls (`Receiving`, `Committed`, `Laws`).
@@ -39,3 +39,4 @@ pub mod Telling
 pub mod Told
 pub mod Unsettled
 pub mod Views
+pub mod Walking

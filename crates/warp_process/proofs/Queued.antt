@@ -25,18 +25,18 @@ abbrev pub Timed : Type 0
 Timed = ℕ × SmallVec Standing
 
 -- all rows are of later times
-abbrev Late : ℕ → List Timed → Type 0
+abbrev pub Late : ℕ → List Timed → Type 0
 Late t [] = ⊤
 Late t (p ∷ ps) = (t < p.0) × Late t ps
 
 less_than : (a b : ℕ) → nat_cmp a b ≡ Less → a < b
 less_than a b = grind (arith, nat_tests)
 
-late_keys : (t : ℕ) (ps : List Timed) → AllByRecursion (λ y. nat_cmp t y ≡ Less) (keys_of ps) → Late t ps
+pub late_keys : (t : ℕ) (ps : List Timed) → AllByRecursion (λ y. nat_cmp t y ≡ Less) (keys_of ps) → Late t ps
 late_keys t [] h = tt
 late_keys t (p ∷ ps) h = (less_than t p.0 h.0, late_keys t ps h.1)
 
-late_lookup : (t u : ℕ) (ps : List Timed) → Late t ps → u ≤ t → lookup (is_at (nat_cmp u)) ps ≡ None
+pub late_lookup : (t u : ℕ) (ps : List Timed) → Late t ps → u ≤ t → lookup (is_at (nat_cmp u)) ps ≡ None
 late_lookup t u [] late le = refl
 late_lookup t u (p ∷ ps) late le =
     let after : t < p.0 = late.0 in

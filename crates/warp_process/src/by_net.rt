@@ -12,30 +12,20 @@ use crate::placed::Placed;
 use gate_values::Change;
 use std::alloc::{AllocError, Global};
 
-/// For each of so many places the changes that are told of its net, in order of time. Nothing has been received from an end on.
+/// For each of so many places the changes that are told of its net, in order of time.
 pub(crate) fn told(
     alloc: Global,
     rows: &Rows,
     places: usize,
-    end: u64,
 ) -> Result<Vec<Vec<Change>>, AllocError>
     requires rows { AreRows rows.now }
     requires places { (t i : ℕ) → places ≤ i → entry_at rows.now t i ≡ no_messages }
-    requires end { (t i : ℕ) → end ≤ t → entry_at rows.now t i ≡ no_messages }
     ensures count { IfOk result (λ lists. vec_len lists ≡ places) }
     ensures told { IfOk result (λ lists. (i : ℕ) → i < places → AreTold rows.now i (get_or (lists_in lists.items) i [])) }
 {
     let mut lists = empty_lists(alloc, places)?;
-    let mut from = 0;
-    while from < end {
-        let Some((time, row)) = rows.next(from) else {
-            break;
-        };
-        if time >= end {
-            break;
-        }
-        tell_row(row, time, &mut lists)?;
-        from = time + 1;
+    for (time, row) in rows.iter() {
+        tell_row(row.as_slice(), *time, &mut lists)?;
     }
     Ok(lists)
 }

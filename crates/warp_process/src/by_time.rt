@@ -11,6 +11,7 @@ use gate_values::Logic;
 use smallvec::SmallVec;
 use std::alloc::{AllocError, Global};
 use std::collections::BTreeMap;
+use std::collections::btree_map::Iter;
 
 /// For each time the row of the places that have an entry at it.
 #[derive(Debug, Drop)]
@@ -55,6 +56,13 @@ impl Rows {
             Some((last, _)) => *last < time,
             None => false,
         }
+    }
+
+    /// The times at which rows stand, in order, each with its row.
+    pub(crate) fn iter(&self) -> Iter<'_, u64, SmallVec<Placed, 1>>
+        ensures { result ≡ self.now.times.entries }
+    {
+        self.times.iter()
     }
 
     /// The row of a time.

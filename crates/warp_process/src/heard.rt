@@ -285,12 +285,7 @@ impl Heard {
         ensures count { IfOk result (λ lists. vec_len lists ≡ length self.now.part.nets) }
         ensures told { IfOk result (λ lists. (i : ℕ) → i < length self.now.part.nets → IsToldOf self.now (slice_index self.now.part.nets i) (get_or (lists_in lists.items) i [])) }
     {
-        by_net::told(
-            self.rows.allocator(),
-            &self.rows,
-            self.part.len(),
-            self.horizon + 1,
-        )
+        by_net::told(self.rows.allocator(), &self.rows, self.part.len())
     }
 
     /// Moves the floor to a time below which all is settled.

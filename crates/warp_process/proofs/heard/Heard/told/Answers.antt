@@ -1,14 +1,11 @@
-use Rattle.std.proofs.Common.{Result, Ok, Err, IfOk, ap, ◌∙◌, arith}
+use Rattle.std.proofs.Common.{Result, Ok, Err, IfOk, ap, ◌∙◌}
 use Rattle.warp_process.specs.Entries.{effective_of}
-use Rattle.warp_process.proofs.Hearing.{late_rows, held_entry}
+use Rattle.warp_process.proofs.Hearing.{held_entry}
 use Rattle.warp_process.proofs.heard.Heard.told.Goals as goal
 
 ok_more : {A B : Type 0} (P Q : A → Type 0) (r : Result A B) → ((x : A) → P x → Q x) → IfOk r P → IfOk r Q
 ok_more P Q (Ok x) more h = more x h
 ok_more P Q (Err e) more h = tt
-
-pub told-requires-clause-end : goal.told-requires-clause-end
-told-requires-clause-end c t i l = late_rows c.self.inside c.self.invariant t i (omega (arith, l))
 
 pub returns-clause-told : goal.returns-clause-told
 returns-clause-told c =
