@@ -1,7 +1,6 @@
 -- Entries that are settled, and nets that aren't among a block's.
-use Rattle.std.proofs.Common.{◌≡◌, ℕ, ◌+◌, ◌<◌, ◌≤◌, arith, false, Option, Some, None, is_some, not, ◌&&◌, List, [], ◌∷◌, inl, inr, ap, sym, ◌∙◌}
+use Rattle.std.proofs.Common.{◌≡◌, ℕ, ◌+◌, ◌<◌, ◌≤◌, arith, false, Option, None, is_some, not, ◌&&◌, List, [], ◌∷◌, inl, inr, ap, sym, ◌∙◌}
 use Rattle.std.specs.List.{All, AllPairs}
-use Rattle.std.specs.Option.{MatchOption}
 use Rattle.std.proofs.lemmas.Bool.{cases_Bool, cases_lt, true≢false}
 use Rattle.std.proofs.lemmas.List.Elements.{All-cons}
 use Rattle.std.proofs.lemmas.List.Kept.{AllPairs-cons}

@@ -1,5 +1,6 @@
 pub mod Mapped
 pub mod Parts
+pub mod Finding
 pub mod Finished
 pub mod Matching
 pub mod Entries

@@ -1,21 +1,25 @@
-ghost use Rattle.std.specs.Prelude.{◌≡◌, ◌<◌, ◌≤◌, ◌↔◌, ℕ, IsTrue, IfOk, IfErr, OnOk, MatchOption, length};
+ghost use Rattle.std.specs.Prelude.{◌≡◌, ◌<◌, ◌≤◌, ◌↔◌, ℕ, IsTrue, IfErr, OnOk, MatchOption, length};
 ghost use Rattle.gate_netlist.specs.Circuit.{CutFits};
 ghost use Rattle.gate_vcd.specs.Given.{Fits};
 ghost use Rattle.warp_process.specs.Limits.{most_horizon};
 ghost use Rattle.warp_process.specs.View.{IsDone};
 ghost use Rattle.warp_process.specs.Lawful.{IsLawful};
-ghost use Rattle.warp_core.specs.Matched.{seen_at, IsBlockOf, EachBlock, AreMatched};
+ghost use Rattle.warp_core.specs.Matched.{seen_at, EachBlock, AreMatched};
 ghost use Rattle.warp_core.specs.Gather.{AreCounted, IsFirstBlock, IsFault, IsGathered};
+ghost use Rattle.warp_core.specs.Inner.Findings.{AreFound};
 
 mod entries;
+mod findings;
 mod told;
 mod waves;
 
 use crate::fault::GatherFault;
+use findings::Finding;
 use gate_netlist::{Circuit, Cut};
 use gate_vcd::{Stimulus, Waves};
-use std::alloc::{AllocError, Global};
-use warp_block::{Block, Part};
+use std::alloc::Global;
+use std::thread::Threads;
+use warp_block::Block;
 
 /// The waves of a circuit under a stimulus, from the blocks of a cut, in order. The cut and the stimulus fit the
 /// circuit; the horizon is at most [`MOST_HORIZON`](warp_block::MOST_HORIZON). Times are in the stimulus's timescale.
@@ -35,7 +39,57 @@ pub fn gather(
     requires horizon { horizon ≤ most_horizon }
     ensures { IsGathered circuit.now cut.now stimulus.now horizon blocks.items result }
 {
-    check(alloc, circuit, cut, stimulus, horizon, blocks.as_slice())?;
+    if blocks.len() != cut.blocks() as usize {
+        return Err(GatherFault::WrongCount);
+    }
+    let found = findings::find(alloc, circuit, cut, stimulus, horizon, blocks.as_slice())?;
+    gathered(alloc, circuit, cut, stimulus, horizon, blocks, found)
+}
+
+/// The waves of a circuit, as [`gather`] answers them, where up to `workers` threads, at least one, look at the blocks side by side.
+/// Where a thread can't be started its share is looked at by another one.
+pub fn gather_by<R: Threads + Sync>(
+    rt: &R,
+    alloc: Global,
+    workers: u32,
+    circuit: &Circuit,
+    cut: &Cut,
+    stimulus: &Stimulus,
+    horizon: u64,
+    blocks: Vec<Block>,
+) -> Result<Waves, GatherFault>
+    requires workers { 1 ≤ workers }
+    requires cut { CutFits circuit.now cut.now }
+    requires stimulus { Fits stimulus.now circuit.now }
+    requires horizon { horizon ≤ most_horizon }
+    ensures { IsGathered circuit.now cut.now stimulus.now horizon blocks.items result }
+{
+    if blocks.len() != cut.blocks() as usize {
+        return Err(GatherFault::WrongCount);
+    }
+    let shown = blocks.as_slice();
+    let found = findings::find_by(rt, alloc, workers, circuit, cut, stimulus, horizon, shown)?;
+    gathered(alloc, circuit, cut, stimulus, horizon, blocks, found)
+}
+
+/// The waves from blocks of which all is found.
+fn gathered(
+    alloc: Global,
+    circuit: &Circuit,
+    cut: &Cut,
+    stimulus: &Stimulus,
+    horizon: u64,
+    blocks: Vec<Block>,
+    found: Vec<Finding>,
+) -> Result<Waves, GatherFault>
+    requires cut { CutFits circuit.now cut.now }
+    requires stimulus { Fits stimulus.now circuit.now }
+    requires horizon { horizon ≤ most_horizon }
+    requires count { AreCounted cut.now blocks.items }
+    requires found { AreFound circuit.now cut.now stimulus.now horizon blocks.items found.items }
+    ensures { IsGathered circuit.now cut.now stimulus.now horizon blocks.items result }
+{
+    check(cut, blocks.as_slice(), found.as_slice())?;
     cut.law();
     stimulus.law();
     laws(blocks.as_slice());
@@ -43,24 +97,14 @@ pub fn gather(
     Ok(waves)
 }
 
-/// Whether blocks are matched; if they aren't, why.
-fn check(
-    alloc: Global,
-    circuit: &Circuit,
-    cut: &Cut,
-    stimulus: &Stimulus,
-    horizon: u64,
-    blocks: &[Block],
-) -> Result<(), GatherFault>
-    requires cut { CutFits circuit.now cut.now }
-    requires horizon { horizon ≤ most_horizon }
-    ensures matched { OnOk result (AreMatched circuit.now cut.now stimulus.now horizon blocks.now) }
-    ensures fault { IfErr result (IsFault circuit.now cut.now stimulus.now horizon blocks.now) }
+/// Whether blocks of which all is found are matched; if they aren't, why.
+fn check(cut: &Cut, blocks: &[Block], found: &[Finding]) -> Result<(), GatherFault>
+    requires count { AreCounted cut.now blocks.now }
+    requires found { length found.now ≡ cut.now.blocks }
+    ensures matched { OnOk result ((d : _) (g : _) (horizon : ℕ) → AreFound d cut.now g horizon blocks.now found.now → AreMatched d cut.now g horizon blocks.now) }
+    ensures fault { IfErr result (λ f. (d : _) (g : _) (horizon : ℕ) → AreFound d cut.now g horizon blocks.now found.now → IsFault d cut.now g horizon blocks.now f) }
 {
-    if blocks.len() != cut.blocks() as usize {
-        return Err(GatherFault::WrongCount);
-    }
-    match other_part(alloc, circuit, cut, horizon, blocks)? {
+    match findings::other_part(cut, found) {
         Some(block) => return Err(GatherFault::WrongPart { block }),
         None => {}
     }
@@ -72,7 +116,7 @@ fn check(
         Some((block, net, time)) => return Err(GatherFault::Unsettled { block, net, time }),
         None => {}
     }
-    match told::untold(cut, stimulus, horizon, blocks)? {
+    match findings::untold(cut, found) {
         Some((block, net)) => return Err(GatherFault::Mismatch { block, net }),
         None => {}
     }
@@ -86,36 +130,6 @@ fn laws(blocks: &[Block])
     for block in blocks {
         block.law();
     }
-}
-
-/// The first block of another part or horizon.
-fn other_part(
-    alloc: Global,
-    circuit: &Circuit,
-    cut: &Cut,
-    horizon: u64,
-    blocks: &[Block],
-) -> Result<Option<u32>, AllocError>
-    requires cut { CutFits circuit.now cut.now }
-    requires count { AreCounted cut.now blocks.now }
-    ensures { IfOk result (λ first. MatchOption first
-        (EachBlock cut.now blocks.now (IsBlockOf circuit.now cut.now horizon))
-        (IsFirstBlock cut.now blocks.now (IsBlockOf circuit.now cut.now horizon))) }
-{
-    for block in 0..cut.blocks() {
-        let part = Part::of(alloc, circuit, cut, block)?;
-        if !is_of(&blocks[block as usize], &part, horizon) {
-            return Ok(Some(block));
-        }
-    }
-    Ok(None)
-}
-
-/// Whether a block is of a part, and goes up to a horizon.
-fn is_of(block: &Block, part: &Part, horizon: u64) -> bool
-    ensures { IsTrue result ↔ ((block.now.seen.part ≡ part.now) × (block.now.seen.horizon ≡ horizon)) }
-{
-    *block.part() == *part && block.horizon() == horizon
 }
 
 /// The first block that has an event time left.

@@ -5,8 +5,9 @@ use gate_values::Logic;
 use gate_vcd::Waves;
 use std::alloc::Global;
 use std::test::Fail;
+use std::thread::Threads;
 use warp_block::{Block, Message, Sign};
-use warp_core::{GatherFault, gather};
+use warp_core::{GatherFault, gather, gather_by};
 
 /// The same circuit with an OR.
 const EITHER: Texts = Texts {
@@ -103,29 +104,51 @@ fn played(
     Ok(blocks)
 }
 
-fn gathered_of(
+/// What is gathered from blocks by so many threads side by side, and with none of them one after another.
+fn gathered_of<R: Threads + Sync>(
+    rt: &R,
     alloc: Global,
+    threads: u32,
     given: &Given,
     blocks: Vec<Block>,
 ) -> Result<Result<Waves, GatherFault>, Fail> {
     let cut = given.cut()?;
-    Ok(gather(alloc, &given.circuit, cut, &given.stimulus, 10, blocks))
+    if threads == 0 {
+        return Ok(gather(alloc, &given.circuit, cut, &given.stimulus, 10, blocks));
+    }
+    Ok(gather_by(
+        rt,
+        alloc,
+        threads,
+        &given.circuit,
+        cut,
+        &given.stimulus,
+        10,
+        blocks,
+    ))
 }
 
 /// What is gathered from blocks, for the circuit with an AND.
-fn gathered(alloc: Global, blocks: Vec<Block>) -> Result<Result<Waves, GatherFault>, Fail> {
+fn gathered<R: Threads + Sync>(
+    rt: &R,
+    alloc: Global,
+    threads: u32,
+    blocks: Vec<Block>,
+) -> Result<Result<Waves, GatherFault>, Fail> {
     let given = Given::of(alloc, PAIR)?;
-    let answer = gathered_of(alloc, &given, blocks);
+    let answer = gathered_of(rt, alloc, threads, &given, blocks);
     drop(given);
     answer
 }
 
 #[test]
 fn matched_blocks_have_the_circuits_waves(rt: HostRuntime) -> Result<(), Fail> {
-    let blocks = played(rt.alloc(), &[PAIR; 3], all_calls().as_slice(), &[])?;
-    let waves = gathered(rt.alloc(), blocks)??;
-    assert_eq!(rt; waves.nets(), 6);
-    assert_eq!(rt; other_net(&waves), None);
+    for threads in [0, 1, 2, 5] {
+        let blocks = played(rt.alloc(), &[PAIR; 3], all_calls().as_slice(), &[])?;
+        let waves = gathered(&rt, rt.alloc(), threads, blocks)??;
+        assert_eq!(rt; waves.nets(), 6);
+        assert_eq!(rt; other_net(&waves), None);
+    }
     Ok(())
 }
 
@@ -166,9 +189,11 @@ fn blocks_that_are_refused(rt: HostRuntime) -> Result<(), Fail> {
         ),
     ];
     for (circuits, calls, more, fault) in rows {
-        let blocks = played(rt.alloc(), circuits, calls, more)?;
-        let answer = gathered(rt.alloc(), blocks)?;
-        assert_eq!(rt; answer.err(), Some(fault), "{}", fault.name());
+        for threads in [0, 2] {
+            let blocks = played(rt.alloc(), circuits, calls, more)?;
+            let answer = gathered(&rt, rt.alloc(), threads, blocks)?;
+            assert_eq!(rt; answer.err(), Some(fault), "{}", fault.name());
+        }
     }
     Ok(())
 }

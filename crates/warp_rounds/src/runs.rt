@@ -24,7 +24,7 @@ use std::alloc::{AllocError, Global};
 use std::sync::Wait;
 use std::thread::Threads;
 use warp_block::{Block, Part};
-use warp_core::gather;
+use warp_core::gather_by;
 
 /// The waves of a circuit under a stimulus, from time 0 to the horizon, which is at most 10^12. The blocks of the cut
 /// run ahead on their own in rounds. In each, up to `workers` workers (1 to 64) draw the blocks, each once or some times, and a
@@ -32,9 +32,9 @@ use warp_core::gather;
 /// as [`Site::visit`] says; where it is a short one, so do blocks near by that have something to do. One worker is the caller's thread, each other one has a thread of its own. The gate is lent each block before its turn and after it.
 ///
 /// The floor starts at 0, and each round's least time becomes the next one's. When it is past the horizon the blocks are
-/// gathered. The answer of a run that ends without a fault is the waves of the circuit's values, whatever the threads
-/// did; that a run ends, and without a fault, is not promised. Each fault tells where it comes from: want of memory is in no other
-/// one, and a block's and a stall are those of a visit at a floor up to the horizon.
+/// gathered, up to `workers` threads looking at them side by side. The answer of a run that ends without a fault is the
+/// waves of the circuit's values, whatever the threads did; that a run ends, and without a fault, is not promised. Each fault tells
+/// where it comes from: want of memory is in no other one, and a block's and a stall are those of a visit at a floor up to the horizon.
 pub fn run<G: Gate + Sync, R: Threads + Wait + Sync>(
     rt: &R,
     alloc: Global,
@@ -114,7 +114,9 @@ pub fn run_watched<G: Gate + Sync, W: Watch, R: Threads + Wait + Sync>(
         watch,
     )?;
     let taken = taken_out(alloc, sites)?;
-    let waves = gather(alloc, circuit, cut, stimulus, horizon, taken.blocks)?;
+    let blocks = taken.blocks;
+    let gathered = gather_by(rt, alloc, workers, circuit, cut, stimulus, horizon, blocks);
+    let waves = gathered?;
     Ok(Watched {
         waves,
         counts: RunCounts {

@@ -8,8 +8,8 @@ ghost use Rattle.gate_vcd.specs.Waves.{IsWave};
 ghost use Rattle.warp_process.specs.Limits.{most_horizon};
 ghost use Rattle.warp_process.specs.View.{log_of};
 ghost use Rattle.warp_process.specs.Heard.{IsToldOf};
-ghost use Rattle.warp_core.specs.Matched.{seen_at, IsToldAt, AreTold, EachBlock, told_of};
-ghost use Rattle.warp_core.specs.Gather.{AreCounted, IsFirst, IsFirstBlock};
+ghost use Rattle.warp_core.specs.Matched.{IsToldAt, AreTold, told_of};
+ghost use Rattle.warp_core.specs.Gather.{AreCounted, IsFirst};
 
 use gate_netlist::Cut;
 use gate_values::Change;
@@ -102,7 +102,7 @@ fn is_told_at(
 }
 
 /// The first net that a block reads and wasn't told as its owner, or the stimulus, says. An error is a refused growth.
-fn untold_net(
+pub(super) fn untold_net(
     cut: &Cut,
     stimulus: &Stimulus,
     horizon: u64,
@@ -122,29 +122,6 @@ fn untold_net(
         let list = lists[slot].as_slice();
         if !is_told_at(cut, stimulus, horizon, blocks, block, net, list) {
             return Ok(Some(net));
-        }
-    }
-    Ok(None)
-}
-
-/// The first block, and net that it reads, that wasn't told as the net's owner, or the stimulus, says. An error is a refused growth.
-pub(super) fn untold(
-    cut: &Cut,
-    stimulus: &Stimulus,
-    horizon: u64,
-    blocks: &[Block],
-) -> Result<Option<(u32, u32)>, AllocError>
-    requires count { AreCounted cut.now blocks.now }
-    requires horizon { horizon ≤ most_horizon }
-    ensures { IfOk result (λ first. MatchOption first
-        (EachBlock cut.now blocks.now (λ _ v. AreTold cut.now stimulus.now horizon blocks.now v))
-        (λ p. IsFirstBlock cut.now blocks.now (λ _ v. AreTold cut.now stimulus.now horizon blocks.now v) p.0
-        × IsFirst (IsToldAt cut.now stimulus.now horizon blocks.now (seen_at blocks.now p.0)) p.1)) }
-{
-    for block in 0..cut.blocks() {
-        match untold_net(cut, stimulus, horizon, blocks, &blocks[block as usize])? {
-            Some(net) => return Ok(Some((block, net))),
-            None => {}
         }
     }
     Ok(None)

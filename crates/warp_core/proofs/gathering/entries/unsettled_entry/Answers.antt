@@ -1,4 +1,4 @@
-use Rattle.std.proofs.Common.{◌≡◌, ◌<◌, ◌+◌, ℕ, Option, Some, None, IfSome, IfNone}
+use Rattle.std.proofs.Common.{◌+◌, ℕ, Option, Some, None, IfSome, IfNone}
 use Rattle.std.specs.Option.{MatchOption}
 use Rattle.warp_process.specs.View.{View}
 use Rattle.warp_process.specs.Lawful.{IsLawful}

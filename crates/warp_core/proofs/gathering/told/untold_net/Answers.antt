@@ -1,8 +1,6 @@
-use Rattle.std.proofs.Common.{below_more, ◌≡◌, ◌<◌, ℕ, ◌∙◌, ap, length, get_or, subst, sym, arith, List, [], vec_len}
+use Rattle.std.proofs.Common.{below_more, ◌≡◌, ◌<◌, ℕ, ◌∙◌, ap, length, get_or, subst, sym, arith, vec_len}
 use Rattle.std.specs.List.Sorted.{IsStrictlyIncreasing}
-use Rattle.gate_values.specs.declared.logic.Change.{Change}
 use Rattle.warp_part.specs.Portion.{Portion}
-use Rattle.warp_process.specs.Heard.{IsToldOf}
 use Rattle.warp_process.proofs.Rows.{row_at}
 use Rattle.warp_core.specs.Matched.{IsToldAt}
 use Rattle.warp_core.proofs.Entries.{other_told}

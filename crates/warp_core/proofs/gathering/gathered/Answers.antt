@@ -1,9 +1,20 @@
 use Rattle.std.proofs.Common.{◌∙◌, arith}
+use Rattle.std.proofs.lemmas.Result.{err_from_is_err_and}
 use Rattle.warp_process.specs.Lawful.{IsLawful}
 use Rattle.warp_core.specs.Matched.{EachBlock, AreMatched}
 use Rattle.warp_core.proofs.Matching.{matched_changes}
 use Rattle.warp_core.proofs.GivenLogs.{told_wave}
-use Rattle.warp_core.proofs.gathering.gather.Goals as goal
+use Rattle.warp_core.proofs.gathering.gathered.Goals.{In_ok-check}
+use Rattle.warp_core.proofs.gathering.gathered.Goals as goal
+
+pub returns-in_err-check : goal.returns-in_err-check
+returns-in_err-check c =
+    let p = err_from_is_err_and c.from_residual.result c.from_residual.ensures.1 in
+    rw (p.1, p.2) (rw c.as_slice.ensures.value at c.in_err-check.ensures.fault c.args.circuit.now c.args.stimulus.now c.args.horizon (rw c.as_slice-2.ensures.value c.requires.found))
+
+pub waves_of-requires-clause-parts : goal.waves_of-requires-clause-parts
+waves_of-requires-clause-parts c =
+    (rw c.as_slice.ensures.value at c.in_ok-check.ensures.matched c.args.circuit.now c.args.stimulus.now c.args.horizon (rw c.as_slice-2.ensures.value c.requires.found)).parts
 
 pub waves_of-requires-clause-told : goal.waves_of-requires-clause-told
 waves_of-requires-clause-told c =
@@ -11,8 +22,8 @@ waves_of-requires-clause-told c =
     let cut = c.args.cut.now in
     let g = c.args.stimulus.now in
     let blocks = c.args.blocks.items in
-    let matched : AreMatched d cut g c.args.horizon blocks = rw c.as_slice.ensures.value at c.in_ok-check.ensures.matched in
-    let each = rw c.as_slice-2.ensures.value at c.laws.ensures in
+    let matched : AreMatched d cut g c.args.horizon blocks = rw c.as_slice.ensures.value at c.in_ok-check.ensures.matched d g c.args.horizon (rw c.as_slice-2.ensures.value c.requires.found) in
+    let each = rw c.as_slice-3.ensures.value at c.laws.ensures in
     let lawful : EachBlock cut blocks (λ _ v. IsLawful v) = λ b l. each b (omega (arith, l, matched.count)) in
     told_wave d cut g c.args.horizon blocks c.requires.cut c.law.ensures matched.count matched.parts c.requires.horizon c.law-2.ensures lawful
 
@@ -22,8 +33,8 @@ returns c =
     let cut = c.args.cut.now in
     let g = c.args.stimulus.now in
     let blocks = c.args.blocks.items in
-    let matched : AreMatched d cut g c.args.horizon blocks = rw c.as_slice.ensures.value at c.in_ok-check.ensures.matched in
-    let each = rw c.as_slice-2.ensures.value at c.laws.ensures in
+    let matched : AreMatched d cut g c.args.horizon blocks = rw c.as_slice.ensures.value at c.in_ok-check.ensures.matched d g c.args.horizon (rw c.as_slice-2.ensures.value c.requires.found) in
+    let each = rw c.as_slice-3.ensures.value at c.laws.ensures in
     let lawful : EachBlock cut blocks (λ _ v. IsLawful v) = λ b l. each b (omega (arith, l, matched.count)) in (
       matched,
       record {
