@@ -1,9 +1,9 @@
 -- A netlist with its flip-flops' clocks among its nets.
-use Rattle.std.proofs.Common.{◌≡◌, ◌∙◌, ℕ, zero, suc, ◌+◌, ◌<◌, ◌≤◌, ◌⊎◌, Bool, true, false, not, cond, ◌&&◌, ◌||◌, List, [], ◌∷◌, ◌++◌, length, get_or, codes, Option, Some, None, is_none, IsSome, refl, sym, arith, inl, inr, lt-ltb}
+use Rattle.std.proofs.Common.{◌≡◌, ◌∙◌, ap, map, ℕ, zero, suc, ◌+◌, ◌<◌, ◌≤◌, ◌⊎◌, Bool, true, false, not, cond, ◌&&◌, ◌||◌, List, [], ◌∷◌, ◌++◌, length, get_or, codes, Option, Some, None, is_none, IsSome, refl, sym, arith, inl, inr, lt-ltb}
 use Rattle.std.specs.List.{position, position_or_len, zip}
 use Rattle.std.specs.Str.{bytes_eq}
 use Rattle.std.proofs.lemmas.Bool.{cases_Bool, cases_lt, le-ltb}
-use Rattle.std.proofs.lemmas.List.{length-append, get_or_past, get_or_append_left}
+use Rattle.std.proofs.lemmas.List.{length-append, length-map, map-append, get_or_past, get_or_append_left}
 use Rattle.std.proofs.lemmas.List.Folds.{list_any_at}
 use Rattle.std.proofs.lemmas.Slice.Eq.{bytes_eq-Decides}
 use Rattle.std.proofs.lemmas.Slice.Zip.{length-zip, get_or-zip}
@@ -14,9 +14,9 @@ use Rattle.gate_netlist.specs.declared.fault.SettingsFault.{SettingsFault}
 use Rattle.gate_netlist.specs.declared.fault.SettingsFault.TheVariants.{UnknownKey, UnknownNet, BadDelay, BadCut, BadClock, BadInit}
 use Rattle.gate_netlist.specs.Netlist.{Netlist, net_named, any_net}
 use Rattle.gate_netlist.specs.Inner.Netlist.{IsNetlist, IsDefinition}
-use Rattle.gate_netlist.specs.Settings.{table_at, clock_name, clock_of_flop, takes_clock}
+use Rattle.gate_netlist.specs.Settings.{table_at, net_delay, clock_name, clock_of_flop, takes_clock}
 use Rattle.gate_netlist.specs.Causes.{is_flop_line, any_member, is_name, is_missing_clock, lacks_clock, has_unknown_key, has_unknown_net, has_bad_delay, has_bad_block, has_bad_clock, has_bad_init, cause_of}
-use Rattle.gate_netlist.specs.Meaning.{with_input, with_clock}
+use Rattle.gate_netlist.specs.Meaning.{with_input, with_clock, delays_of}
 use Rattle.gate_netlist.specs.Inner.Clocked.{HasClocks}
 use Rattle.gate_netlist.proofs.Distinct.{length-le-bound}
 use Rattle.gate_netlist.proofs.Differing.{names_differ_more, absent}
@@ -197,3 +197,38 @@ second_false false b e = e
 pub has_clocks_by : (ms : Members) (more parts b : Netlist) → more ≡ with_clock ms parts → parts ≡ b → IsNetlist b → cause_of b ms ≡ None → HasClocks ms more
 has_clocks_by ms more parts b added same law none =
     rw (added, same) (has_clocks ms b law (second_false (any_member (λ k d. is_none (as_str d)) (table_at (codes "clocks") ms)) _ (no_bad_clock b ms none)))
+
+-- ---- the delays of the nets with the clock among them
+
+zip-more : {K X : Type 0} (ks : List K) (xs : List X) (k : K) (x : X) → length ks ≡ length xs → zip (ks ++ k ∷ []) (xs ++ x ∷ []) ≡ zip ks xs ++ (k, x) ∷ []
+zip-more [] [] k x e = refl
+zip-more [] (y ∷ ys) k x e = absurd (omega (arith, e))
+zip-more (a ∷ ks) [] k x e = absurd (omega (arith, e))
+zip-more (a ∷ ks) (y ∷ ys) k x e = ap (λ rest. (a, y) ∷ rest) (zip-more ks ys k x (omega (arith, e)))
+
+delays_of-more : (ms : Members) (b : Netlist) (name : List ℕ) → length b.definitions ≡ length b.names
+    → delays_of ms (with_input name b).names (with_input name b).definitions ≡ delays_of ms b.names b.definitions ++ 0 ∷ []
+delays_of-more ms b name many =
+    let delay : (List ℕ × Definition) → ℕ = λ net. net_delay ms net.0 net.1 in
+    ap (map delay) (zip-more b.names b.definitions name Input (sym many)) ∙ map-append delay (zip b.names b.definitions) ((name, Input) ∷ [])
+
+length-delays_of : (ms : Members) (b : Netlist) → length b.definitions ≡ length b.names → length (delays_of ms b.names b.definitions) ≡ length b.names
+length-delays_of ms b many =
+    let delay : (List ℕ × Definition) → ℕ = λ net. net_delay ms net.0 net.1 in
+    length-map (zip b.names b.definitions) delay ∙ omega (arith, length-zip b.names b.definitions, many)
+
+-- the clock, where it is added, is an input, which has no delay
+pub delays_with_clock : (ms : Members) (b : Netlist) (clocked : Netlist) (delays more : List ℕ) → length b.definitions ≡ length b.names
+    → clocked ≡ with_clock ms b → delays ≡ delays_of ms b.names b.definitions
+    → (length clocked.names ≤ length delays → more ≡ delays) → (length delays < length clocked.names → more ≡ delays ++ 0 ∷ [])
+    → more ≡ delays_of ms clocked.names clocked.definitions
+delays_with_clock ms b clocked delays more many is own same added =
+    elim (cases_Bool (any_net (takes_clock ms) b.names b.definitions && is_none (net_named b (clock_name ms)))) [
+      | inl adds ↦ (let with : clocked ≡ with_input (clock_name ms) b = is ∙ rw adds refl in
+          let counted : length clocked.names ≡ length b.names + 1 = rw with (length-append b.names (clock_name ms ∷ [])) in
+          let many_delays : length delays ≡ length b.names = ap length own ∙ length-delays_of ms b many in
+          added (omega (arith, counted, many_delays)) ∙ ap (λ ds. ds ++ 0 ∷ []) own ∙ sym (delays_of-more ms b (clock_name ms) many) ∙ ap (λ (c : Netlist). delays_of ms c.names c.definitions) (sym with))
+      | inr keeps ↦ (let with : clocked ≡ b = is ∙ rw keeps refl in
+          let many_delays : length delays ≡ length b.names = ap length own ∙ length-delays_of ms b many in
+          same (rw with (omega (arith, many_delays))) ∙ own ∙ ap (λ (c : Netlist). delays_of ms c.names c.definitions) (sym with))
+    ]

@@ -2,6 +2,8 @@
 use Rattle.std.specs.Prelude.{◌≡◌, ℕ, ◌+◌, ◌&&◌, if◌then◌else◌, List, [], ◌∷◌, ◌++◌, map, codes, Option, Some, None, is_none, option_map, option_and_then, unwrap_or, Result, Ok, Err}
 use Rattle.std.specs.List.{zip}
 use Rattle.toml.specs.Data.{Members, get_member, as_table}
+use Rattle.toml.specs.View.{table_view}
+use Rattle.gate_netlist.specs.declared.document.Document.{Document}
 use Rattle.gate_netlist.specs.declared.bench.Definition.{Definition}
 use Rattle.gate_netlist.specs.declared.bench.Definition.TheVariants as line
 use Rattle.gate_netlist.specs.declared.driver.Driver.{Driver}
@@ -70,3 +72,20 @@ IsSettled b text (Ok d) = (ms : Members) × IsDocument text ms × (cause_of b ms
 IsSettled b text (Err Memory) = Unit {0}
 IsSettled b text (Err Toml) = (ms : Members) → IsDocument text ms → ⊥
 IsSettled b text (Err e) = (ms : Members) × IsDocument text ms × (cause_of b ms ≡ Some e)
+
+-- what a document that was read says
+abbrev pub members_of : Document → Members
+members_of document = table_view document.table
+
+-- what may be answered to a settings text before it is looked at beside a bench
+abbrev pub IsRead : List ℕ → Result Document SettingsFault → Type 0
+IsRead text (Ok document) = IsDocument text (members_of document)
+IsRead text (Err Memory) = Unit {0}
+IsRead text (Err Toml) = (ms : Members) → IsDocument text ms → ⊥
+IsRead text (Err _) = ⊥
+
+-- what may be answered to a settings document on a bench
+abbrev pub IsSettledBy : Netlist → Members → Result Design SettingsFault → Type 0
+IsSettledBy b ms (Ok d) = (cause_of b ms ≡ None) × (d ≡ circuit_of b ms)
+IsSettledBy b ms (Err Memory) = Unit {0}
+IsSettledBy b ms (Err e) = cause_of b ms ≡ Some e

@@ -1,8 +1,10 @@
-ghost use Rattle.std.specs.Prelude.{◌≡◌, ◌<◌, ◌≤◌, length, option_map, option_copied, count_by};
+ghost use Rattle.std.specs.Prelude.{◌≡◌, ◌<◌, ◌≤◌, None, IfOk, length, option_map, option_copied, count_by};
 ghost use Rattle.gate_netlist.specs.Circuit.{nets_of, driver_of, name_of, net_of, delay_of, readers_of, is_input, is_gate, is_flop, IsCircuit};
 ghost use Rattle.gate_netlist.specs.Counts.{counts_of};
 ghost use Rattle.gate_netlist.specs.Even.{driven_count};
-ghost use Rattle.gate_netlist.specs.Meaning.{IsSettled};
+ghost use Rattle.toml.specs.View.{table_view};
+ghost use Rattle.gate_netlist.specs.Causes.{cause_of};
+ghost use Rattle.gate_netlist.specs.Meaning.{delays_of, members_of, IsSettled, IsSettledBy};
 
 mod build;
 mod readers;
@@ -10,12 +12,15 @@ mod readers;
 use crate::bench::{Bench, Names};
 use crate::counts::Counts;
 use crate::cut::Cut;
+use crate::document::Document;
 use crate::driver::Driver;
 use crate::fault::SettingsFault;
 use crate::settings;
 use number_groups::Groups;
-use std::alloc::Global;
+use std::alloc::{AllocError, Global};
 use std::marker::Model;
+use std::thread::{Threads, join};
+use toml::Table;
 
 /// A circuit: its nets in the order of their defining lines, and what sets each of them.
 #[derive(Drop)]
@@ -42,6 +47,26 @@ impl Model for Circuit {
     ghost invariant = { IsHeld };
 }
 
+/// The circuit of a bench and a settings document that no cause speaks against, once its nets' delays have been looked up.
+fn settled(
+    alloc: Global,
+    bench: Bench,
+    table: &Table,
+    delays: Result<Vec<u32>, AllocError>,
+) -> Result<Circuit, SettingsFault>
+    requires cause { cause_of bench (table_view table.now) ≡ None }
+    requires delays { IfOk delays (λ delays. delays.items ≡ delays_of (table_view table.now) bench.names bench.definitions) }
+    ensures { IsSettledBy bench (table_view table.now) result }
+{
+    let Ok(delays) = delays else {
+        return Err(SettingsFault::Memory);
+    };
+    match build::build(alloc, bench, table, delays) {
+        Ok(circuit) => Ok(circuit),
+        Err(_) => Err(SettingsFault::Memory),
+    }
+}
+
 impl Circuit {
     /// The circuit of a bench and a settings text: each net's delay is that of its name, else that of its kind,
     /// else the default. A flip-flop's clock is the net of the name that its own key gives, else of the one that
@@ -52,17 +77,49 @@ impl Circuit {
     pub fn of(alloc: Global, bench: Bench, settings: &[u8]) -> Result<Circuit, SettingsFault>
         ensures { IsSettled bench settings.now result }
     {
-        let table = match settings::document(alloc, settings) {
-            Ok(table) => table,
-            Err(fault) => return Err(fault),
-        };
-        match settings::cause_of(&bench, &table) {
-            Some(fault) => return Err(fault),
-            None => {}
+        match Document::read(alloc, settings) {
+            Ok(document) => Circuit::with(alloc, bench, &document),
+            Err(fault) => Err(fault),
         }
-        match build::build(alloc, bench, &table) {
-            Ok(circuit) => Ok(circuit),
-            Err(_) => Err(SettingsFault::Memory),
+    }
+
+    /// The circuit of a bench and a settings text that has been read, as [`Circuit::of`] gives it.
+    pub fn with(alloc: Global, bench: Bench, document: &Document) -> Result<Circuit, SettingsFault>
+        ensures { IsSettledBy bench (members_of document.now) result }
+    {
+        let table = document.table();
+        match settings::cause_of(&bench, table) {
+            Some(fault) => Err(fault),
+            None => {
+                let delays = build::bench_delays(alloc, &bench, table);
+                settled(alloc, bench, table, delays)
+            }
+        }
+    }
+
+    /// The circuit that [`Circuit::with`] gives. Whether the text is refused is found out while the nets' delays are looked up.
+    pub fn with_by<R: Threads + Sync>(
+        rt: &R,
+        alloc: Global,
+        bench: Bench,
+        document: &Document,
+    ) -> Result<Circuit, SettingsFault>
+        ensures { IsSettledBy bench (members_of document.now) result }
+    {
+        let table = document.table();
+        let shared = &bench;
+        let (cause, delays) = join(
+            rt,
+            || -> Option<SettingsFault>
+                ensures { result ≡ cause_of shared.entry.now (table_view table.entry.now) }
+            { settings::cause_of(shared, table) },
+            || -> Result<Vec<u32>, AllocError>
+                ensures { IfOk result (λ delays. delays.items ≡ delays_of (table_view table.entry.now) shared.entry.now.names shared.entry.now.definitions) }
+            { build::bench_delays(alloc, shared, table) },
+        );
+        match cause {
+            Some(fault) => Err(fault),
+            None => settled(alloc, bench, table, delays),
         }
     }
 

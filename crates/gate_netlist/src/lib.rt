@@ -2,7 +2,8 @@
 //!
 //! [`read_bench`] answers what a `.bench` text says, in the language of the ISCAS'89 circuits, or its first fault
 //! with the line. [`Circuit::of`] gives a bench its delays, its clock, a scope and a cut by a settings text in TOML,
-//! or answers the least cause that speaks against the text. [`Cut::even`] makes a cut of a circuit where the settings
+//! or answers the least cause that speaks against the text; [`Document::read`] reads that text alone, and [`Circuit::with`] goes
+//! on from there, so that both texts can be read side by side. [`Cut::even`] makes a cut of a circuit where the settings
 //! give none. Each answer is the one that the definitions in `specs/` give: `Lines`, `Symbols`, `Statements` and
 //! `Bench` for the bench text; `Settings`, `Causes` and `Meaning` for the settings; `Circuit` and `Cut` for what
 //! is true of every circuit and every cut. The one other answer is want of memory, where a growth was refused, which
@@ -14,6 +15,7 @@ mod bench;
 mod circuit;
 mod counts;
 mod cut;
+mod document;
 mod driver;
 mod fault;
 mod laws;
@@ -30,6 +32,7 @@ pub use bench::{Bench, Definition};
 pub use circuit::Circuit;
 pub use counts::Counts;
 pub use cut::Cut;
+pub use document::Document;
 pub use driver::Driver;
 pub use fault::{BenchCause, BenchFault, SettingsFault};
 pub use laws::{accepted_laws, circuit_laws, refusal_laws};

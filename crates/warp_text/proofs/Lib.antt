@@ -1,3 +1,4 @@
+pub mod Settling
 pub mod Simulating
 pub mod Replaying
 pub mod Telling

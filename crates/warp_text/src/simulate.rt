@@ -1,6 +1,10 @@
 //! From three texts to a dump.
-ghost use Rattle.std.specs.Prelude.{◌≡◌, IfOk, IfSome, option_map};
+ghost use Rattle.std.specs.Prelude.{◌≡◌, IfOk, IfErr, IfSome, option_map};
 ghost use Rattle.gate_netlist.specs.Circuit.{CutFits};
+ghost use Rattle.gate_netlist.specs.Bench.{bench_of};
+ghost use Rattle.gate_netlist.specs.Faults.{out_of_memory, MemoryHasNoLine};
+ghost use Rattle.gate_netlist.specs.Gives.{Gives};
+ghost use Rattle.gate_netlist.specs.Meaning.{IsRead};
 ghost use Rattle.gate_vcd.specs.Given.{Fits};
 ghost use Rattle.warp_core.specs.Values.{AreCircuitWaves};
 ghost use Rattle.warp_text.specs.Answer.{IsAnswer, IsCounted, IsListed};
@@ -12,12 +16,15 @@ use crate::fault::Fault;
 use crate::nets::nets_text;
 use crate::options::Options;
 use crate::stats::{Stats, stats_of};
-use gate_netlist::{Circuit, Counts, Cut, read_bench};
+use gate_netlist::{Bench, BenchFault, Circuit, Counts, Cut, Document, SettingsFault, read_bench};
 use gate_vcd::{Stimulus, Waves, read_stimulus};
 use std::alloc::Global;
 use std::sync::Wait;
-use std::thread::Threads;
+use std::thread::{Threads, join};
 use warp_rounds::{Gate, NoWatch, RunFault, Watch, run_watched};
+
+/// A settings text of so many bytes is worth a thread beside the one that reads the bench.
+const LONG: usize = 1 << 16;
 
 /// What a run is answered: a dump, and what is counted of the run.
 #[derive(Debug, Drop)]
@@ -39,6 +46,33 @@ pub(crate) fn circuit_of(alloc: Global, bench: &[u8], settings: &[u8]) -> Result
 {
     let bench = read_bench(alloc, bench)?;
     Ok(Circuit::of(alloc, bench, settings)?)
+}
+
+/// The circuit of a bench text and a settings text, which are read side by side where the settings text is long.
+pub(crate) fn circuit_by<R: Threads + Sync>(
+    rt: &R,
+    alloc: Global,
+    bench: &[u8],
+    settings: &[u8],
+) -> Result<Circuit, Fault>
+    ensures { IsCircuitAnswer bench.now settings.now result }
+{
+    if settings.len() < LONG {
+        return circuit_of(alloc, bench, settings);
+    }
+    let (bench, document) = join(
+        rt,
+        || -> Result<Bench, BenchFault>
+            ensures exact { Gives out_of_memory (λ bench. bench) result (bench_of bench.entry.now) }
+            ensures memory { IfErr result MemoryHasNoLine }
+        { read_bench(alloc, bench) },
+        || -> Result<Document, SettingsFault>
+            ensures { IsRead settings.entry.now result }
+        { Document::read(alloc, settings) },
+    );
+    let bench = bench?;
+    let document = document?;
+    Ok(Circuit::with_by(rt, alloc, bench, &document)?)
 }
 
 /// Runs the blocks of a cut circuit.
@@ -189,7 +223,7 @@ pub fn simulate_watched<G: Gate + Sync, W: Watch, R: Threads + Wait + Sync>(
     ensures dump { IsAnswer bench.now settings.now stimulus.now options.now.until (dumped result) }
     ensures counts { IfOk result (λ simulated. AreCountsOf bench.now settings.now options.now.until simulated.stats) }
 {
-    let circuit = circuit_of(alloc, bench, settings)?;
+    let circuit = circuit_by(rt, alloc, bench, settings)?;
     dump_under(rt, alloc, &circuit, stimulus, options, gate, watch)
 }
 

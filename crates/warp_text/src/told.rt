@@ -119,7 +119,7 @@ pub fn simulate_told_watched<G: Gate + Sync, W: Watch, R: Threads + Wait + Sync>
     ensures dump { IsToldAnswer bench.now settings.now (option_map (λ names. names.now) names.entry) stimulus.now options.now.until (dumped result) }
     ensures counts { IfOk result (λ simulated. AreCountsOf bench.now settings.now options.now.until simulated.stats) }
 {
-    let circuit = simulate::circuit_of(alloc, bench, settings)?;
+    let circuit = simulate::circuit_by(rt, alloc, bench, settings)?;
     let told = told_of(alloc, &circuit, names)?;
     told_under(
         rt,

@@ -1,4 +1,4 @@
-ghost use Rattle.std.specs.Prelude.{◌≡◌, ◌≤◌, IfOk, None, length, map, string_bytes, codes, option_map, option_and_then};
+ghost use Rattle.std.specs.Prelude.{◌≡◌, ◌<◌, ◌≤◌, ◌++◌, ◌∷◌, [], IfOk, None, length, map, string_bytes, codes, option_map, option_and_then};
 ghost use Rattle.toml.specs.Data.{get_member, as_table};
 ghost use Rattle.toml.specs.View.{table_view};
 ghost use Rattle.gate_netlist.specs.Netlist.{place_of};
@@ -6,7 +6,7 @@ ghost use Rattle.gate_netlist.specs.Settings.{text_at};
 ghost use Rattle.gate_netlist.specs.Causes.{cause_of};
 ghost use Rattle.gate_netlist.specs.Inner.Clocked.{HasClocks};
 ghost use Rattle.gate_netlist.specs.HeldParts.{parts_netlist};
-ghost use Rattle.gate_netlist.specs.Meaning.{clock_among, driver_by, drivers_of, cut_of, clocked_circuit, circuit_of};
+ghost use Rattle.gate_netlist.specs.Meaning.{clock_among, delays_of, driver_by, drivers_of, cut_of, clocked_circuit, circuit_of};
 
 use super::Circuit;
 use super::readers::readers_of;
@@ -20,20 +20,60 @@ use crate::settings::{
 use std::alloc::{AllocError, Global};
 use toml::Table;
 
-/// The circuit of a bench and a settings document that no cause speaks against.
+/// The delays of a bench's nets by a settings document.
+pub(super) fn bench_delays(
+    alloc: Global,
+    bench: &Bench,
+    table: &Table,
+) -> Result<Vec<u32>, AllocError>
+    ensures { IfOk result (λ delays. delays.items ≡ delays_of (table_view table.now) bench.now.names bench.now.definitions) }
+{
+    delays_of(
+        alloc,
+        table,
+        bench.names.as_slice(),
+        bench.definitions.as_slice(),
+    )
+}
+
+/// The circuit of a bench and a settings document that no cause speaks against, and of the delays of the bench's nets.
 #[tactic(auto, unfolding(crate::specs::Meaning::circuit_of))]
-pub(super) fn build(alloc: Global, bench: Bench, table: &Table) -> Result<Circuit, AllocError>
-    requires { cause_of bench (table_view table.now) ≡ None }
+pub(super) fn build(
+    alloc: Global,
+    bench: Bench,
+    table: &Table,
+    delays: Vec<u32>,
+) -> Result<Circuit, AllocError>
+    requires cause { cause_of bench (table_view table.now) ≡ None }
+    requires delays { delays.items ≡ delays_of (table_view table.now) bench.names bench.definitions }
     ensures { IfOk result (λ circuit. circuit ≡ circuit_of bench (table_view table.now)) }
 {
     let parts = parts_of(bench);
     let clocked = with_clock(alloc, parts, table)?;
-    circuit_of_parts(alloc, clocked, table)
+    let delays = with_last(delays, clocked.names.len())?;
+    circuit_of_parts(alloc, clocked, table, delays)
 }
 
-/// The circuit of a netlist that has its flip-flops' clocks.
-fn circuit_of_parts(alloc: Global, parts: Parts, table: &Table) -> Result<Circuit, AllocError>
-    requires { HasClocks (table_view table.now) (parts_netlist parts) }
+/// The delays of so many nets, of which the last may be an input that has been added.
+fn with_last(mut delays: Vec<u32>, nets: usize) -> Result<Vec<u32>, AllocError>
+    ensures same { IfOk result (λ more. nets ≤ length delays.items → more.items ≡ delays.items) }
+    ensures added { IfOk result (λ more. length delays.items < nets → more.items ≡ delays.items ++ 0 ∷ []) }
+{
+    if delays.len() < nets {
+        delays.push(0)?;
+    }
+    Ok(delays)
+}
+
+/// The circuit of a netlist that has its flip-flops' clocks, and of its nets' delays.
+fn circuit_of_parts(
+    alloc: Global,
+    parts: Parts,
+    table: &Table,
+    delays: Vec<u32>,
+) -> Result<Circuit, AllocError>
+    requires clocks { HasClocks (table_view table.now) (parts_netlist parts) }
+    requires delays { delays.items ≡ delays_of (table_view table.now) (parts_netlist parts).names (parts_netlist parts).definitions }
     ensures { IfOk result (λ circuit. circuit ≡ clocked_circuit (table_view table.now) (parts_netlist parts)) }
 {
     let Parts {
@@ -41,7 +81,6 @@ fn circuit_of_parts(alloc: Global, parts: Parts, table: &Table) -> Result<Circui
         definitions,
         outputs,
     } = parts;
-    let delays = delays_of(alloc, table, names.as_slice(), definitions.as_slice())?;
     let cut = cut_of(alloc, table, names.as_slice(), definitions.as_slice())?;
     let scope = scope_of(alloc, table)?;
     let clock = clock_of(table, &names, definitions.as_slice());

@@ -1,7 +1,9 @@
-use Rattle.std.proofs.Common.{◌∙◌, sym}
-use Rattle.toml.specs.View.{table_view}
-use Rattle.gate_netlist.proofs.Causes.{answer_of_cause}
+use Rattle.gate_netlist.specs.Meaning.{members_of}
+use Rattle.gate_netlist.proofs.Causes.{settled_text, unread_text}
 use Rattle.gate_netlist.proofs.circuit.Circuit.of.Goals as goal
 
-pub returns-in-Some : goal.returns-in-Some
-returns-in-Some c = answer_of_cause c.args.bench c.args.settings.now (table_view c.in-Ok.table) c.in-Some.fault c.in-Ok.ensures (sym c.cause_of.ensures ∙ c.in-Some.is)
+pub returns-in-Ok : goal.returns-in-Ok
+returns-in-Ok c = settled_text c.args.bench c.args.settings.now (members_of c.in-Ok.document) c.in-Ok.ensures c.with.result c.with.ensures
+
+pub returns-in-Err : goal.returns-in-Err
+returns-in-Err c = unread_text c.args.bench c.args.settings.now c.in-Err.fault c.in-Err.ensures
