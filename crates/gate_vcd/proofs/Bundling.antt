@@ -1,5 +1,5 @@
 -- Lists that take in what waits for them, a bundle at a time.
-use Rattle.std.proofs.Common.{◌≡◌, ◌≢◌, ℕ, zero, suc, ◌+◌, ◌*◌, ◌/◌, ◌<◌, ◌≤◌, Bool, true, false, cond, nat_eq, List, [], ◌∷◌, ◌++◌, length, map, set, take, get_or, replicate, Vec, Global, Result, Ok, Err, OnOk, refl, ap, sym, ◌∙◌, arith, inl, inr, add-one, get_or-set_same, get_or-set_other, length-set}
+use Rattle.std.proofs.Common.{◌≡◌, ◌≢◌, ℕ, zero, suc, ◌+◌, ◌*◌, ◌/◌, ◌<◌, ◌≤◌, Bool, true, false, cond, nat_eq, List, [], ◌∷◌, ◌++◌, length, set, take, get_or, replicate, Vec, Global, Result, Ok, Err, OnOk, refl, ap, sym, ◌∙◌, arith, inl, inr, add-one, get_or-set_same, get_or-set_other, length-set}
 use Rattle.std.proofs.lemmas.List.{ext_get_or, get_or-map, get_or_past, length-map, length-replicate, map-append, map-set, set-get_or, take_more}
 use Rattle.gate_values.specs.declared.logic.Change.{Change}
 use Rattle.gate_vcd.specs.declared.fault.StimFault.{StimFault}

@@ -11,6 +11,7 @@ pub mod TimelineLaws
 pub mod MergeLaws
 pub mod Stops
 pub mod PackedLaws
+pub mod PackedParts
 pub mod WaveValues
 pub mod DumpLaws
 pub mod Walking

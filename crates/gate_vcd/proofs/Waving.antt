@@ -3,7 +3,10 @@ use Rattle.std.proofs.Common.{◌≡◌, ◌≢◌, ℕ, zero, suc, ◌+◌, ◌
 use Rattle.std.proofs.Math.ListN.{set, length-set}
 use Rattle.std.proofs.lemmas.List.{length-map, length-replicate, get_or-map, get_or_past, map-set}
 use Rattle.std.proofs.Math.Seq.{map-set_same}
+use Rattle.std.specs.List.{All, AllPairs}
 use Rattle.std.specs.Result.{OnErr}
+use Rattle.std.proofs.lemmas.List.Elements.{All-cons}
+use Rattle.std.proofs.lemmas.List.Kept.{AllPairs-cons}
 use Rattle.std.proofs.lemmas.Grind.{common_steps}
 use Rattle.gate_values.specs.declared.logic.Logic.{Logic}
 use Rattle.gate_values.specs.declared.logic.Logic.TheVariants.{X}
@@ -190,3 +193,13 @@ module _ {V : Type 0} (list : V → List Change) (vectors : List V) (net : ℕ) 
       let within : net < length (set vectors net kept) = omega (arith, length-set vectors net kept, length-map vectors list) in
       let old : list was ≡ wave_of (map list vectors) net = ap list at ∙ sym (get_or-map list (set vectors net kept) net was [] within) ∙ ap (λ (ls : List (List Change)). wave_of ls net) same in
       map-set list (set vectors net kept) net longer ∙ rw (same, more, old) refl
+
+-- times of a wave are at least the one that it is from, and rise
+wave_from : (from : ℕ) (before : Logic) (cs : List Change) → IsWaveFrom from before cs → All (λ (c : Change). from ≤ c.time) cs
+wave_from from before [] w = λ k d l. absurd (omega arith)
+wave_from from before (c ∷ cs) w = All-cons (λ (x : Change). from ≤ x.time) c cs w.0 (λ k d l. (let later = wave_from (c.time + 1) c.value cs w.2 k d l in omega (arith, later, w.0)))
+
+pub wave_rises : (from : ℕ) (before : Logic) (cs : List Change) → IsWaveFrom from before cs → AllPairs (λ (a b : Change). a.time < b.time) cs
+wave_rises from before [] w = λ i j d h l. absurd (omega arith)
+wave_rises from before (c ∷ cs) w =
+    AllPairs-cons (λ (a b : Change). a.time < b.time) c cs (λ k d l. (let later = wave_from (c.time + 1) c.value cs w.2 k d l in omega (arith, later))) (wave_rises (c.time + 1) c.value cs w.2)

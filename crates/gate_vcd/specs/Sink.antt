@@ -1,5 +1,5 @@
 -- What a sink has taken, and what a run of writes leaves.
-use Rattle.std.specs.Prelude.{ℕ, ◌+◌, ◌==◌, Bool, true, ◌&&◌, ◌||◌, not, List, ◌++◌, length, take, Option, Some, None, unwrap_or}
+use Rattle.std.specs.Prelude.{ℕ, ◌==◌, Bool, true, ◌&&◌, ◌||◌, not, List, ◌++◌, length, take, Option, Some, None, unwrap_or}
 
 -- the bytes that a sink has taken, and whether a `put` has failed
 pub record Held : Type 0 where

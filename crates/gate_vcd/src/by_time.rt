@@ -1,17 +1,19 @@
 //! All changes by time: in a word each where times are dense, and else in runs, as also once a change is pushed.
 
-ghost use Rattle.std.specs.Prelude.{◌≡◌, ◌≤◌, ◌+◌, [], IfOk, OnOk, OnErr, length};
+ghost use Rattle.std.specs.Prelude.{◌≡◌, ◌≤◌, ◌+◌, ℕ, [], IfOk, OnOk, OnErr, length};
 ghost use Rattle.gate_vcd.specs.declared.timeline.Stop.{Stop};
-ghost use Rattle.gate_vcd.specs.Waves.{lists_in};
+ghost use Rattle.gate_vcd.specs.Waves.{lists_in, wave_of};
+ghost use Rattle.gate_vcd.specs.Inner.Lists.{IsRising};
 ghost use Rattle.gate_vcd.specs.Inner.Timeline.{count, one};
 ghost use Rattle.gate_vcd.specs.Inner.Waves.{stops_below};
 ghost use Rattle.gate_vcd.specs.Inner.ByTime.{stops_in};
 
 use crate::packed::Packed;
-use crate::packing::pack;
+use crate::packing::{pack, pack_by};
 use crate::timeline::{Stop, Timeline};
 use gate_values::Change;
 use std::alloc::{AllocError, Global};
+use std::thread::Threads;
 
 /// Changes in the order of time.
 #[derive(Drop)]
@@ -30,10 +32,29 @@ impl ByTime {
 
     /// The changes in a list for each net. An error is a refused growth.
     pub fn of(alloc: Global, lists: &[Vec<Change>]) -> Result<ByTime, AllocError>
-        requires { length lists.now ≤ 4294967295 }
+        requires few { length lists.now ≤ 4294967295 }
+        requires rising { (n : ℕ) → IsRising (wave_of (lists_in lists.now) n) }
         ensures { IfOk result (λ all. (s : Stop) → count s (stops_in all) ≡ count s (stops_below (lists_in lists.now) (length lists.now))) }
     {
         match pack(alloc, lists)? {
+            Some(packed) => Ok(ByTime::Words(packed)),
+            None => Ok(ByTime::Runs(Timeline::of(alloc, lists)?)),
+        }
+    }
+
+    /// The same by up to so many threads, at least one.
+    pub fn of_by<R: Threads + Sync>(
+        rt: &R,
+        alloc: Global,
+        threads: u32,
+        lists: &[Vec<Change>],
+    ) -> Result<ByTime, AllocError>
+        requires threads { 1 ≤ threads }
+        requires few { length lists.now ≤ 4294967295 }
+        requires rising { (n : ℕ) → IsRising (wave_of (lists_in lists.now) n) }
+        ensures { IfOk result (λ all. (s : Stop) → count s (stops_in all) ≡ count s (stops_below (lists_in lists.now) (length lists.now))) }
+    {
+        match pack_by(rt, alloc, threads, lists)? {
             Some(packed) => Ok(ByTime::Words(packed)),
             None => Ok(ByTime::Runs(Timeline::of(alloc, lists)?)),
         }

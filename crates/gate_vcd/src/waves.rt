@@ -8,6 +8,7 @@ use crate::timeline::Stop;
 use gate_values::{Change, Logic};
 use std::alloc::{AllocError, Global};
 use std::marker::Model;
+use std::thread::Threads;
 
 /// The changes of each net of a circuit: times rise, and each value is other than the one before, which
 /// is `X` at first. Contracts see the list of these lists.
@@ -100,6 +101,22 @@ impl Waves {
         ensures { IfOk result (λ waves. waves ≡ lists_in lists.items) }
     {
         let by_time = ByTime::of(alloc, lists.as_slice())?;
+        Ok(Waves { lists, by_time })
+    }
+
+    /// The same, where up to so many threads, at least one, put changes of dense times into their order.
+    pub fn of_by<R: Threads + Sync>(
+        rt: &R,
+        alloc: Global,
+        threads: u32,
+        lists: Vec<Vec<Change>>,
+    ) -> Result<Waves, AllocError>
+        requires threads { 1 ≤ threads }
+        requires few { length lists.items ≤ 4294967295 }
+        requires waves { (n : ℕ) → IsWave (wave_of (lists_in lists.items) n) }
+        ensures { IfOk result (λ waves. waves ≡ lists_in lists.items) }
+    {
+        let by_time = ByTime::of_by(rt, alloc, threads, lists.as_slice())?;
         Ok(Waves { lists, by_time })
     }
 

@@ -1,14 +1,8 @@
 -- Entries that are settled, and nets that aren't among a block's.
-use Rattle.std.proofs.Common.{◌≡◌, ℕ, ◌+◌, ◌<◌, ◌≤◌, arith, false, Option, None, is_some, not, ◌&&◌, List, [], ◌∷◌, inl, inr, ap, sym, ◌∙◌}
-use Rattle.std.specs.List.{All, AllPairs}
+use Rattle.std.proofs.Common.{◌≡◌, ℕ, ◌+◌, arith, false, Option, None, is_some, not, ◌&&◌, List, inl, inr, ap, sym, ◌∙◌}
 use Rattle.std.proofs.lemmas.Bool.{cases_Bool, cases_lt, true≢false}
-use Rattle.std.proofs.lemmas.List.Elements.{All-cons}
-use Rattle.std.proofs.lemmas.List.Kept.{AllPairs-cons}
-use Rattle.gate_values.specs.declared.logic.Logic.{Logic}
-use Rattle.gate_values.specs.declared.logic.Change.{Change}
 use Rattle.gate_netlist.specs.Cut.{Ownership}
 use Rattle.gate_vcd.specs.Given.{Given}
-use Rattle.gate_vcd.specs.Waves.{IsWaveFrom}
 use Rattle.warp_process.specs.Entries.{is_settled}
 use Rattle.warp_part.specs.Portion.{slot_of, reads, owns}
 use Rattle.warp_process.specs.View.{View, Process, entry_of}
@@ -53,16 +47,6 @@ module _ (v : View) (lawful : IsLawful v) where
       ]);
     },
   )
-
--- times of a wave are at least the one that it is from, and rise
-wave_from : (from : ℕ) (before : Logic) (cs : List Change) → IsWaveFrom from before cs → All (λ (c : Change). from ≤ c.time) cs
-wave_from from before [] w = λ k d l. absurd (omega arith)
-wave_from from before (c ∷ cs) w = All-cons (λ (x : Change). from ≤ x.time) c cs w.0 (λ k d l. (let later = wave_from (c.time + 1) c.value cs w.2 k d l in omega (arith, later, w.0)))
-
-pub wave_rises : (from : ℕ) (before : Logic) (cs : List Change) → IsWaveFrom from before cs → AllPairs (λ (a b : Change). a.time < b.time) cs
-wave_rises from before [] w = λ i j d h l. absurd (omega arith)
-wave_rises from before (c ∷ cs) w =
-    AllPairs-cons (λ (a b : Change). a.time < b.time) c cs (λ k d l. (let later = wave_from (c.time + 1) c.value cs w.2 k d l in omega (arith, later))) (wave_rises (c.time + 1) c.value cs w.2)
 
 -- a net that isn't among a block's has no entries
 pub other_settled : (v : View) (n : ℕ) → slot_of v.part.nets n ≡ None → IsSettledAt v n

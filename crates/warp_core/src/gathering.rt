@@ -1,6 +1,7 @@
-ghost use Rattle.std.specs.Prelude.{◌≡◌, ◌<◌, ◌≤◌, ◌↔◌, ℕ, IsTrue, IfErr, OnOk, MatchOption, length};
+ghost use Rattle.std.specs.Prelude.{◌≡◌, ◌<◌, ◌≤◌, ◌↔◌, ℕ, IsTrue, IfOk, IfErr, OnOk, MatchOption, Ok, length, vec_len};
 ghost use Rattle.gate_netlist.specs.Circuit.{CutFits};
 ghost use Rattle.gate_vcd.specs.Given.{Fits};
+ghost use Rattle.gate_vcd.specs.Waves.{lists_in, wave_of, IsWave};
 ghost use Rattle.warp_process.specs.Limits.{most_horizon};
 ghost use Rattle.warp_process.specs.View.{IsDone};
 ghost use Rattle.warp_process.specs.Lawful.{IsLawful};
@@ -16,6 +17,7 @@ mod waves;
 use crate::fault::GatherFault;
 use findings::Finding;
 use gate_netlist::{Circuit, Cut};
+use gate_values::Change;
 use gate_vcd::{Stimulus, Waves};
 use std::alloc::Global;
 use std::thread::Threads;
@@ -43,11 +45,13 @@ pub fn gather(
         return Err(GatherFault::WrongCount);
     }
     let found = findings::find(alloc, circuit, cut, stimulus, horizon, blocks.as_slice())?;
-    gathered(alloc, circuit, cut, stimulus, horizon, blocks, found)
+    let lists = gathered(alloc, circuit, cut, stimulus, horizon, blocks, found)?;
+    let waves = Waves::of(alloc, lists)?;
+    Ok(waves)
 }
 
-/// The waves of a circuit, as [`gather`] answers them, where up to `workers` threads, at least one, look at the blocks side by side.
-/// Where a thread can't be started its share is looked at by another one.
+/// The waves of a circuit, as [`gather`] answers them, where up to `workers` threads, at least one, look at the blocks side by side,
+/// and put changes of dense times into their order. Where a thread can't be started, another one does its share.
 pub fn gather_by<R: Threads + Sync>(
     rt: &R,
     alloc: Global,
@@ -69,10 +73,12 @@ pub fn gather_by<R: Threads + Sync>(
     }
     let shown = blocks.as_slice();
     let found = findings::find_by(rt, alloc, workers, circuit, cut, stimulus, horizon, shown)?;
-    gathered(alloc, circuit, cut, stimulus, horizon, blocks, found)
+    let lists = gathered(alloc, circuit, cut, stimulus, horizon, blocks, found)?;
+    let waves = Waves::of_by(rt, alloc, workers, lists)?;
+    Ok(waves)
 }
 
-/// The waves from blocks of which all is found.
+/// A list of changes for each net, from blocks of which all is found.
 fn gathered(
     alloc: Global,
     circuit: &Circuit,
@@ -81,20 +87,23 @@ fn gathered(
     horizon: u64,
     blocks: Vec<Block>,
     found: Vec<Finding>,
-) -> Result<Waves, GatherFault>
+) -> Result<Vec<Vec<Change>>, GatherFault>
     requires cut { CutFits circuit.now cut.now }
     requires stimulus { Fits stimulus.now circuit.now }
     requires horizon { horizon ≤ most_horizon }
     requires count { AreCounted cut.now blocks.items }
     requires found { AreFound circuit.now cut.now stimulus.now horizon blocks.items found.items }
-    ensures { IsGathered circuit.now cut.now stimulus.now horizon blocks.items result }
+    ensures few { IfOk result (λ lists. vec_len lists ≤ 1000000) }
+    ensures waves { IfOk result (λ lists. (n : ℕ) → IsWave (wave_of (lists_in lists.items) n)) }
+    ensures gathered { IfOk result (λ lists. IsGathered circuit.now cut.now stimulus.now horizon blocks.items (Ok (lists_in lists.items))) }
+    ensures fault { IfErr result (IsFault circuit.now cut.now stimulus.now horizon blocks.items) }
 {
     check(cut, blocks.as_slice(), found.as_slice())?;
     cut.law();
     stimulus.law();
     laws(blocks.as_slice());
-    let waves = waves::waves_of(alloc, circuit, cut, stimulus, horizon, blocks)?;
-    Ok(waves)
+    let lists = waves::lists_of(alloc, circuit, cut, stimulus, horizon, blocks)?;
+    Ok(lists)
 }
 
 /// Whether blocks of which all is found are matched; if they aren't, why.

@@ -15,32 +15,33 @@ ghost use Rattle.warp_core.specs.Inner.Gather.{after_blocks};
 use super::told::given_until;
 use gate_netlist::{Circuit, Cut};
 use gate_values::Change;
-use gate_vcd::{Stimulus, Waves};
+use gate_vcd::Stimulus;
 use std::alloc::{AllocError, Global};
 use warp_block::Block;
 
-/// What the owners of all nets, and the stimulus, say of them.
-pub(super) fn waves_of(
+/// What the owners of all nets, and the stimulus, say of them: a list for each net.
+pub(super) fn lists_of(
     alloc: Global,
     circuit: &Circuit,
     cut: &Cut,
     stimulus: &Stimulus,
     horizon: u64,
     blocks: Vec<Block>,
-) -> Result<Waves, AllocError>
+) -> Result<Vec<Vec<Change>>, AllocError>
     requires cut { CutFits circuit.now cut.now }
     requires count { AreCounted cut.now blocks.items }
     requires parts { EachBlock cut.now blocks.items (IsBlockOf circuit.now cut.now horizon) }
     requires horizon { horizon ≤ most_horizon }
     requires told { (n : ℕ) → IsWave (told_of cut.now stimulus.now horizon blocks.items n) }
-    ensures nets { IfOk result (λ waves. length waves ≡ nets_of circuit.now) }
-    ensures waves { IfOk result (λ waves. (n : ℕ) → n < nets_of circuit.now → wave_of waves n ≡ told_of cut.now stimulus.now horizon blocks.items n) }
+    ensures nets { IfOk result (λ lists. length (lists_in lists.items) ≡ nets_of circuit.now) }
+    ensures few { IfOk result (λ lists. vec_len lists ≤ 1000000) }
+    ensures told { IfOk result (λ lists. (n : ℕ) → n < nets_of circuit.now → wave_of (lists_in lists.items) n ≡ told_of cut.now stimulus.now horizon blocks.items n) }
+    ensures waves { IfOk result (λ lists. (n : ℕ) → IsWave (wave_of (lists_in lists.items) n)) }
 {
     let mut lists = given_lists(alloc, circuit.nets(), cut, stimulus, horizon)?;
     cut.law();
     give_all(blocks, &mut lists);
-    let waves = Waves::of(alloc, lists)?;
-    Ok(waves)
+    Ok(lists)
 }
 
 /// A list for each net: of an input the stimulus's changes up to the horizon, else none.

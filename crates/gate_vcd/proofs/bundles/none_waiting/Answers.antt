@@ -1,4 +1,4 @@
-use Rattle.std.proofs.Common.{◌≡◌, refl, arith}
+use Rattle.std.proofs.Common.{◌≡◌, arith}
 use Rattle.gate_vcd.proofs.Bundling.{one_waiting_more, all_waiting}
 use Rattle.gate_vcd.proofs.bundles.none_waiting.Goals as goal
 

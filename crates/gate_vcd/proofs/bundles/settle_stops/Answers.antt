@@ -1,4 +1,4 @@
-use Rattle.std.proofs.Common.{◌∙◌, refl}
+use Rattle.std.proofs.Common.{◌∙◌}
 use Rattle.gate_values.specs.declared.logic.Logic.TheVariants.{Zero}
 use Rattle.gate_vcd.specs.Waves.{lists_in}
 use Rattle.gate_vcd.proofs.Bundling.{with_stops-next}

@@ -7,17 +7,17 @@ use Rattle.warp_core.proofs.GivenLogs.{told_wave}
 use Rattle.warp_core.proofs.gathering.gathered.Goals.{In_ok-check}
 use Rattle.warp_core.proofs.gathering.gathered.Goals as goal
 
-pub returns-in_err-check : goal.returns-in_err-check
-returns-in_err-check c =
+pub returns-in_err-check-clause-fault : goal.returns-in_err-check-clause-fault
+returns-in_err-check-clause-fault c =
     let p = err_from_is_err_and c.from_residual.result c.from_residual.ensures.1 in
     rw (p.1, p.2) (rw c.as_slice.ensures.value at c.in_err-check.ensures.fault c.args.circuit.now c.args.stimulus.now c.args.horizon (rw c.as_slice-2.ensures.value c.requires.found))
 
-pub waves_of-requires-clause-parts : goal.waves_of-requires-clause-parts
-waves_of-requires-clause-parts c =
+pub lists_of-requires-clause-parts : goal.lists_of-requires-clause-parts
+lists_of-requires-clause-parts c =
     (rw c.as_slice.ensures.value at c.in_ok-check.ensures.matched c.args.circuit.now c.args.stimulus.now c.args.horizon (rw c.as_slice-2.ensures.value c.requires.found)).parts
 
-pub waves_of-requires-clause-told : goal.waves_of-requires-clause-told
-waves_of-requires-clause-told c =
+pub lists_of-requires-clause-told : goal.lists_of-requires-clause-told
+lists_of-requires-clause-told c =
     let d = c.args.circuit.now in
     let cut = c.args.cut.now in
     let g = c.args.stimulus.now in
@@ -27,8 +27,8 @@ waves_of-requires-clause-told c =
     let lawful : EachBlock cut blocks (λ _ v. IsLawful v) = λ b l. each b (omega (arith, l, matched.count)) in
     told_wave d cut g c.args.horizon blocks c.requires.cut c.law.ensures matched.count matched.parts c.requires.horizon c.law-2.ensures lawful
 
-pub returns : goal.returns
-returns c =
+pub returns-clause-gathered : goal.returns-clause-gathered
+returns-clause-gathered c =
     let d = c.args.circuit.now in
     let cut = c.args.cut.now in
     let g = c.args.stimulus.now in
@@ -38,7 +38,7 @@ returns c =
     let lawful : EachBlock cut blocks (λ _ v. IsLawful v) = λ b l. each b (omega (arith, l, matched.count)) in (
       matched,
       record {
-        nets = c.in_ok-waves.ensures.nets;
-        waves = λ n l. c.in_ok-waves.ensures.waves n l ∙ matched_changes d cut g c.args.horizon blocks c.requires.cut c.law.ensures c.law-2.ensures c.requires.horizon lawful matched n l;
+        nets = c.in_ok-lists.ensures.nets;
+        waves = λ n l. c.in_ok-lists.ensures.told n l ∙ matched_changes d cut g c.args.horizon blocks c.requires.cut c.law.ensures c.law-2.ensures c.requires.horizon lawful matched n l;
       },
     )

@@ -1,4 +1,4 @@
-use Rattle.std.proofs.Common.{◌≡◌, sym, ◌∙◌, length, List, [], arith}
+use Rattle.std.proofs.Common.{◌≡◌, sym, ◌∙◌, length, arith}
 use Rattle.std.proofs.lemmas.List.{nil_from_length}
 use Rattle.gate_vcd.specs.Inner.Bundles.{with_stops}
 use Rattle.gate_vcd.specs.Waves.{lists_in}
