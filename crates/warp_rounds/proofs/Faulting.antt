@@ -1,5 +1,5 @@
 -- Where the faults of a run come from.
-use Rattle.std.proofs.Common.{◌≡◌, ℕ, ◌<◌, List, All, length, refl, sym, ap, subst, arith}
+use Rattle.std.proofs.Common.{◌≡◌, ℕ, ◌<◌, ◌≤◌, List, All, length, refl, sym, ap, subst, arith}
 use Rattle.std.proofs.lemmas.List.Elements.{All-append, All-same, All-weaker}
 use Rattle.gate_netlist.specs.Circuit.{Design, CutFits}
 use Rattle.gate_netlist.specs.Cut.{Ownership}
@@ -59,3 +59,14 @@ module _ (d : Design) (cut : Ownership) (g : Given) (horizon workers window : �
 
   pub memory_run : (fault : RunFault) → fault ≡ Memory → IsRunFault d cut g horizon workers window fault
   memory_run fault is = subst (IsRunFault d cut g horizon workers window) (sym is) tt
+
+-- a thread of several workers is wanting
+pub lost_run : (blocks horizon workers window : ℕ) → 1 < workers → IsRoundsFault blocks horizon workers window NoThread
+lost_run blocks horizon workers window some = record { floor = 0; seats = workers; within = omega arith; few = omega arith; met = some }
+
+pub memory_rounds : (blocks horizon workers window : ℕ) → IsRoundsFault blocks horizon workers window Memory
+memory_rounds blocks horizon workers window = record { floor = 0; seats = workers; within = omega arith; few = omega arith; met = tt }
+
+-- of fewer workers
+pub fewer_rounds : (blocks horizon few workers window : ℕ) (fault : RunFault) → few ≤ workers → IsRoundsFault blocks horizon few window fault → IsRoundsFault blocks horizon workers window fault
+fewer_rounds blocks horizon few workers window fault le h = record { floor = h.floor; seats = h.seats; within = h.within; few = (let f = h.few in omega (arith, f, le)); met = h.met }

@@ -16,7 +16,7 @@ use Rattle.warp_rounds.specs.Words.{never}
 use Rattle.warp_rounds.specs.Seats.{RoundId, RoundView, SeatView, empty_seat, least_of, IsEnd, IsUnmarked}
 use Rattle.warp_rounds.specs.Visit.{IsVisit, IsFaultyVisit}
 use Rattle.warp_rounds.specs.Runs.{IsStall, IsBlockFault}
-use Rattle.warp_rounds.specs.Inner.Work.{IsUndelivered, Visited, IsVisited, lowered, least_told, AreVisits, HasPlayed, IsWorkFault, IsPlayedOut, IsOver, HasLaps, IsStartFault, IsRoundFault}
+use Rattle.warp_rounds.specs.Inner.Work.{IsUndelivered, Visited, IsVisited, lowered, least_told, AreVisits, HasPlayed, IsWorkFault, IsPlayedOut, IsOver, HasLaps, IsRoundFault}
 
 -- ---- faults
 
@@ -48,13 +48,6 @@ work_round blocks workers floor window (Stalled time) h = absurd h
 work_round blocks workers floor window (Gather f) h = absurd h
 work_round blocks workers floor window NoThread h = absurd h
 work_round blocks workers floor window Memory h = tt
-
-pub start_round : (blocks workers floor window : ℕ) (fault : RunFault) → IsStartFault workers fault → IsRoundFault blocks workers floor window fault
-start_round blocks workers floor window (Block f) h = absurd h
-start_round blocks workers floor window (Stalled time) h = absurd h
-start_round blocks workers floor window (Gather f) h = absurd h
-start_round blocks workers floor window NoThread h = h
-start_round blocks workers floor window Memory h = tt
 
 -- ---- visits
 
@@ -156,6 +149,16 @@ stalled_seat round floor window before s (played, marked) low =
     elim (least_in (λ (v : Visited). v.least) (IsVisited floor window) (IsStall floor window) floor
     (λ v made past. record { sent = v.sent; least = v.least; visit = made; back = past }) never played.visits played.visited.made
     (subst (λ (n : ℕ). n ≤ floor) played.visited.told low)) [
+      | inl none ↦ absurd (omega arith)
+      | inr stall ↦ stall
+    ]
+
+-- where visits told a least time that isn't past the floor, one of them told it
+pub visits_stall : (floor window least : ℕ) → floor < never → AreVisits floor window least → least ≤ floor → IsStall floor window
+visits_stall floor window least before are low =
+    elim (least_in (λ (v : Visited). v.least) (IsVisited floor window) (IsStall floor window) floor
+    (λ v made past. record { sent = v.sent; least = v.least; visit = made; back = past }) never are.visits are.made
+    (subst (λ (n : ℕ). n ≤ floor) (sym (are.told never)) (omega arith))) [
       | inl none ↦ absurd (omega arith)
       | inr stall ↦ stall
     ]

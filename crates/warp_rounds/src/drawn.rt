@@ -24,7 +24,7 @@ pub struct Played {
 
 impl Played {
     /// Both together.
-    fn with(self, other: Played) -> Played
+    pub(crate) fn with(self, other: Played) -> Played
         ensures { result.least ≡ min self.least other.least }
     {
         Played {
@@ -43,7 +43,7 @@ pub(crate) fn play_drawn<G: Gate, R: Wait>(
     desk: &mut Desk,
     floor: u64,
     window: u32,
-    pace: &Pace,
+    pace: &Pace<'_>,
     gate: &G,
 ) -> Result<Played, RunFault>
     requires { 0 < length sites.now }
@@ -102,7 +102,7 @@ fn go_over<G: Gate, R: Wait>(
     desk: &mut Desk,
     floor: u64,
     window: u32,
-    pace: &Pace,
+    pace: &Pace<'_>,
     gate: &G,
 ) -> Result<Played, RunFault>
     requires first { first < length sites.now }
@@ -143,7 +143,7 @@ fn play_near<G: Gate, R: Wait>(
     desk: &mut Desk,
     floor: u64,
     window: u32,
-    pace: &Pace,
+    pace: &Pace<'_>,
     gate: &G,
 ) -> Result<Played, RunFault>
     requires block { block < length sites.now }

@@ -14,13 +14,13 @@ pub enum RunFault {
     /// A block refused a message, or to commit.
     #[error("block {0}")]
     Block(BlockFault),
-    /// A round's least time was not above the floor before it, which is `time`, or the round told no time.
+    /// A round's least time was not above the floor before it, which is `time`.
     #[error("stalled at {time}")]
     Stalled { time: u64 },
     /// The blocks are not gathered.
     #[error("gather {0}")]
     Gather(GatherFault),
-    /// The thread of a worker didn't start.
+    /// The thread of a worker didn't start, or what it told is wanting.
     #[error("no thread")]
     NoThread,
     /// A growth was refused, in a block or in gathering too.

@@ -4,8 +4,9 @@
 //! times. A [`Site`] keeps a block behind a lock, and what is in flight to it behind another; a [`Gate`] watches turns.
 //!
 //! A [`Round`] shares the blocks out as its workers get to them: each worker has a [`RoundSeat`], draws blocks with it
-//! until none is left, and reports a time for each. Drawing and reporting are one atomic step each, and wait for
-//! nobody. [`Round::end`] takes all the seats back: it answers the least time reported, where every block was drawn.
+//! until none is left, and reports times. Drawing and reporting are one atomic step each, and wait for
+//! nobody; the workers of a run, who stay for all its rounds (`Crew`), draw and report under one lock. [`Round::end`] takes all the seats
+//! back: it answers the least time reported, where every block was drawn.
 //!
 //! [`run`] plays rounds until nothing is left, and answers the circuit's waves. A round of it goes over the blocks in laps: a number
 //! that is drawn stands for the block that it leaves when it is divided by the number of blocks, so that a block may take
@@ -22,12 +23,14 @@
 #![tactic(auto)]
 
 mod counts;
+mod crew;
 mod desk;
 mod drawn;
 mod fault;
 mod gate;
 mod hand;
 mod pace;
+mod play;
 mod round;
 mod runs;
 mod signs;

@@ -26,7 +26,7 @@ const TURN: u64 = 1 << 13;
 /// About how many it makes at most, where one block has most of the work.
 const LONG_TURN: u64 = 1 << 14;
 
-/// A round with less work goes over the blocks more often, so that its threads are worth their start.
+/// A round with less work goes over the blocks more often, so that its workers have something to do between two meetings.
 const ENOUGH: u64 = 1 << 19;
 
 /// How often a round goes over the blocks at most.
@@ -364,22 +364,18 @@ impl Lead {
 }
 
 /// The pace of a round, how many neighbouring blocks are a group, and about how far all blocks have come.
-#[derive(Drop)]
-pub(crate) struct Pace {
+#[derive(Clone, Copy)]
+pub(crate) struct Pace<'a> {
     lead: Lead,
     group: usize,
-    front: AtomicU64,
+    front: &'a AtomicU64,
 }
 
-impl Pace {
-    /// The pace of a round at a floor, over so many blocks by so many workers. There are as many groups as workers at least.
-    pub(crate) fn at(lead: Lead, floor: u64, blocks: usize, workers: u32) -> Pace {
+impl<'a> Pace<'a> {
+    /// The pace of a round, over so many blocks by so many workers, whose blocks have come as far as a word says.
+    pub(crate) fn of(lead: Lead, blocks: usize, workers: u32, front: &'a AtomicU64) -> Pace<'a> {
         let group = (blocks / workers.max(1) as usize).clamp(1, GROUP);
-        Pace {
-            lead,
-            group,
-            front: AtomicU64::new(floor),
-        }
+        Pace { lead, group, front }
     }
 
     /// How many neighbouring blocks are a group.

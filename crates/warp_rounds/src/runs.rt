@@ -1,5 +1,5 @@
 //! A run of the blocks of a circuit, round by round.
-ghost use Rattle.std.specs.Prelude.{◌≡◌, ◌≤◌, ◌<◌, ◌^◌, IfOk, IfErr, All, length, vec_len};
+ghost use Rattle.std.specs.Prelude.{◌≡◌, ◌≤◌, ◌<◌, ◌^◌, IfOk, IfErr, IfSome, IfNone, All, length, vec_len};
 ghost use Rattle.gate_netlist.specs.Circuit.{CutFits};
 ghost use Rattle.gate_vcd.specs.Given.{Fits};
 ghost use Rattle.warp_process.specs.Limits.{most_horizon};
@@ -8,21 +8,27 @@ ghost use Rattle.warp_core.specs.Values.{AreCircuitWaves};
 ghost use Rattle.warp_rounds.specs.declared.fault.RunFault.TheVariants as fault;
 ghost use Rattle.warp_rounds.specs.Runs.{IsRunFault};
 ghost use Rattle.warp_rounds.specs.Counts.{AreCounted, AccountsFor};
-ghost use Rattle.warp_rounds.specs.Inner.Work.{IsRoundsFault};
+ghost use Rattle.warp_rounds.specs.Words.{never};
+ghost use Rattle.warp_rounds.specs.Inner.Work.{IsRoundFault, IsRoundsFault};
+ghost use Rattle.warp_rounds.specs.Inner.Crew.{IsOfRun, MayEnd};
 
 use crate::counts::{Counts, RunCounts};
+use crate::crew::{Crew, Term};
 use crate::desk::Desk;
+use crate::drawn::Played;
 use crate::fault::RunFault;
 use crate::gate::Gate;
 use crate::pace::{Lead, tellers_of};
+use crate::play::Order;
 use crate::site::Site;
 use crate::watch::{NoWatch, Watch};
-use crate::work::play_round;
+use crate::work::{draws_of, play_alone};
 use gate_netlist::{Circuit, Cut};
 use gate_vcd::{Stimulus, Waves};
 use std::alloc::{AllocError, Global};
 use std::sync::Wait;
-use std::thread::Threads;
+use std::thread;
+use std::thread::{Promise, PromisedHandle, Threads};
 use warp_block::{Block, Part};
 use warp_core::gather_by;
 
@@ -155,8 +161,8 @@ fn sites_of<R: Wait>(
     Ok(sites)
 }
 
-// Plays rounds until the floor is past the horizon: by all workers, but by one alone where the round before had little work, or
-// most of it in one turn. The answer is how many.
+// Plays rounds until the floor is past the horizon, and answers how many. One worker plays all in the caller's thread; of more each other
+// one has a thread of its own, which stays for all rounds.
 fn play_rounds<G: Gate + Sync, W: Watch, R: Threads + Wait + Sync>(
     rt: &R,
     alloc: Global,
@@ -172,24 +178,159 @@ fn play_rounds<G: Gate + Sync, W: Watch, R: Threads + Wait + Sync>(
     requires workers { 1 ≤ workers }
     ensures { IfErr result (IsRoundsFault (length sites.now) horizon workers window) }
 {
-    let all = workers.min(sites.len() as u32).max(1);
-    let mut desks = Vec::new(alloc);
+    let term = Term {
+        blocks: sites.len(),
+        horizon,
+        workers: workers.min(sites.len() as u32).max(1),
+        window,
+    };
+    let crew = Crew::new();
+    let shared = &crew;
+    thread::scope(
+        thread::scope_env(),
+        rt,
+        |scope| -> Result<u64, RunFault>
+            requires { (term.blocks ≡ length sites.now) × (term.blocks < 2 ^ 32) × (term.horizon ≤ most_horizon) × (1 ≤ term.workers) }
+            ensures { IfErr result (IsRoundsFault term.blocks term.horizon term.workers term.window) }
+        {
+            let mut handles = Vec::with_capacity(alloc, term.workers as usize)?;
+            for place in 1..term.workers {
+                let started = scope.spawn_with(
+                    OfRun { term },
+                    move || -> Result<(), RunFault>
+                        requires { (term.blocks ≡ length sites.now) × (term.horizon ≤ most_horizon) }
+                        ensures { IfErr result (IsRoundsFault term.blocks term.horizon term.workers term.window) }
+                    { shared.stay(rt, alloc, place as usize, sites, term, gate) },
+                );
+                match started {
+                    Ok(handle) => handles.push_reserved(handle),
+                    Err(_) => {
+                        shared.dismiss(rt);
+                        return Err(RunFault::NoThread);
+                    }
+                }
+            }
+            let rounds = rounds_of(rt, alloc, shared, sites, term, gate, watch);
+            shared.dismiss(rt);
+            match rounds? {
+                Some(rounds) => Ok(rounds),
+                None => Err(fault_of(rt, handles, term)),
+            }
+        },
+    )
+}
+
+// Plays rounds until the floor is past the horizon: by all workers, but by one alone where the round before had little work, or
+// most of it in one turn. The answer is how many; it is none where another worker met a fault, which that one hands back.
+fn rounds_of<G: Gate + Sync, W: Watch, R: Threads + Wait + Sync>(
+    rt: &R,
+    alloc: Global,
+    crew: &Crew,
+    sites: &[Site],
+    term: Term,
+    gate: &G,
+    watch: &mut W,
+) -> Result<Option<u64>, RunFault>
+    requires blocks { (term.blocks ≡ length sites.now) × (term.blocks < 2 ^ 32) }
+    requires horizon { term.horizon ≤ most_horizon }
+    requires workers { 1 ≤ term.workers }
+    ensures several { IfOk result (λ rounds. IfNone rounds (1 < term.workers)) }
+    ensures fault { IfErr result (IsRoundsFault term.blocks term.horizon term.workers term.window) }
+{
+    let mut desk = Desk::new(alloc);
     let mut floor = 0;
     let mut rounds: u64 = 0;
     let mut lead = Lead::first(sites.len());
     let mut is_alone = false;
-    while floor <= horizon {
-        let seats = if is_alone { 1 } else { all };
-        let played = play_round(
-            rt, alloc, sites, &mut desks, seats, floor, window, lead, gate,
-        )?;
+    while floor <= term.horizon {
+        let workers = if is_alone || sites.is_empty() {
+            1
+        } else {
+            term.workers
+        };
+        let order = Order {
+            floor,
+            window: term.window,
+            lead,
+            workers,
+            blocks: sites.len(),
+        };
+        let Some(played) = play_at(rt, alloc, crew, order, sites, &mut desk, gate)? else {
+            return Ok(None);
+        };
         floor = played.least;
-        is_alone = played.tally.is_for_one(lead.laps_for(seats));
+        is_alone = played.tally.is_for_one(lead.laps_for(workers));
         lead = lead.after(played.tally, is_alone);
         rounds = rounds.saturating_add(1);
         watch.floor(floor);
     }
-    Ok(rounds)
+    Ok(Some(rounds))
+}
+
+// Plays a round: by one worker alone, or by the crew.
+fn play_at<G: Gate + Sync, R: Threads + Wait + Sync>(
+    rt: &R,
+    alloc: Global,
+    crew: &Crew,
+    order: Order,
+    sites: &[Site],
+    desk: &mut Desk,
+    gate: &G,
+) -> Result<Option<Played>, RunFault>
+    requires blocks { length sites.now < 2 ^ 32 }
+    requires some { 1 < order.workers → 0 < length sites.now }
+    requires workers { 1 ≤ order.workers }
+    requires floor { order.floor < never }
+    ensures later { IfOk result (λ told. IfSome told (λ played. order.floor < played.least)) }
+    ensures several { IfOk result (λ told. IfNone told (1 < order.workers)) }
+    ensures fault { IfErr result (IsRoundFault (length sites.now) order.workers order.floor order.window) }
+{
+    if order.workers == 1 {
+        let played = play_alone(rt, alloc, sites, desk, order, gate)?;
+        return Ok(Some(played));
+    }
+    let draws = draws_of(sites.len() as u32, order.lead.laps_for(order.workers));
+    crew.play_round(rt, alloc, draws, order, sites, desk, gate)
+}
+
+// The fault of one of the workers, or that none hands one back.
+fn fault_of<R: Threads>(
+    rt: &R,
+    handles: Vec<PromisedHandle<Result<(), RunFault>, OfRun>>,
+    term: Term,
+) -> RunFault
+    requires workers { 1 < term.workers }
+    requires promised { All (IsOfRun term) handles.items }
+    ensures { IsRoundsFault term.blocks term.horizon term.workers term.window result }
+{
+    match thread::join_promised(rt, handles) {
+        Ok(answers) => first_fault(answers.as_slice()),
+        Err(_) => RunFault::Memory,
+    }
+}
+
+// The first fault that is handed back, or that none is.
+fn first_fault(answers: &[Result<(), RunFault>]) -> RunFault
+    ensures { (blocks horizon workers window : _) → 1 < workers → All (MayEnd blocks horizon workers window) answers.now → IsRoundsFault blocks horizon workers window result }
+{
+    for answer in answers {
+        if let Err(fault) = answer {
+            return *fault;
+        }
+    }
+    RunFault::NoThread
+}
+
+// A worker's promise that it hands back a fault of the run, if any.
+#[derive(Clone, Copy)]
+pub(crate) struct OfRun {
+    term: Term,
+}
+
+impl Promise<Result<(), RunFault>> for OfRun {
+    ghost use Rattle.warp_rounds.specs.Inner.Crew.{MayEnd};
+
+    ghost kept_by = { λ promise answer. MayEnd promise.term.blocks promise.term.horizon promise.term.workers promise.term.window answer };
 }
 
 // Blocks, and what is counted of each.

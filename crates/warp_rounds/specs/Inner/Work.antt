@@ -1,7 +1,6 @@
 -- What the workers of a round have done, and whose round a seat, and a worker, is of.
 use Rattle.std.specs.Prelude.{◌≡◌, ℕ, ◌<◌, ◌≤◌, ◌*◌, min, true, List, [], length, fold, Option, Some, None}
 use Rattle.std.specs.List.{All, Any}
-use Rattle.std.specs.declared.thread.PromisedHandle.{PromisedHandle}
 use Rattle.warp_process.specs.declared.message.Message.{Message}
 use Rattle.warp_process.specs.declared.fault.BlockFault.TheVariants.{WrongNet}
 use Rattle.warp_rounds.specs.declared.fault.RunFault.{RunFault}
@@ -11,7 +10,6 @@ use Rattle.warp_rounds.specs.Seats.{RoundId, SeatView, empty_seat}
 use Rattle.warp_rounds.specs.Visit.{IsVisit}
 use Rattle.warp_rounds.specs.Runs.{IsStall, IsBlockFault}
 use Rattle.warp_rounds.specs.declared.work.Worker.{Worker}
-use Rattle.warp_rounds.specs.declared.work.OfRound.{OfRound}
 
 -- ---- delivering
 
@@ -91,19 +89,6 @@ HasWorked blocks round floor window w = IsOver blocks round floor window w.seat 
 pub record HasLaps (blocks : ℕ) (round : RoundId) : Type 0 where
   pub laps : ℕ
   pub each : round.blocks ≡ blocks * laps
-
--- A thread's handle, whose worker is to hand back what it did in this round.
-pub record IsPromised (blocks : ℕ) (round : RoundId) (floor window : ℕ) (handle : PromisedHandle Worker OfRound) : Type 0 where
-  pub blocks_is : handle.promise.blocks ≡ blocks
-  pub round_is : handle.promise.round.now.round ≡ round
-  pub floor_is : handle.promise.floor ≡ floor
-  pub window_is : handle.promise.window ≡ window
-
--- why threads don't work: one of several workers' didn't start, or memory is wanting
-abbrev pub IsStartFault : ℕ → RunFault → Type 0
-IsStartFault workers NoThread = 1 < workers
-IsStartFault workers Memory = Unit {0}
-IsStartFault workers _ = ⊥
 
 -- a fault of a round of so many workers over so many blocks
 abbrev pub IsRoundFault : ℕ → ℕ → ℕ → ℕ → RunFault → Type 0

@@ -3,7 +3,7 @@ use Rattle.warp_rounds.proofs.Working.{visited_none, visited_more, visited_over,
 use Rattle.warp_rounds.proofs.work.work.Goals as goal
 
 pub loop-init : goal.loop-init
-loop-init g c = let played = visited_none _ c.args.floor c.args.window _ c.requires.ready.seat in search rules
+loop-init g c = let played = visited_none _ c.args.order.floor c.args.order.window _ c.requires.ready.seat in search rules
 
 pub loop-preserved : goal.loop-preserved
 loop-preserved g c =

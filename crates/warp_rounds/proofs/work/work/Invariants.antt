@@ -6,6 +6,6 @@ abbrev pub invariant-loop : goal.invariant-loop
 invariant-loop g l = record {
   can_next : (goal.iterator-loop g).can_next l.iterator';
   is_finite : (goal.iterator-loop g).is_finite l.iterator';
-  played : HasPlayed l.round.round l.floor l.window (record l.worker.seat { least = min l.worker.seat.least l.least });
+  played : HasPlayed l.round.round l.order.floor l.order.window (record l.worker.seat { least = min l.worker.seat.least l.least });
   well : l.worker.fault ≡ None;
 }

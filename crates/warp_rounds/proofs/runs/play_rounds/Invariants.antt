@@ -1,5 +1,0 @@
-use Rattle.std.proofs.Common.{◌+◌, ◌-◌}
-use Rattle.warp_rounds.proofs.runs.play_rounds.Given as goal
-
-abbrev pub decreases-loop-floor : goal.decreases-loop-floor
-decreases-loop-floor g l = l.horizon + 1 - l.floor
