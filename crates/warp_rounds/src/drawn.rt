@@ -172,7 +172,8 @@ fn after(block: usize, first: usize, end: usize, blocks: usize) -> usize
     first
 }
 
-// Lets a block take a turn, and delivers what it sent.
+// Lets a block take a turn, and delivers what it sent. The block's lock is kept until it is delivered: else who visits the block next could
+// say that all that it told is in the inboxes while this worker is held up and what it sent isn't.
 fn play<G: Gate, R: Wait>(
     rt: &R,
     sites: &[Site],
@@ -189,11 +190,21 @@ fn play<G: Gate, R: Wait>(
 {
     desk.sent.clear();
     let site = &sites[block];
-    let turned = site.visit_through(rt, floor, window, Some(reach), gate, &mut desk.sent)?;
+    let mut held = site.hold(rt);
+    let turned = site.visit_held(
+        rt,
+        &mut *held,
+        floor,
+        window,
+        Some(reach),
+        gate,
+        &mut desk.sent,
+    )?;
     let tally = Tally::of(&turned, desk.sent.len());
     desk.deliver(rt, sites)?;
     let next = turned.next.unwrap_or(u64::MAX);
     site.signs().settle(next.min(reach.sure));
+    drop(held);
     Ok(Played {
         least: turned.report.least,
         tally,

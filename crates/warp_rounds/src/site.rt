@@ -15,7 +15,7 @@ use crate::signs::Signs;
 use crate::turns::{TurnReport, Turned, least_pending, turn_through};
 use std::alloc::{AllocError, Global};
 use std::mem;
-use std::sync::{Mutex, Wait};
+use std::sync::{Mutex, MutexGuard, Wait};
 use warp_block::{Block, BlockFault, Look, Message};
 
 /// A block behind its lock, and an inbox behind its own: a message may come while the block takes a turn, and waits for
@@ -35,7 +35,7 @@ pub struct Site {
 
 /// What a site's lock keeps: the block, and what its visits leave to one another.
 #[derive(Drop)]
-struct Held {
+pub(crate) struct Held {
     block: Block,
     /// What is counted of its turns.
     counts: Counts,
@@ -286,14 +286,22 @@ impl Site {
         ensures visit { IfOk result (λ report. IsVisit floor window out.old.items out.new.items report.least) }
         ensures fault { IfErr result (IsFaultyVisit floor window out.old.items out.new.items) }
     {
-        let turned = self.visit_through(rt, floor, window, None, gate, out)?;
+        let mut held = self.hold(rt);
+        let turned = self.visit_held(rt, &mut *held, floor, window, None, gate, out)?;
         Ok(turned.report)
     }
 
-    /// A visit whose turn, where a reach is given, goes about as far as that; with what it did beside what it reports.
-    pub(crate) fn visit_through<R: Wait, G: Gate>(
+    /// Takes the block's lock, for a visit.
+    pub(crate) fn hold<R: Wait>(&self, rt: &R) -> MutexGuard<'_, Held> {
+        self.held.lock(rt)
+    }
+
+    /// A visit under the block's lock, whose turn, where a reach is given, goes about as far as that; with what it did beside what it
+    /// reports.
+    pub(crate) fn visit_held<R: Wait, G: Gate>(
         &self,
         rt: &R,
+        held: &mut Held,
         floor: u64,
         window: u32,
         reach: Option<Reach>,
@@ -304,8 +312,6 @@ impl Site {
         ensures visit { IfOk result (λ turned. IsVisit floor window out.old.items out.new.items turned.report.least) }
         ensures fault { IfErr result (IsFaultyVisit floor window out.old.items out.new.items) }
     {
-        let mut guard = self.held.lock(rt);
-        let held = &mut *guard;
         gate.entered(&held.block);
         self.signs.begins();
         mem::swap(&mut held.messages, &mut *self.inbox.lock(rt));
