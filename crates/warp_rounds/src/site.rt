@@ -92,6 +92,16 @@ impl Held {
         }
     }
 
+    /// Puts the messages into the order of time where one comes too late, those of a time as they came, so that the block goes back
+    /// once at most. Where a growth is refused they stand in some order, and it goes back more often.
+    fn put_in_order(&mut self)
+        ensures block { self.new.block ≡ self.old.block }
+    {
+        if least_time(self.messages.as_slice()) < self.block.mark() {
+            let _ = self.messages.sort_by_key(|message| message.time);
+        }
+    }
+
     /// A window for a turn at a floor, where it is known when something is left first.
     fn window(&self, start: Option<u64>, floor: u64, reach: Option<Reach>, most: u32) -> u32
         requires { IsLeast (IsPending self.now.block.seen self.now.messages.items) start }
@@ -315,6 +325,7 @@ impl Site {
         gate.entered(&held.block);
         self.signs.begins();
         mem::swap(&mut held.messages, &mut *self.inbox.lock(rt));
+        held.put_in_order();
         let turned = held.turn(floor, window, reach, out);
         gate.leaving(&held.block);
         if let Ok(turned) = &turned {
