@@ -1,5 +1,5 @@
 -- The codes of variables, and the scalars of nets, a variable at a time.
-use Rattle.std.proofs.Common.{◌≡◌, ℕ, zero, suc, ◌+◌, ◌-◌, ◌<◌, Bool, true, false, cond, ◌&&◌, ◌||◌, nat_eq, List, [], ◌∷◌, ◌++◌, length, map, take, drop, get_or, codes, Option, Some, None, option_map, option_and_then, is_some, Ok, Err, Bor, refl, ap, sym, ◌∙◌, arith, length-append, take-append-drop, add-one, add-zero, add-suc}
+use Rattle.std.proofs.Common.{◌≡◌, ℕ, zero, suc, ◌+◌, ◌-◌, ◌<◌, Bool, true, false, cond, ◌&&◌, ◌||◌, nat_eq, List, [], ◌∷◌, ◌++◌, length, map, take, drop, get_or, codes, Option, Some, None, option_map, option_and_then, unwrap_or, is_some, Ok, Err, Bor, refl, ap, sym, ◌∙◌, arith, length-append, take-append-drop, add-one, add-zero, add-suc}
 use Rattle.std.proofs.Math.Seq.{drop-append_seam, take-append_seam}
 use Rattle.std.proofs.lemmas.Bool.Decides.{nat_tests}
 use Rattle.std.proofs.lemmas.Option.{same_Some}
@@ -59,17 +59,17 @@ no_sources true old e = refl
 no_sources false old e = e
 
 -- a code is kept for a name that had none
-pub noted : (name other : List ℕ) (code : Bor (List ℕ)) (old : List ℕ → Option (Bor (List ℕ))) (new : Option (Bor (List ℕ))) → is_some (old name) ≡ false → new ≡ cond (bytes_eq name other) (Some code) (old other)
+pub noted : (name other : List ℕ) (code kept : Bor (List ℕ)) (old : List ℕ → Option (Bor (List ℕ))) (new : Option (Bor (List ℕ))) → kept ≡ unwrap_or (old name) code → new ≡ cond (bytes_eq name other) (Some kept) (old other)
     → option_map (λ (c : Bor (List ℕ)). c.now) new ≡ option_or (option_map (λ (c : Bor (List ℕ)). c.now) (old other)) (cond (bytes_eq other name) (Some code.now) None)
-noted name other code old new absent en = rw (en, turned other name) (go (bytes_eq name other) refl)
+noted name other code kept old new is en = rw (en, is, turned other name) (go (bytes_eq name other) refl)
   where
-    no_code : (o : Option (Bor (List ℕ))) → is_some o ≡ false → o ≡ None
-    no_code None e = refl
-    no_code (Some x) e = cc
+    first : (o : Option (Bor (List ℕ))) → Some (unwrap_or o code).now ≡ option_or (option_map (λ (c : Bor (List ℕ)). c.now) o) (Some code.now)
+    first None = refl
+    first (Some x) = refl
 
-    go : (b : Bool) → bytes_eq name other ≡ b → option_map (λ (c : Bor (List ℕ)). c.now) (cond b (Some code) (old other)) ≡ option_or (option_map (λ (c : Bor (List ℕ)). c.now) (old other)) (cond b (Some code.now) None)
+    go : (b : Bool) → bytes_eq name other ≡ b → option_map (λ (c : Bor (List ℕ)). c.now) (cond b (Some (unwrap_or (old name) code)) (old other)) ≡ option_or (option_map (λ (c : Bor (List ℕ)). c.now) (old other)) (cond b (Some code.now) None)
     go false e = elim (old other) as (λ o. option_map (λ (c : Bor (List ℕ)). c.now) o ≡ option_or (option_map (λ (c : Bor (List ℕ)). c.now) o) None) [ None ↦ refl | Some x ↦ refl ]
-    go true e = rw (← same_bytes name other e, no_code (old name) absent) refl
+    go true e = rw (← same_bytes name other e) (first (old name))
 
 find-more : {X : Type 0} (p : X → Bool) (xs : List X) (x : X) → find p (xs ++ x ∷ []) ≡ option_or (find p xs) (cond (p x) (Some x) None)
 find-more p [] x = refl

@@ -1,5 +1,5 @@
 -- The sources that are kept, one more at a time.
-use Rattle.std.proofs.Common.{◌≡◌, ℕ, suc, ◌+◌, ◌-◌, ◌<◌, ◌≤◌, ◌⊎◌, Bool, true, false, cond, ◌&&◌, ◌||◌, nat_eq, List, [], ◌∷◌, ◌++◌, length, map, take, reverse, get_or, slice_get, Option, Some, None, is_some, refl, ap, sym, ◌∙◌, arith, length-append, inl, inr}
+use Rattle.std.proofs.Common.{◌≡◌, ℕ, suc, ◌+◌, ◌-◌, ◌<◌, ◌≤◌, ◌⊎◌, Bool, true, false, cond, ◌&&◌, ◌||◌, nat_eq, nat_lt, List, [], ◌∷◌, ◌++◌, length, map, take, reverse, get_or, slice_get, Option, Some, None, is_some, refl, ap, sym, ◌∙◌, arith, length-append, inl, inr}
 use Rattle.std.proofs.Math.Seq.{get_or-append_seam, take-append_seam}
 use Rattle.std.proofs.Math.ListN.{get_or-append}
 use Rattle.std.proofs.lemmas.List.{length-map, map-append, get_or-map, get_or-reverse, length-reverse}
@@ -7,7 +7,7 @@ use Rattle.std.proofs.lemmas.List.Sorted.{IsPermutation-map, list_any-IsPermutat
 use Rattle.std.specs.List.Sorted.{IsNonDecreasingBy, IsPermutation}
 use Rattle.std.specs.Option.{option_map_or}
 use Rattle.std.specs.Str.{bytes_eq}
-use Rattle.std.specs.List.{list_any}
+use Rattle.std.specs.List.{IsDistinct, list_any, position, position_or_len}
 use Rattle.gate_vcd.specs.Changes.{Source}
 use Rattle.gate_vcd.specs.Inner.Table.{found_in}
 use Rattle.gate_vcd.specs.declared.known.KnownCodes.{KnownCodes}
@@ -15,10 +15,13 @@ use Rattle.gate_vcd.specs.declared.source.Source.{Source as Held}
 use Rattle.gate_vcd.specs.Inner.Known.{AreFallingNets, AreLinked, IsLeast, IsLinked, Takes, flat, is_taken, knows, last_below, same_source, sources_in}
 use Rattle.gate_vcd.specs.Shown.Known.{is_of, source, source_by, sources_by}
 use Rattle.gate_vcd.proofs.Compared.{cases_eq}
-use Rattle.gate_vcd.proofs.Keeping.{same_bytes}
+use Rattle.gate_vcd.proofs.Keeping.{position-some, same_bytes}
 use Rattle.gate_vcd.proofs.InputLaws.{any-more, more_taken, one_code, same_sources, turned}
 use Rattle.gate_vcd.proofs.Links.{slice_get-front, slice_get-end, slice_get-is, slice_get-within, last_below-front, last_below-last}
-use Rattle.std.proofs.lemmas.Option.{same_Some}
+use Rattle.std.proofs.lemmas.Option.{get_or_from_slice_get, same_Some}
+use Rattle.std.proofs.lemmas.Bool.Decides.{nat_tests}
+use Rattle.std.proofs.lemmas.List.Sums.{position_or_len_is}
+use Rattle.std.proofs.lemmas.Map.Keys.{apart_from_distinct}
 
 -- one source more is linked behind the last one of its code
 pub linked-more : (old new : List ℕ → Option (Option ℕ)) (before more : List (Option ℕ)) (sources all : List Source) (s : Source) → AreLinked (λ code. flat (old code)) before sources
@@ -110,6 +113,20 @@ same_codes s k e = go (bytes_eq s.code k.code) refl e
     go true t h = turned k.code s.code ∙ t
     go false t h = cc
 
+-- the code of a source that is kept has a last one
+last-taken : (known : KnownCodes) (s : Source) → IsLinked known → is_taken known.used s ≡ true → is_some (flat (found_in known.last s.code)) ≡ true
+last-taken known s law taken =
+    let some : list_any (is_of s.code) (sources_in known) ≡ true = any-mapped (is_of s.code) source known.used.keys ∙ any-weaker (λ k. same_source s (source k)) (λ k. is_of s.code (source k)) known.used.keys (λ k. same_codes s (source k)) taken in
+    ap is_some (law.ends s.code) ∙ some-last (is_of s.code) (sources_in known) some
+
+-- where a code has no last source, no source of it is kept
+pub untaken : (known : KnownCodes) (s : Source) → IsLinked known → is_some (flat (found_in known.last s.code)) ≡ false → is_taken known.used s ≡ false
+untaken known s law none = go (is_taken known.used s) refl
+  where
+    go : (b : Bool) → is_taken known.used s ≡ b → is_taken known.used s ≡ false
+    go false e = e
+    go true e = let bad : true ≡ false = sym (last-taken known s law e) ∙ none in cc
+
 -- a source that is kept already
 pub takes-same : (known : KnownCodes) (s : Source) → IsLinked known → is_taken known.used s ≡ true → Takes known known (Some s)
 takes-same known s law taken = record {
@@ -122,8 +139,7 @@ takes-same known s law taken = record {
     of_code : (code : List ℕ) → bytes_eq s.code code ≡ true → knows known code ≡ true
     of_code code e =
         let same : s.code ≡ code = same_bytes s.code code e in
-        let some : list_any (is_of s.code) (sources_in known) ≡ true = any-mapped (is_of s.code) source known.used.keys ∙ any-weaker (λ k. same_source s (source k)) (λ k. is_of s.code (source k)) known.used.keys (λ k. same_codes s (source k)) taken in
-        rw (← same) (some-flat (found_in known.last s.code) (ap is_some (law.ends s.code) ∙ some-last (is_of s.code) (sources_in known) some))
+        rw (← same) (some-flat (found_in known.last s.code) (last-taken known s law taken))
 
 -- one that is kept now
 pub takes-more : (old new : KnownCodes) (s : Held) → IsLinked old → new.used.keys ≡ old.used.keys ++ s ∷ [] → new.before.items ≡ old.before.items ++ flat (found_in old.last s.code.now) ∷ []
@@ -216,3 +232,33 @@ any-permuted p xs ys h = list_any-IsPermutation p (sources_by xs) (sources_by ys
 -- a list written over the whole of another
 pub written-over : (n : ℕ) (new items : List (Option Held)) → n ≡ length new → take n (new ++ items) ≡ new
 written-over n new items e = rw e (take-append_seam new items)
+
+-- the source at a place of distinct ones has that number
+pub number-at : (keys : List Held) (s : Source) (n : ℕ) (kept : Held) → IsDistinct (λ a b. same_source (source a) (source b)) keys → slice_get keys n ≡ Some kept → same_source s (source kept) ≡ true → position (λ k. same_source s (source k)) keys ≡ Some n
+number-at keys s n kept apart at same = rw (place, inside) refl
+  where
+    within : n < length keys
+    within = slice_get-within keys n kept at
+
+    inside : nat_lt n (length keys) ≡ true
+    inside = grind (arith, nat_tests, within)
+
+    here : get_or keys n kept ≡ kept
+    here = get_or_from_slice_get keys n kept kept at
+
+    other : (k : Held) (b : Bool) → same_source s (source k) ≡ b → same_source (source k) (source kept) ≡ false → same_source s (source k) ≡ false
+    other k false e unlike = e
+    other k true e unlike =
+        let bad : true ≡ false = sym same ∙ ap (λ q. same_source q (source kept)) (same_sources s (source k) e) ∙ unlike in
+        cc
+
+    before : (k : ℕ) → k < n → same_source s (source (get_or keys k kept)) ≡ false
+    before k l = other (get_or keys k kept) (same_source s (source (get_or keys k kept))) refl (ap (λ x. same_source (source (get_or keys k kept)) (source x)) (sym here) ∙ apart_from_distinct (λ a b. same_source (source a) (source b)) keys k n kept apart l within)
+
+    place : position_or_len (λ k. same_source s (source k)) keys ≡ n
+    place = position_or_len_is (λ k. same_source s (source k)) keys n kept (omega (arith, within)) before (λ l. ap (λ x. same_source s (source x)) here ∙ same)
+
+-- and a number is that of the source at its place
+pub numbered-same : (keys : List Held) (s : Source) (n : ℕ) (kept : Held) → slice_get keys n ≡ Some kept → position (λ k. same_source s (source k)) keys ≡ Some n → same_source s (source kept) ≡ true
+numbered-same keys s n kept at e =
+    ap (λ x. same_source s (source x)) (sym (get_or_from_slice_get keys n kept kept at)) ∙ (position-some (λ k. same_source s (source k)) keys n kept e).1

@@ -85,7 +85,7 @@ fn empty_lists(alloc: Global, count: usize) -> Result<Vec<Vec<Change>>, StimFaul
     ensures ok { IfOk result (λ lists. lists_in lists.items ≡ replicate count []) }
     ensures err { IfErr result (λ e. e ≡ out_of_memory) }
 {
-    let mut lists = Vec::new(alloc);
+    let mut lists = Vec::with_capacity(alloc, count)?;
     for _ in 0..count {
         lists.push(Vec::new(alloc))?;
     }
@@ -97,7 +97,7 @@ fn none_waiting(alloc: Global, count: usize) -> Result<Vec<Vec<Stop>>, StimFault
     ensures ok { IfOk result (λ waiting. waiting_in waiting.items ≡ replicate count []) }
     ensures err { IfErr result (λ e. e ≡ out_of_memory) }
 {
-    let mut waiting = Vec::new(alloc);
+    let mut waiting = Vec::with_capacity(alloc, count)?;
     for _ in 0..count {
         waiting.push(Vec::new(alloc))?;
     }

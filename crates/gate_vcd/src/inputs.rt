@@ -1,4 +1,4 @@
-ghost use Rattle.std.specs.Prelude.{◌≡◌, ◌<◌, ◌++◌, ℕ, List, Err, None, Ok, Some, codes, nat_eq, option_and_then, option_map, IfErr, IfOk, MatchResult, OnOk, if◌then◌else◌};
+ghost use Rattle.std.specs.Prelude.{◌≡◌, ◌<◌, ◌++◌, ℕ, List, Err, None, Ok, Some, codes, nat_eq, option_and_then, option_map, IfErr, IfOk, IfSome, MatchResult, OnOk, if◌then◌else◌};
 ghost use Rattle.std.specs.List.{list_any, starts_with};
 ghost use Rattle.std.specs.Str.{bytes_eq};
 ghost use Rattle.gate_netlist.specs.Circuit.{nets_of, driver_of, is_input};
@@ -13,12 +13,13 @@ ghost use Rattle.gate_vcd.specs.Inner.Sought.{IsGiven};
 
 use crate::fault::{StimCause, StimFault};
 use crate::keyword::is_word;
+use crate::known::KnownCodes;
 use crate::numbers::number_up_to;
 use crate::source::Source;
 use crate::variable::Variable;
 use crate::vectors::{Vectors, bit_of};
 use gate_netlist::{Circuit, Driver, TextSeed};
-use indexmap::{IndexMap, IndexSet};
+use indexmap::IndexMap;
 use std::alloc::Global;
 
 /// Keeps a code for a name that has none yet.
@@ -30,9 +31,7 @@ fn note<'v, 'a>(
     ensures ok { (other : List ℕ) → OnOk result (code_in scalars.new other ≡ option_or (code_in scalars.old other) (if bytes_eq other name.now then Some code.now else None)) }
     ensures err { IfErr result (λ e. e ≡ out_of_memory) }
 {
-    if !scalars.contains_key(name) {
-        scalars.insert(name, code)?;
-    }
+    scalars.entry(name)?.or_insert(code);
     Ok(())
 }
 
@@ -76,7 +75,7 @@ fn scalars_of<'v, 'a>(
     ensures ok { IfOk result (λ scalars. AreScalars scalars (variables all.now)) }
     ensures err { IfErr result (λ e. e ≡ out_of_memory) }
 {
-    let mut scalars = IndexMap::with_hasher(alloc, seed);
+    let mut scalars = IndexMap::with_capacity_and_hasher(alloc, all.len(), seed)?;
     for variable in all {
         note_variable(&mut scalars, variable)?;
     }
@@ -145,6 +144,30 @@ impl<'v, 'a> Given<'v, 'a> {
         })
     }
 
+    /// The code kept at a place, if it is kept for this name.
+    fn code_at(&self, place: usize, name: &[u8]) -> Option<&'a [u8]>
+        ensures { IfSome result (λ code. code_in self.now.scalars name.now ≡ Some code.now) }
+    {
+        match self.scalars.get_index(place) {
+            Some((key, code)) if is_word(name, *key) => Some(*code),
+            _ => None,
+        }
+    }
+
+    /// The code kept for a name, sought first at the place behind the name found before: variables mostly stand in
+    /// the order of the inputs.
+    fn code_of(&self, name: &[u8], next: &mut usize) -> Option<&'a [u8]>
+        ensures { option_map (λ code. code.now) result ≡ code_in self.now.scalars name.now }
+    {
+        if let Some(code) = self.code_at(*next, name) {
+            *next = next.saturating_add(1);
+            return Some(code);
+        }
+        let (place, _, code) = self.scalars.get_full(name)?;
+        *next = place.saturating_add(1);
+        Some(*code)
+    }
+
     /// The source that the first vector gives of which a net is a bit.
     fn bit_source(&self, name: &[u8]) -> Option<Source<'a>>
         requires { IsGiven self.now }
@@ -155,25 +178,27 @@ impl<'v, 'a> Given<'v, 'a> {
 
     /// The source of an input: the first scalar of its name, and where there is none the first vector of which it
     /// is a bit.
-    fn source_of(&self, name: &[u8]) -> Option<Source<'a>>
+    fn source_of(&self, name: &[u8], next: &mut usize) -> Option<Source<'a>>
         requires { IsGiven self.now }
         ensures { source_by result ≡ source_of (variables self.now.all.now) name.now }
     {
-        match self.scalars.get(name) {
-            Some(code) => Some(Source {
-                code: *code,
-                place: 0,
-            }),
+        match self.code_of(name, next) {
+            Some(code) => Some(Source { code, place: 0 }),
             None => self.bit_source(name),
         }
     }
 
     /// The source of an input, or why it has none.
-    fn source_of_input(&self, net: u32, name: &[u8]) -> Result<Source<'a>, StimFault>
+    fn source_of_input(
+        &self,
+        net: u32,
+        name: &[u8],
+        next: &mut usize,
+    ) -> Result<Source<'a>, StimFault>
         requires { IsGiven self.now }
         ensures { MatchResult result (λ s. source_or_fault (source_of (variables self.now.all.now) name.now) net (cause_without (variables self.now.all.now) name.now) ≡ Ok (source s)) (λ e. source_or_fault (source_of (variables self.now.all.now) name.now) net (cause_without (variables self.now.all.now) name.now) ≡ Err e) }
     {
-        match self.source_of(name) {
+        match self.source_of(name, next) {
             Some(source) => Ok(source),
             None => Err(StimFault {
                 at: net as u64,
@@ -196,6 +221,7 @@ fn source_of_net<'a>(
     circuit: &Circuit,
     net: u32,
     given: &Given<'_, 'a>,
+    next: &mut usize,
 ) -> Result<Option<Source<'a>>, StimFault>
     requires within { net < nets_of circuit.now }
     requires given { IsGiven given.now }
@@ -204,7 +230,7 @@ fn source_of_net<'a>(
     if !is_input(circuit, net) {
         return Ok(None);
     }
-    match given.source_of_input(net, circuit.name(net).as_bytes()) {
+    match given.source_of_input(net, circuit.name(net).as_bytes(), next) {
         Ok(source) => Ok(Some(source)),
         Err(fault) => Err(fault),
     }
@@ -230,9 +256,10 @@ pub fn inputs_of<'a>(
     ensures err { IfErr result (λ e. e ≡ out_of_memory) }
 {
     let given = Given::of(alloc, seed, all)?;
-    let mut sources = Vec::new(alloc);
+    let mut sources = Vec::with_capacity(alloc, circuit.nets() as usize)?;
+    let mut next = 0;
     for net in 0..circuit.nets() {
-        match source_of_net(circuit, net, &given) {
+        match source_of_net(circuit, net, &given, &mut next) {
             Ok(source) => sources.push(source)?,
             Err(fault) => return Ok(Inputs::Lacking(fault)),
         }
@@ -241,11 +268,11 @@ pub fn inputs_of<'a>(
 }
 
 /// The number of a source.
-fn number_of(used: &IndexSet<Source, TextSeed>, source: Option<Source>) -> Option<usize>
-    ensures { result ≡ option_and_then (number_of used.now) (source_by source.entry) }
+fn number_of(codes: &KnownCodes, source: Option<Source>) -> Option<usize>
+    ensures { result ≡ option_and_then (number_of codes.now.used) (source_by source.entry) }
 {
     match source {
-        Some(source) => used.get_index_of(&source),
+        Some(source) => codes.number_of(source),
         None => None,
     }
 }
@@ -254,14 +281,14 @@ fn number_of(used: &IndexSet<Source, TextSeed>, source: Option<Source>) -> Optio
 pub fn numbers_of(
     alloc: Global,
     nets: &[Option<Source>],
-    used: &IndexSet<Source, TextSeed>,
+    codes: &KnownCodes,
 ) -> Result<Vec<Option<usize>>, StimFault>
-    ensures ok { IfOk result (λ numbers. numbers.items ≡ numbers_of used.now (sources_by nets.now)) }
+    ensures ok { IfOk result (λ numbers. numbers.items ≡ numbers_of codes.now.used (sources_by nets.now)) }
     ensures err { IfErr result (λ e. e ≡ out_of_memory) }
 {
-    let mut numbers = Vec::new(alloc);
+    let mut numbers = Vec::with_capacity(alloc, nets.len())?;
     for source in nets {
-        numbers.push(number_of(used, *source))?;
+        numbers.push(number_of(codes, *source))?;
     }
     Ok(numbers)
 }

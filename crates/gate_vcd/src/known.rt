@@ -1,4 +1,4 @@
-ghost use Rattle.std.specs.Prelude.{◌≡◌, ◌||◌, ℕ, Bool, Option, List, None, Some, false, is_some, IfErr, IfOk, OnOk};
+ghost use Rattle.std.specs.Prelude.{◌≡◌, ◌||◌, ◌↔◌, ℕ, Bool, Option, List, None, Some, false, is_some, IfErr, IfOk, IsTrue, OnOk};
 ghost use Rattle.std.specs.List.{list_any};
 ghost use Rattle.std.specs.Option.{option_map_or};
 ghost use Rattle.std.specs.Str.{bytes_eq};
@@ -6,7 +6,7 @@ ghost use Rattle.gate_vcd.specs.Changes.{Source as TextSource};
 ghost use Rattle.gate_vcd.specs.Shown.Commands.{variables};
 ghost use Rattle.gate_vcd.specs.Faults.{out_of_memory};
 ghost use Rattle.gate_vcd.specs.Inner.Table.{found_in};
-ghost use Rattle.gate_vcd.specs.Inner.Known.{AreFallingNets, IsLeast, IsLinked, Takes, flat, is_taken, knows, takes};
+ghost use Rattle.gate_vcd.specs.Inner.Known.{AreFallingNets, IsLeast, IsLinked, Takes, flat, is_taken, knows, number_of, takes};
 ghost use Rattle.gate_vcd.specs.Shown.Known.{is_used, source as source_of, source_by, sources_by};
 
 use crate::fault::StimFault;
@@ -69,6 +69,11 @@ fn by_place<'a>(
     Ok(sorted)
 }
 
+/// How many nets take a source.
+fn count_of(nets: &[Option<Source>]) -> usize {
+    nets.iter().filter(|taken| taken.is_some()).count()
+}
+
 impl<'a> KnownCodes<'a> {
     /// The last source of a code.
     fn last_of(&self, code: &[u8]) -> Option<usize>
@@ -78,6 +83,34 @@ impl<'a> KnownCodes<'a> {
             Some(last) => last,
             None => None,
         }
+    }
+
+    /// Whether this is the number of a source.
+    fn is_numbered(&self, source: Source, number: usize) -> bool
+        ensures { IsTrue result ↔ (number_of self.now.used (source_of source.entry) ≡ Some number) }
+    {
+        match self.used.as_slice().get(number) {
+            Some(kept) => source == *kept,
+            None => false,
+        }
+    }
+
+    /// The number of a source, sought first at the last source of its code.
+    pub fn number_of(&self, source: Source) -> Option<usize>
+        ensures { result ≡ number_of self.now.used (source_of source.entry) }
+    {
+        match self.last_of(source.code) {
+            Some(last) if self.is_numbered(source, last) => Some(last),
+            _ => self.used.get_index_of(&source),
+        }
+    }
+
+    /// Whether a source is kept.
+    fn is_kept(&self, source: Source) -> bool
+        requires { IsLinked self.now }
+        ensures { result ≡ is_taken self.now.used (source_of source.entry) }
+    {
+        self.last_of(source.code).is_some() && self.used.contains(&source)
     }
 
     /// Keeps a source that isn't kept yet, behind the last one of its code.
@@ -104,7 +137,7 @@ impl<'a> KnownCodes<'a> {
     {
         match taken {
             Some(source) => {
-                if self.used.contains(&source) {
+                if self.is_kept(source) {
                     return Ok(());
                 }
                 self.add(source)
@@ -126,10 +159,11 @@ impl<'a> KnownCodes<'a> {
         ensures used { (s : TextSource) → IfOk result (λ known. is_taken known.used s ≡ takes (sources_by nets.now) s) }
         ensures err { IfErr result (λ e. e ≡ out_of_memory) }
     {
+        let count = count_of(nets);
         let mut known = KnownCodes {
-            used: IndexSet::with_hasher(alloc, seed),
+            used: IndexSet::with_capacity_and_hasher(alloc, count, seed)?,
             last: codes_of(alloc, seed, all)?,
-            before: Vec::new(alloc),
+            before: Vec::with_capacity(alloc, count)?,
         };
         for taken in nets {
             known.put(*taken)?;

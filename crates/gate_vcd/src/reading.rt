@@ -27,7 +27,7 @@ pub fn read_stimulus(alloc: Global, text: &[u8], circuit: &Circuit) -> Result<St
         Inputs::Found(sources) => {
             let codes = KnownCodes::of(alloc, seed, variables, &sources)?;
             let read = read_changes(alloc, &mut words, &codes)?;
-            let list_of = numbers_of(alloc, &sources, &codes.used)?;
+            let list_of = numbers_of(alloc, &sources, &codes)?;
             Ok(Stimulus::new(declared.timescale, read.lists, list_of))
         }
         Inputs::Lacking(fault) => {

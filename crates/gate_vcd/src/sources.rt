@@ -38,7 +38,7 @@ pub fn read_sources<'a>(
 {
     let codes = KnownCodes::of(alloc, seed, all, takers)?;
     let read = read_changes(alloc, words, &codes)?;
-    let list_of = numbers_of(alloc, takers, &codes.used)?;
+    let list_of = numbers_of(alloc, takers, &codes)?;
     Ok(Followed {
         given: Stimulus::new(timescale, read.lists, list_of),
         last: read.last,

@@ -4,7 +4,7 @@ use Rattle.gate_vcd.proofs.InputLaws.{below-start, below-more, below-refused}
 use Rattle.gate_vcd.proofs.inputs.inputs_of.Goals as goal
 
 pub loop-net-init : goal.loop-net-init
-loop-net-init c = below-start c.args.circuit.now (variables c.args.all.now) c.new-sources.result.items c.new-sources.ensures.items
+loop-net-init c = below-start c.args.circuit.now (variables c.args.all.now) c.in_ok-sources.sources.items c.in_ok-sources.ensures.items
 
 pub loop-net-preserved : goal.loop-net-preserved
 loop-net-preserved c =
