@@ -3,19 +3,20 @@ use Rattle.std.proofs.Common.{◌≡◌, ◌∙◌, ℕ, ◌+◌, ◌-◌, ◌<�
 use Rattle.std.specs.List.{flat_map}
 use Rattle.std.specs.Prelude.{Result, Ok, Err, OnOk, OnErr}
 use Rattle.std.proofs.lemmas.Bool.{cases_lt}
+use Rattle.std.proofs.Math.ListN.{get_or-eq_default}
 use Rattle.std.proofs.lemmas.List.{map-append, length-append, length-map, length-set, take_more, get_or_append_left, get_or-append_right, set-append_left, set-append_right}
 use Rattle.std.proofs.lemmas.Grind.{flat_map-append}
 use Rattle.warp_stores.specs.Words.{Move}
 use Rattle.warp_stores.specs.Dated.{Dated, at, last_from, last_time, standing}
 use Rattle.warp_stores.specs.Least.{least_of}
-use Rattle.warp_stores.specs.Delays.{Delayed, queue_at, empty_after, due_of, least_due, with_made, read_by, cut_since, back_from, IsForgotten, AreForgotten}
-use Rattle.warp_stores.proofs.Delaying.{least_of-append}
+use Rattle.warp_stores.specs.Delays.{Delayed, queue_at, empty_after, due_of, least_due, with_made, read_by, cut_since, back_from, IsReadUpTo, AreReadUpTo, IsForgotten, AreForgotten}
+use Rattle.warp_stores.proofs.Delaying.{least_of-append, some_back}
 use Rattle.warp_stores.proofs.Growing.{last_from-append}
 use Rattle.warp_gates.specs.declared.put.Put.{Put}
 use Rattle.place_moves.specs.Journals.{put_into}
 use Rattle.place_moves.proofs.Putting.{queue-read, queue-back, put_none, put_more}
 use Rattle.warp_journal.specs.Books.{Parts, all_of}
-use Rattle.warp_journal.specs.Inner.Parts.{AreUpTo, AreAsMany, IsPut, ArePutBehind, AreSomePut, AreStepped, AreHalfStepped}
+use Rattle.warp_journal.specs.Inner.Parts.{AreRead, AreUpTo, AreAsMany, IsPut, ArePutBehind, AreSomePut, AreStepped, AreHalfStepped}
 
 pub due_parts : (parts : Parts) → min (least_due parts.read) (least_due parts.unread) ≡ least_due (all_of parts)
 due_parts parts = sym (ap least_of (map-append due_of parts.read parts.unread) ∙ least_of-append (map due_of parts.read) (map due_of parts.unread))
@@ -178,3 +179,34 @@ on_err (Err e) p = p
 pub on_ok : {T E P : Type 0} (r : Result T E) → P → OnOk r P
 on_ok (Ok x) p = p
 on_ok (Err e) p = tt
+
+-- ---- what was read up to a time is put back
+
+none_read : (time : ℕ) → IsReadUpTo time (empty_after 0)
+none_read time = record { read = tt; ahead = tt; rises = tt }
+
+pub read_up : (time : ℕ) (parts : Parts) → AreReadUpTo time (all_of parts) → AreReadUpTo time parts.read
+read_up time parts r k = elim (cases_lt k (length parts.read)) [
+  | inl h ↦ subst (IsReadUpTo time) (of_read parts k h) (r k)
+  | inr h ↦ subst (IsReadUpTo time) (sym (get_or-eq_default parts.read (empty_after 0) h)) (none_read time)
+]
+
+pub unread_up : (time : ℕ) (parts : Parts) → AreReadUpTo time (all_of parts) → AreReadUpTo time parts.unread
+unread_up time parts r k =
+    let back : (k + length parts.read) - length parts.read ≡ k = omega arith in
+    subst (IsReadUpTo time) (of_unread parts (k + length parts.read) (omega arith) ∙ ap (λ (n : ℕ). queue_at parts.unread n) back) (r (k + length parts.read))
+
+read_back : (time : ℕ) (queues : List Delayed) → AreReadUpTo time queues → map (back_from time) (map (read_by time) queues) ≡ queues
+read_back time queues r = some_back time queues (map (read_by time) queues) r (record { same = length-map queues (read_by time); each = λ k. inr (queue-read time queues k) })
+
+pub part_back : (time : ℕ) (old mid new : List Delayed) → AreReadUpTo time old → mid ≡ map (read_by time) old → new ≡ map (back_from time) mid → new ≡ old
+part_back time old mid new r is e = e ∙ ap (map (back_from time)) is ∙ read_back time old r
+
+pub parts_back : (time : ℕ) (old mid new : Parts) → AreReadUpTo time (all_of old) → AreRead time old mid → new.read ≡ map (back_from time) mid.read → new.unread ≡ map (back_from time) mid.unread → new ≡ old
+parts_back time old mid new r is read unread =
+    ap (λ (qs : List Delayed). record { read = qs; unread = new.unread }) (part_back time old.read mid.read new.read (read_up time old r) (ap (λ (p : Parts). p.read) is) read)
+    ∙ ap (λ (qs : List Delayed). record { read = old.read; unread = qs }) (part_back time old.unread mid.unread new.unread (unread_up time old r) (ap (λ (p : Parts). p.unread) is) unread)
+
+-- all is read, and nothing has a later step's words
+pub read-up_to_all : (time : ℕ) (old mid : Parts) → AreRead time old mid → AreUpTo time (map (read_by time) (all_of old)) → AreUpTo time (all_of mid)
+read-up_to_all time old mid is up = subst (AreUpTo time) (sym (read_all time old mid is)) up

@@ -11,7 +11,7 @@ use Rattle.gate_values.specs.Changes.{same}
 use Rattle.gate_values.proofs.ChangeLists.{same_refl}
 use Rattle.warp_stores.specs.Words.{Move}
 use Rattle.warp_stores.specs.Dated.{Dated, at, before, since, undated, last_time, standing}
-use Rattle.warp_stores.specs.Delays.{Delayed, queue_at, with_made, due_by, read_by, made_since, cut_since, back_from}
+use Rattle.warp_stores.specs.Delays.{Delayed, queue_at, with_made, due_by, read_by, made_since, cut_since, back_from, AreReadUpTo}
 use Rattle.warp_stores.specs.Lists.{words_at}
 use Rattle.warp_stores.specs.Order.{AreApart}
 use Rattle.warp_stores.proofs.Telling.{lt_true, lt_false, le_true, le_false}
@@ -19,7 +19,7 @@ use Rattle.warp_gates.specs.Cells.{Cell, Outside, Gate, Flop, Gates, next_output
 use Rattle.warp_gates.specs.Cells as cells
 use Rattle.warp_gates.specs.declared.put.Put.{Put}
 use Rattle.place_moves.specs.Moves.{move_of, moves, made_before, first_before}
-use Rattle.place_moves.specs.Journals.{Journal, IsPlayed, AreBrought, IsStep, IsBack, step_words, put_into, queue_of, output_back, IsSetBy}
+use Rattle.place_moves.specs.Journals.{Journal, IsPlayed, AreBrought, IsStep, IsBack, IsReadTo, step_words, put_into, queue_of, output_back, IsSetBy}
 use Rattle.place_moves.proofs.Filtering.{filter-map, every-map, filter-all, filter-none, every-weaker}
 use Rattle.place_moves.proofs.Places.{every-place, every-within}
 use Rattle.place_moves.proofs.Moving.{every-at_time, moves-times}
@@ -46,6 +46,9 @@ module _ (outside : List Move) (book : Book) (may : MayPlay book.mark outside bo
 
   pub asks_apart : AreApart (flat_map (due_by book.mark) (all_of book.queues) ++ outside)
   asks_apart = sortable may.of.source may.of.given may.of.floor j played outside brought
+
+  pub asks_read : AreReadUpTo book.mark (all_of book.queues)
+  asks_read number = let q : IsReadTo book.mark (queue_at (all_of book.queues) number) = played.queues number in record { read = q.read; ahead = q.ahead; rises = q.rises }
 
   pub asks_words : cells.AreApart (step_words (journal_of book) outside) × All (λ w. w.place < length book.gates.cells) (step_words (journal_of book) outside)
   asks_words = (step_apart may.of.source may.of.given may.of.floor j played outside brought, step_within may.of.source may.of.given may.of.floor j played outside brought)

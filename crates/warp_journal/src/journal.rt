@@ -8,7 +8,7 @@ ghost use Rattle.warp_journal.specs.Books.{all_of, IsNew, MayPlay, HasPlayed, Ha
 ghost use Rattle.warp_journal.specs.Inner.Playing.{MayPass, HasPassed, HasPlayedSome, IsDueFrom};
 
 use crate::queues::Queues;
-use crate::stepping::{book_step, list_words, restore_all, take_back};
+use crate::stepping::{book_step, restore_all, take_back, take_words};
 use gate_values::Logic;
 use std::alloc::{AllocError, Global};
 use std::marker::Model;
@@ -189,8 +189,8 @@ impl Journal {
         ensures ok { OnOk result (HasPlayed self.old.mark outside.now self.old self.new) }
         ensures err { OnErr result (HasStayed self.old.mark outside.now self.old self.new) }
     {
-        list_words(
-            &self.queues,
+        take_words(
+            &mut self.queues,
             self.mark,
             outside,
             &mut self.order,
@@ -198,7 +198,13 @@ impl Journal {
         )?;
         self.puts.clear();
         self.gates.law();
-        self.gates.step(self.words.as_slice(), &mut self.puts)?;
+        match self.gates.step(self.words.as_slice(), &mut self.puts) {
+            Ok(()) => {}
+            Err(error) => {
+                self.queues.put_back(self.mark);
+                return Err(error);
+            }
+        }
         self.gates.law();
         let answer = book_step(
             &mut self.queues,

@@ -1,9 +1,9 @@
 //! A block's queues, in two parts.
 ghost use Rattle.std.specs.Prelude.{◌≡◌, ◌≤◌, ◌<◌, ◌++◌, [], IfOk, OnOk, OnErr, length, map};
 ghost use Rattle.std.specs.List.{All, flat_map};
-ghost use Rattle.warp_stores.specs.Delays.{empty_after, least_due, due_by, read_by, back_from, cut_since, told_since, AreForgotten};
-ghost use Rattle.warp_journal.specs.Books.{all_of};
-ghost use Rattle.warp_journal.specs.Inner.Parts.{AreAsMany, AreUpTo, IsPut, ArePutBehind, AreSomePut};
+ghost use Rattle.warp_stores.specs.Delays.{empty_after, least_due, due_by, back_from, cut_since, told_since, AreReadUpTo, AreForgotten};
+ghost use Rattle.warp_journal.specs.Books.{Parts, all_of};
+ghost use Rattle.warp_journal.specs.Inner.Parts.{AreAsMany, AreRead, AreUpTo, IsPut, ArePutBehind, AreSomePut};
 
 use std::alloc::{AllocError, Global};
 use std::marker::Model;
@@ -44,22 +44,31 @@ impl Queues {
         self.read.due().min(self.unread.due())
     }
 
-    /// Puts the words ahead that come true by a time behind a list.
-    pub(crate) fn list_due(&self, time: u64, out: &mut Vec<Word>) -> Result<(), AllocError>
-        requires { time < NEVER }
-        ensures { OnOk result (out.new.items ≡ out.old.items ++ flat_map (due_by time) (all_of self.now)) }
+    /// Reads the words ahead that come true by a time, and puts them behind a list. An error is a refused growth; then all
+    /// queues stay.
+    pub(crate) fn take_due(&mut self, time: u64, out: &mut Vec<Word>) -> Result<(), AllocError>
+        requires time { time < NEVER }
+        requires read { AreReadUpTo time (all_of self.old) }
+        ensures ok { OnOk result (out.new.items ≡ out.old.items ++ flat_map (due_by time) (all_of self.old)) }
+        ensures read { OnOk result (AreRead time self.old self.new) }
+        ensures err { OnErr result (self.new ≡ self.old) }
     {
-        self.read.list_due(time, out)?;
-        self.unread.list_due(time, out)
+        self.read.take_due(time, out)?;
+        match self.unread.take_due(time, out) {
+            Ok(()) => Ok(()),
+            Err(error) => {
+                self.read.put_back(time);
+                Err(error)
+            }
+        }
     }
 
-    /// Reads the words ahead that come true by a time.
-    pub(crate) fn read_due(&mut self, time: u64)
-        requires { time < NEVER }
-        ensures { self.new ≡ record { read = map (read_by time) self.old.read; unread = map (read_by time) self.old.unread } }
+    /// Puts back the words that were read and come true at a time or later, where no others were read by it.
+    pub(crate) fn put_back(&mut self, time: u64)
+        ensures { (before : Parts) → AreReadUpTo time (all_of before) → AreRead time before self.old → self.new ≡ before }
     {
-        self.read.read_due(time);
-        self.unread.read_due(time);
+        self.read.put_back(time);
+        self.unread.put_back(time);
     }
 
     /// Puts a word behind its queue. An error is a refused growth; then all stays.

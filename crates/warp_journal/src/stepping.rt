@@ -2,37 +2,59 @@
 ghost use Rattle.std.specs.Prelude.{◌≡◌, ◌≤◌, ◌<◌, ◌++◌, OnOk, OnErr, length, map};
 ghost use Rattle.std.specs.List.{All, flat_map};
 ghost use Rattle.warp_stores.specs.Dated.{at, last_time};
-ghost use Rattle.warp_stores.specs.Delays.{due_by, read_by, made_since};
+ghost use Rattle.warp_stores.specs.Delays.{due_by, made_since, AreReadUpTo};
 ghost use Rattle.warp_stores.specs.Order.{AreApart, by_place};
 ghost use Rattle.warp_gates.specs.Cells.{HaveRestored};
-ghost use Rattle.warp_journal.specs.Books.{all_of};
-ghost use Rattle.warp_journal.specs.Inner.Parts.{AreUpTo, AreStepped, AreHalfStepped, AreTakenBack, words_of};
+ghost use Rattle.warp_journal.specs.Books.{Parts, all_of};
+ghost use Rattle.warp_journal.specs.Inner.Parts.{AreRead, AreUpTo, AreStepped, AreHalfStepped, AreTakenBack, words_of};
 
 use crate::queues::{Queues, put_all};
 use std::alloc::AllocError;
 use warp_gates::{Gates, Put};
 use warp_stores::{Delays, NEVER, Order, Steps, TIMES, Word};
 
-/// Lists the words of a step, in order of places: what is due, and what is brought from outside.
-pub(crate) fn list_words(
-    queues: &Queues,
+/// Lists the words of a step, in order of places: what is due, which is read, and what is brought from outside. An error is a
+/// refused growth; then all queues stay.
+pub(crate) fn take_words(
+    queues: &mut Queues,
     time: u64,
     outside: &[Word],
     order: &mut Order,
     words: &mut Vec<Word>,
 ) -> Result<(), AllocError>
     requires time { time < NEVER }
-    requires apart { AreApart (flat_map (due_by time) (all_of queues.now) ++ outside.now) }
-    ensures { OnOk result (words.new.items ≡ by_place (flat_map (due_by time) (all_of queues.now) ++ outside.now)) }
+    requires read { AreReadUpTo time (all_of queues.old) }
+    requires apart { AreApart (flat_map (due_by time) (all_of queues.old) ++ outside.now) }
+    ensures words { OnOk result (words.new.items ≡ by_place (flat_map (due_by time) (all_of queues.old) ++ outside.now)) }
+    ensures read { OnOk result (AreRead time queues.old queues.new) }
+    ensures err { OnErr result (queues.new ≡ queues.old) }
 {
     words.clear();
-    queues.list_due(time, words)?;
+    queues.take_due(time, words)?;
+    match put_in_order(outside, order, words) {
+        Ok(()) => Ok(()),
+        Err(error) => {
+            queues.put_back(time);
+            Err(error)
+        }
+    }
+}
+
+/// Puts what is brought from outside behind other words, and all in order of places.
+fn put_in_order(
+    outside: &[Word],
+    order: &mut Order,
+    words: &mut Vec<Word>,
+) -> Result<(), AllocError>
+    requires { AreApart (words.old.items ++ outside.now) }
+    ensures { OnOk result (words.new.items ≡ by_place (words.old.items ++ outside.now)) }
+{
     words.extend_from_slice(outside)?;
     order.sort(words)
 }
 
-/// Reads what is due, puts words behind their queues, and what came true behind the history. An error is a refused growth;
-/// then the history stays, and some words are put.
+/// Puts words behind their queues, of which what is due was read, and what came true behind the history. An error is a refused
+/// growth; then the history stays, and some words are put.
 pub(crate) fn book_step(
     queues: &mut Queues,
     history: &mut Steps<Word>,
@@ -42,14 +64,13 @@ pub(crate) fn book_step(
 ) -> Result<(), AllocError>
     requires time { time < TIMES }
     requires queue { All (λ put. put.queue < length (all_of queues.old)) puts.now }
-    requires order { AreUpTo time (map (read_by time) (all_of queues.old)) }
+    requires order { AreUpTo time (all_of queues.old) }
     requires came { last_time history.old ≤ time }
-    ensures queues { OnOk result (AreStepped time puts.now queues.old queues.new) }
+    ensures queues { (before : Parts) → AreRead time before queues.old → OnOk result (AreStepped time puts.now before queues.new) }
     ensures history { OnOk result (history.new ≡ history.old ++ at time words.now) }
-    ensures half { OnErr result (AreHalfStepped time queues.old queues.new) }
+    ensures half { (before : Parts) → AreRead time before queues.old → OnErr result (AreHalfStepped time before queues.new) }
     ensures err { OnErr result (history.new ≡ history.old) }
 {
-    queues.read_due(time);
     put_all(queues, time, puts)?;
     history.append_all(time, words)
 }

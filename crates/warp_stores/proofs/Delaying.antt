@@ -1,18 +1,21 @@
 -- Queues of words that come true after a delay: when they are due, and loops over them.
-use Rattle.std.proofs.Common.{◌≡◌, ℕ, suc, false, true≢false, is_none, ◌+◌, ◌<◌, ◌≤◌, min, Some, None, List, [], ◌∷◌, ◌++◌, length, get_or, set, take, drop, map, replicate, refl, ap, sym, ◌∙◌, subst, arith, append_assoc}
-use Rattle.std.specs.List.{flat_map}
+use Rattle.std.proofs.Common.{◌≡◌, ◌≢◌, ℕ, zero, suc, Bool, true, false, cond, true≢false, is_none, ◌+◌, ◌<◌, ◌≤◌, ◌⊎◌, inl, inr, nat_lt, nat_le, min, Some, None, List, [], ◌∷◌, ◌++◌, length, get_or, set, take, drop, map, replicate, refl, ap, sym, ◌∙◌, subst, arith, append_assoc, get_or-set_other}
+use Rattle.std.specs.List.{flat_map, AllByRecursion}
+use Rattle.std.proofs.lemmas.Bool.{leb-true}
 use Rattle.std.proofs.lemmas.Option.{none-some, same_Some}
-use Rattle.std.proofs.lemmas.List.{append-nil, map-append, map-set, length-set, length-map, get_or-map, set-get_or, take_more, take_all, drop_all, same_lists}
+use Rattle.std.proofs.lemmas.List.{append-nil, map-append, map-set, length-set, length-map, get_or-map, get_or-set_same, get_or_default, set-get_or, take_more, take_all, drop_all, same_lists}
+use Rattle.std.proofs.lemmas.List.Elements.{filter-append}
 use Rattle.std.proofs.lemmas.Grind.{flat_map-append}
 use Rattle.warp_stores.specs.declared.least.TheConstants.{NEVER}
 use Rattle.warp_stores.specs.Words.{Move}
 use Rattle.warp_stores.specs.Dated.{Dated, Line, at, undated, first_time, last_from, last_time, standing, RisesFrom, Rises}
 use Rattle.warp_stores.specs.Least.{least_of}
-use Rattle.warp_stores.specs.Delays.{Delayed, true_before, true_since, queue_at, empty_after, due_of, with_made, due_by, read_by, told_since, IsForgotten}
-use Rattle.warp_stores.proofs.Telling.{lt_false, le_true}
+use Rattle.warp_stores.specs.Delays.{Delayed, true_before, true_since, queue_at, empty_after, due_of, with_made, due_by, read_by, back_from, told_since, IsReadUpTo, AreReadUpTo, IsForgotten}
+use Rattle.warp_stores.specs.Inner.Reading.{AreSomeRead}
+use Rattle.warp_stores.proofs.Telling.{lt_true, lt_false, le_true, le_false}
 use Rattle.warp_stores.proofs.Growing.{last_from-append}
 use Rattle.warp_stores.proofs.Times.{last_from-low}
-use Rattle.warp_stores.proofs.Mixing.{mixed, mixed-set, mixed-skip, get_or-mixed, flat_map-skip}
+use Rattle.warp_stores.proofs.Mixing.{mixed, mixed-all, mixed-set, mixed-skip, get_or-mixed, flat_map-skip}
 
 -- when words come true
 abbrev dues : ℕ → List (Dated Move) → List ℕ
@@ -116,70 +119,204 @@ due_set_same queues due i queue queue' l e q same =
 due_at : (queues : List Delayed) (k : ℕ) → k < length queues → get_or (map due_of queues) k 0 ≡ due_of (queue_at queues k)
 due_at queues k l = get_or-map due_of queues k (empty_after 0) 0 l
 
--- what is due is listed up to a queue
-pub record IsListedTo (time : ℕ) (queues : List Delayed) (old out : List Move) (place : ℕ) : Type 0 where
-  pub within : place ≤ length queues
-  pub words : out ≡ old ++ flat_map (due_by time) (take place queues)
+-- no queue ahead of a place is due by a time
+abbrev pub ArePassed : ℕ → List ℕ → ℕ → Type 0
+ArePassed time due to = (k : ℕ) → k < to → time < get_or due k 0
 
--- no queue between two places is due by a time
-abbrev pub ArePassed : ℕ → List ℕ → ℕ → ℕ → Type 0
-ArePassed time due from to = (k : ℕ) → from ≤ k → k < to → time < get_or due k 0
-
-pub listed_start : (time : ℕ) (queues : List Delayed) (due : List ℕ) (out : List Move) (to : ℕ) → due ≡ map due_of queues → to ≤ length due → ArePassed time due 0 to → IsListedTo time queues out out to
-listed_start time queues due out to e l passed =
-    let within : to ≤ length queues = omega (arith, ap length e, length-map queues due_of) in
-    let none : flat_map (due_by time) (take to queues) ≡ [] = flat_map-skip (due_by time) 0 to queues (empty_after 0) (omega arith) within
-    (λ k p q. none_due time (queue_at queues k) (let t : time < get_or due k 0 = passed k p q in let d : get_or due k 0 ≡ due_of (queue_at queues k) = ap (λ (ts : List ℕ). get_or ts k 0) e ∙ due_at queues k (omega arith) in omega arith)) in
-    record { within = within; words = sym (ap (λ (ws : List Move). out ++ ws) none ∙ append-nil out) }
-
-pub listed_more : (time : ℕ) (queues : List Delayed) (due : List ℕ) (old out out' words : List Move) (i to : ℕ) (queue : Delayed) → due ≡ map due_of queues → IsListedTo time queues old out i → i < length queues → queue ≡ get_or queues i queue → words ≡ due_by time queue → out' ≡ out ++ words → i + 1 ≤ to → to ≤ length due → ArePassed time due (i + 1) to → IsListedTo time queues old out' to
-listed_more time queues due old out out' words i to queue e listed l q is new le lt passed =
-    let within : to ≤ length queues = omega (arith, ap length e, length-map queues due_of) in
-    let skip : flat_map (due_by time) (take to queues) ≡ flat_map (due_by time) (take (i + 1) queues) = flat_map-skip (due_by time) (i + 1) to queues (empty_after 0) le within
-    (λ k p q. none_due time (queue_at queues k) (let t : time < get_or due k 0 = passed k p q in let d : get_or due k 0 ≡ due_of (queue_at queues k) = ap (λ (ts : List ℕ). get_or ts k 0) e ∙ due_at queues k (omega arith) in omega arith)) in
-    let one : take (i + 1) queues ≡ take i queues ++ queue ∷ [] = take_more queues i queue l ∙ ap (λ (x : Delayed). take i queues ++ x ∷ []) (sym q) in
-    let more : flat_map (due_by time) (take (i + 1) queues) ≡ flat_map (due_by time) (take i queues) ++ due_by time queue =
-    ap (flat_map (due_by time)) one ∙ flat_map-append (due_by time) (take i queues) (queue ∷ []) ∙ ap (λ (ws : List Move). flat_map (due_by time) (take i queues) ++ ws) (append-nil (due_by time queue)) in
-    record {
-      within = within;
-      words = new ∙ rw (is, listed.words) (append_assoc old (flat_map (due_by time) (take i queues)) (due_by time queue)) ∙ ap (λ (ws : List Move). old ++ ws) (sym (skip ∙ more));
-    }
-
--- what is due is read up to a queue
-pub record IsReadTo (time : ℕ) (old queues : List Delayed) (due : List ℕ) (place : ℕ) : Type 0 where
+-- up to a queue, all that is due is read, and listed
+pub record IsTakenTo (time : ℕ) (old queues : List Delayed) (due : List ℕ) (before out : List Move) (place : ℕ) : Type 0 where
   pub within : place ≤ length old
   pub same : length queues ≡ length old
   pub told : due ≡ map due_of queues
+  pub passed : ArePassed time due place
   pub done : queues ≡ mixed (read_by time) place old old
+  pub words : out ≡ before ++ flat_map (due_by time) (take place old)
 
-pub read_start : (time : ℕ) (queues : List Delayed) (due : List ℕ) (to : ℕ) → due ≡ map due_of queues → to ≤ length due → ArePassed time due 0 to → IsReadTo time queues queues due to
-read_start time queues due to e l passed =
+pub taken_start : (time : ℕ) (queues : List Delayed) (due : List ℕ) (out : List Move) (to : ℕ) → due ≡ map due_of queues → to ≤ length due → ArePassed time due to → IsTakenTo time queues queues due out out to
+taken_start time queues due out to e l passed =
     let within : to ≤ length queues = omega (arith, ap length e, length-map queues due_of) in
+    let later : (k : ℕ) → k < to → time < due_of (queue_at queues k) =
+    (λ k q. let t : time < get_or due k 0 = passed k q in let d : get_or due k 0 ≡ due_of (queue_at queues k) = ap (λ (ts : List ℕ). get_or ts k 0) e ∙ due_at queues k (omega arith) in omega arith) in
+    let none : flat_map (due_by time) (take to queues) ≡ [] = flat_map-skip (due_by time) 0 to queues (empty_after 0) (omega arith) within (λ k p q. none_due time (queue_at queues k) (later k q)) in
     record {
       within = within;
       same = refl;
       told = e;
-      done = sym (mixed-skip (read_by time) 0 to queues queues (empty_after 0) (empty_after 0) refl (omega arith) within
-          (λ k p q. same_read time (queue_at queues k) (let t : time < get_or due k 0 = passed k p q in let d : get_or due k 0 ≡ due_of (queue_at queues k) = ap (λ (ts : List ℕ). get_or ts k 0) e ∙ due_at queues k (omega arith) in omega arith)));
+      passed = passed;
+      done = sym (mixed-skip (read_by time) 0 to queues queues (empty_after 0) (empty_after 0) refl (omega arith) within (λ k p q. same_read time (queue_at queues k) (later k q)));
+      words = sym (ap (λ (ws : List Move). out ++ ws) none ∙ append-nil out);
     }
 
-pub read_more : (time : ℕ) (old queues : List Delayed) (due due' : List ℕ) (i n to : ℕ) (queue queue' : Delayed) → IsReadTo time old queues due i → i < length queues → queue ≡ get_or queues i queue → queue' ≡ read_by time queue → n ≡ due_of queue' → due' ≡ set due i n → i + 1 ≤ to → to ≤ length due' → ArePassed time due' (i + 1) to → IsReadTo time old (set queues i queue') due' to
-read_more time old queues due due' i n to queue queue' was l q is m new le lt passed =
+-- what is ahead of a queue that was read is due later
+read_later : (time : ℕ) (queue : Delayed) → time < NEVER → time < due_of (read_by time queue)
+read_later time queue n = later queue.line.ahead
+  where
+    one : (d : Dated Move) (ds : List (Dated Move)) (b : Bool) → nat_le (suc time) (d.0 + queue.delay) ≡ b → time < least_of (dues queue.delay ds) → time < least_of (dues queue.delay (cond b (d ∷ ds) ds))
+    one d ds true e h = omega (arith, leb-true (suc time) (d.0 + queue.delay) e)
+    one d ds false e h = h
+
+    later : (ahead : List (Dated Move)) → time < least_of (dues queue.delay (true_since queue.delay (suc time) ahead))
+    later [] = n
+    later (d ∷ ds) = one d (true_since queue.delay (suc time) ds) (nat_le (suc time) (d.0 + queue.delay)) refl (later ds)
+
+behind_or_not : (a b : ℕ) → (a < b) ⊎ (b ≤ a)
+behind_or_not a b = grind arith
+
+same_or_ahead : (a b : ℕ) → a ≤ b → (a < b) ⊎ (a ≡ b)
+same_or_ahead a b h = grind arith
+
+pub taken_more : (time : ℕ) (old queues : List Delayed) (due due' : List ℕ) (before out out' words : List Move) (i n to : ℕ) (queue queue' : Delayed) → time < NEVER → IsTakenTo time old queues due before out i → i < length queues → queue ≡ get_or queues i queue
+    → words ≡ due_by time queue → out' ≡ out ++ words → queue' ≡ read_by time queue → n ≡ due_of queue' → due' ≡ set due i n → to ≤ length due' → ArePassed time due' to → (to < length due' → get_or due' to 0 ≤ time) → (i + 1 ≤ to) × IsTakenTo time old (set queues i queue') due' before out' to
+taken_more time old queues due due' before out out' words i n to queue queue' never was l q listed more is m new lt passed found =
     let same : length queues ≡ length old = was.same in
     let told : due' ≡ map due_of (set queues i queue') = new ∙ ap (set due i) m ∙ due_set queues due i queue' was.told in
-    let within : to ≤ length old = omega (arith, ap length told, length-map (set queues i queue') due_of, length-set queues i queue') in
+    let many : length due' ≡ length old = ap length told ∙ length-map (set queues i queue') due_of ∙ length-set queues i queue' ∙ same in
+    let here : n ≡ get_or due' i 0 = sym (ap (λ (ts : List ℕ). get_or ts i 0) new ∙ get_or-set_same due i n 0 (omega (arith, ap length was.told, length-map queues due_of))) in
+    let late : time < n = omega (arith, m, ap due_of is, read_later time queue never) in
+    let on : i + 1 ≤ to = elim (behind_or_not i to) [
+      | inl h ↦ omega arith
+      | inr h ↦ (let f : get_or due' to 0 ≤ time = found (omega arith) in elim (same_or_ahead to i h) [
+        | inl less ↦ (let other : to ≢ i = omega arith in let t : time < get_or due to 0 = was.passed to less in absurd (omega (arith, ap (λ (ts : List ℕ). get_or ts to 0) new, get_or-set_other due i to n 0 other)))
+        | inr e ↦ absurd (omega (arith, ap (λ (k : ℕ). get_or due' k 0) e))
+      ])
+    ] in
+    let within : to ≤ length old = omega arith in
     let there : queue ≡ get_or old i queue = q ∙ ap (λ (xs : List Delayed). get_or xs i queue) was.done ∙ get_or-mixed (read_by time) i i old old queue refl (omega arith) was.within in
     let one : set queues i queue' ≡ mixed (read_by time) (i + 1) old old =
     ap (λ (xs : List Delayed). set xs i queue') was.done
     ∙ ap (set (mixed (read_by time) i old old) i) (is ∙ ap (read_by time) there)
     ∙ mixed-set (read_by time) i old old queue refl (omega arith) in
-    let skip : mixed (read_by time) to old old ≡ mixed (read_by time) (i + 1) old old = mixed-skip (read_by time) (i + 1) to old old (empty_after 0) (empty_after 0) refl le within
-    (λ k p r. same_read time (queue_at old k)
-    (let t : time < get_or due' k 0 = passed k p r in
+    let later : (k : ℕ) → i + 1 ≤ k → k < to → time < due_of (queue_at old k) =
+    (λ k p r.
+    let t : time < get_or due' k 0 = passed k r in
     let d : get_or due' k 0 ≡ due_of (queue_at (set queues i queue') k) = ap (λ (ts : List ℕ). get_or ts k 0) told ∙ due_at (set queues i queue') k (omega (arith, length-set queues i queue')) in
     let s : due_of (queue_at (set queues i queue') k) ≡ due_of (queue_at old k) = ap (λ (xs : List Delayed). due_of (queue_at xs k)) one ∙ ap due_of (get_or-mixed (read_by time) (i + 1) k old old (empty_after 0) refl p (omega arith)) in
-    omega arith)) in
-    record { within = within; same = length-set queues i queue' ∙ same; told = told; done = one ∙ sym skip }
+    omega arith) in
+    let skip : mixed (read_by time) to old old ≡ mixed (read_by time) (i + 1) old old = mixed-skip (read_by time) (i + 1) to old old (empty_after 0) (empty_after 0) refl on within (λ k p r. same_read time (queue_at old k) (later k p r)) in
+    let past : flat_map (due_by time) (take to old) ≡ flat_map (due_by time) (take (i + 1) old) = flat_map-skip (due_by time) (i + 1) to old (empty_after 0) on within (λ k p r. none_due time (queue_at old k) (later k p r)) in
+    let next : take (i + 1) old ≡ take i old ++ queue ∷ [] = take_more old i queue (omega arith) ∙ ap (λ (x : Delayed). take i old ++ x ∷ []) (sym there) in
+    let all : flat_map (due_by time) (take (i + 1) old) ≡ flat_map (due_by time) (take i old) ++ due_by time queue =
+    ap (flat_map (due_by time)) next ∙ flat_map-append (due_by time) (take i old) (queue ∷ []) ∙ ap (λ (ws : List Move). flat_map (due_by time) (take i old) ++ ws) (append-nil (due_by time queue)) in (
+      on,
+      record {
+        within = within;
+        same = length-set queues i queue' ∙ same;
+        told = told;
+        passed = passed;
+        done = one ∙ sym skip;
+        words = more ∙ rw (listed, was.words) (append_assoc before (flat_map (due_by time) (take i old)) (due_by time queue)) ∙ ap (λ (ws : List Move). before ++ ws) (sym (past ∙ all));
+      },
+    )
+
+-- where all is passed, all is read and listed
+pub taken_all : (time : ℕ) (old queues : List Delayed) (due : List ℕ) (before out : List Move) (place : ℕ) → IsTakenTo time old queues due before out place → length queues ≤ place → (queues ≡ map (read_by time) old) × (out ≡ before ++ flat_map (due_by time) old)
+taken_all time old queues due before out place t l =
+    let same : length queues ≡ length old = t.same in (
+      t.done ∙ mixed-all (read_by time) place old old refl (omega arith),
+      t.words ∙ ap (λ (qs : List Delayed). before ++ flat_map (due_by time) qs) (take_all place old (omega arith)),
+    )
+
+-- some are read
+pub taken_some : (time : ℕ) (old queues : List Delayed) (due : List ℕ) (before out : List Move) (place : ℕ) → IsTakenTo time old queues due before out place → AreSomeRead time old queues
+taken_some time old queues due before out place t =
+    record {
+      same = t.same;
+      each = λ k. elim (behind_or_not k place) [
+        | inl h ↦ inr (ap (λ (qs : List Delayed). queue_at qs k) t.done ∙ made_at place k old h t.within)
+        | inr h ↦ inl (ap (λ (qs : List Delayed). queue_at qs k) t.done ∙ get_or-mixed (read_by time) place k old old (empty_after 0) refl h t.within)
+      ];
+    }
+  where
+    made_at : (i k : ℕ) (xs : List Delayed) → k < i → i ≤ length xs → queue_at (mixed (read_by time) i xs xs) k ≡ read_by time (queue_at xs k)
+    made_at zero k xs h m = absurd (omega arith)
+    made_at (suc i) k [] h m = absurd (omega arith)
+    made_at (suc i) zero (x ∷ xs) h m = refl
+    made_at (suc i) (suc k) (x ∷ xs) h m = made_at i k xs (omega arith) (omega arith)
+
+-- what was read and comes true from a time on is put back
+module _ (time : ℕ) (queue : Delayed) (read : IsReadUpTo time queue) where
+  abbrev D : Dated Move → ℕ
+  D d = d.0 + queue.delay
+
+  before_none : (ds : List (Dated Move)) → AllByRecursion (λ d. time ≤ d.0 + queue.delay) ds → true_before queue.delay time ds ≡ []
+  before_none [] h = refl
+  before_none (d ∷ ds) h = rw (lt_false (D d) time h.0) (before_none ds h.1)
+
+  before_all : (ds : List (Dated Move)) → AllByRecursion (λ d. d.0 + queue.delay < time) ds → true_before queue.delay time ds ≡ ds
+  before_all [] h = refl
+  before_all (d ∷ ds) h = rw (lt_true (D d) time h.0) (ap (λ (xs : List (Dated Move)). d ∷ xs) (before_all ds h.1))
+
+  since_none : (ds : List (Dated Move)) → AllByRecursion (λ d. d.0 + queue.delay < time) ds → true_since queue.delay time ds ≡ []
+  since_none [] h = refl
+  since_none (d ∷ ds) h = rw (le_false time (D d) h.0) (since_none ds h.1)
+
+  -- of what came by a time nothing is before it
+  before_early : (ds : List (Dated Move)) → AllByRecursion (λ d. time ≤ d.0 + queue.delay) ds → true_before queue.delay time (true_before queue.delay (suc time) ds) ≡ []
+  before_early [] h = refl
+  before_early (d ∷ ds) h = go (nat_lt (D d) (suc time)) (before_early ds h.1)
+    where
+      go : (b : Bool) → true_before queue.delay time (true_before queue.delay (suc time) ds) ≡ [] → true_before queue.delay time (cond b (d ∷ true_before queue.delay (suc time) ds) (true_before queue.delay (suc time) ds)) ≡ []
+      go true k = rw (lt_false (D d) time h.0) k
+      go false k = k
+
+  since_early : (ds : List (Dated Move)) → AllByRecursion (λ d. time ≤ d.0 + queue.delay) ds → true_since queue.delay time (true_before queue.delay (suc time) ds) ≡ true_before queue.delay (suc time) ds
+  since_early [] h = refl
+  since_early (d ∷ ds) h = go (nat_lt (D d) (suc time)) (since_early ds h.1)
+    where
+      go : (b : Bool) → true_since queue.delay time (true_before queue.delay (suc time) ds) ≡ true_before queue.delay (suc time) ds → true_since queue.delay time (cond b (d ∷ true_before queue.delay (suc time) ds) (true_before queue.delay (suc time) ds)) ≡ cond b (d ∷ true_before queue.delay (suc time) ds) (true_before queue.delay (suc time) ds)
+      go true k = rw (le_true time (D d) h.0) (ap (λ (xs : List (Dated Move)). d ∷ xs) k)
+      go false k = k
+
+  -- what rises parts at a time
+  all_later : (low : ℕ) (ds : List (Dated Move)) → RisesFrom low ds → time < low + queue.delay → (true_before queue.delay (suc time) ds ≡ []) × (true_since queue.delay (suc time) ds ≡ ds)
+  all_later low [] r h = (refl, refl)
+  all_later low (d ∷ ds) r h =
+      let later : time < D d = omega (arith, r.0) in
+      let rest : (true_before queue.delay (suc time) ds ≡ []) × (true_since queue.delay (suc time) ds ≡ ds) = all_later d.0 ds r.1 later in
+      (rw (lt_false (D d) (suc time) (omega arith)) rest.0, rw (le_true (suc time) (D d) (omega arith)) (ap (λ (xs : List (Dated Move)). d ∷ xs) rest.1))
+
+  parts : (low : ℕ) (ds : List (Dated Move)) → RisesFrom low ds → true_before queue.delay (suc time) ds ++ true_since queue.delay (suc time) ds ≡ ds
+  parts low [] r = refl
+  parts low (d ∷ ds) r = elim (behind_or_not time (D d)) [
+    | inl h ↦ (
+        let rest : (true_before queue.delay (suc time) ds ≡ []) × (true_since queue.delay (suc time) ds ≡ ds) = all_later d.0 ds r.1 h in
+        rw (lt_false (D d) (suc time) (omega arith), le_true (suc time) (D d) (omega arith), rest.0, rest.1) refl)
+    | inr h ↦ rw (lt_true (D d) (suc time) (omega arith), le_false (suc time) (D d) (omega arith)) (ap (λ (xs : List (Dated Move)). d ∷ xs) (parts d.0 ds r.1))
+  ]
+
+  rises_behind : (low : ℕ) (a ds : List (Dated Move)) → RisesFrom low (a ++ ds) → (l : ℕ) × RisesFrom l ds
+  rises_behind low [] ds r = (low, r)
+  rises_behind low (x ∷ a) ds r = rises_behind x.0 a ds r.1
+
+  pub back_same : back_from time queue ≡ queue
+  back_same = rw (before_all queue.line.read read.read, since_none queue.line.read read.read) refl
+
+  pub back_read : back_from time (read_by time queue) ≡ queue
+  back_read =
+      let early : List (Dated Move) = true_before queue.delay (suc time) queue.line.ahead in
+      let late : List (Dated Move) = true_since queue.delay (suc time) queue.line.ahead in
+      let first : true_before queue.delay time (queue.line.read ++ early) ≡ queue.line.read =
+      filter-append (λ (d : Dated Move). nat_lt (d.0 + queue.delay) time) queue.line.read early
+      ∙ rw (before_all queue.line.read read.read, before_early queue.line.ahead read.ahead) (append-nil queue.line.read) in
+      let behind : true_since queue.delay time (queue.line.read ++ early) ≡ early =
+      filter-append (λ (d : Dated Move). nat_le time (d.0 + queue.delay)) queue.line.read early
+      ∙ rw (since_none queue.line.read read.read) (since_early queue.line.ahead read.ahead) in
+      let rises : (l : ℕ) × RisesFrom l queue.line.ahead = rises_behind 0 queue.line.read queue.line.ahead read.rises in
+      rw (first, behind, parts rises.0 queue.line.ahead rises.1) refl
+
+-- some that were read are put back
+pub some_back : (time : ℕ) (old new : List Delayed) → AreReadUpTo time old → AreSomeRead time old new → map (back_from time) new ≡ old
+some_back time old new read some =
+    same_lists (map (back_from time) new) old (length-map new (back_from time) ∙ some.same)
+    (λ k d h.
+    let within : k < length new = omega (arith, length-map new (back_from time)) in
+    let there : k < length old = omega (arith, some.same) in
+    get_or-map (back_from time) new k (empty_after 0) d within
+    ∙ elim (some.each k) [
+      | inl e ↦ ap (back_from time) e ∙ back_same time (queue_at old k) (read k)
+      | inr e ↦ ap (back_from time) e ∙ back_read time (queue_at old k) (read k)
+    ]
+    ∙ get_or_default old k (empty_after 0) d there)
 
 -- what came true is forgotten up to a queue
 pub record AreForgottenTo (time : ℕ) (old new : List Delayed) (i : ℕ) : Type 0 where

@@ -36,47 +36,6 @@ covers_end {nodes} {level} {left} {node} {leaf} c =
 covers_node : {nodes : List ℕ} {level left node leaf : ℕ} → Covers nodes level left node leaf → node ≤ leaf
 covers_node {nodes} {level} {left} {node} {leaf} c = omega (arith, c.first, le-mul_of_pos_right node (pow_pos level))
 
--- a node of the second half stands for itself
-covers_leaf : (nodes : List ℕ) (leaf k : ℕ) → length nodes ≡ 2 * 2 ^ k → 0 < leaf → leaf < length nodes → Covers nodes 0 (suc k) leaf leaf
-covers_leaf nodes leaf k many some within = record {
-  many = omega (arith, twice k);
-  some = some;
-  within = omega (arith, twice k);
-  first = omega arith;
-}
-
-covers_next : {nodes : List ℕ} {level left node leaf : ℕ} → Covers nodes level left node leaf → leaf + 2 ^ level ≢ length nodes → Covers nodes level left (node + 1) (leaf + 2 ^ level)
-covers_next {nodes} {level} {left} {node} {leaf} c differs =
-    let many : length nodes ≡ 2 ^ left * 2 ^ level = c.many in
-    let first : leaf ≡ node * 2 ^ level = c.first in
-    let within : node < 2 ^ left = c.within in
-    record {
-      many = many;
-      some = omega arith;
-      within = elim (last_or_not (node + 1) (2 ^ left) (omega arith)) [
-        | inl less ↦ less
-        | inr same ↦ absurd (differs (let e : (node + 1) * 2 ^ level ≡ 2 ^ left * 2 ^ level = ap (λ (n : ℕ). n * 2 ^ level) same in omega (arith, one_more node (2 ^ level))))
-      ];
-      first = omega (arith, one_more node (2 ^ level));
-    }
-  where
-    last_or_not : (a b : ℕ) → a ≤ b → (a < b) ⊎ (a ≡ b)
-    last_or_not a b h = grind arith
-
-covers_up : (nodes : List ℕ) (level left node half leaf : ℕ) → node ≡ 2 * half → Covers nodes level left node leaf → (l : ℕ) × (left ≡ suc l) × Covers nodes (suc level) l half leaf
-covers_up nodes level zero node half leaf even c = absurd (omega (arith, c.some, c.within))
-covers_up nodes level (suc l) node half leaf even c =
-    let within : node < 2 ^ suc l = c.within in (
-      l,
-      refl,
-      record {
-        many = c.many ∙ ap (λ (n : ℕ). n * 2 ^ level) (twice l) ∙ shift (2 ^ l) (2 ^ level) ∙ ap (λ (n : ℕ). 2 ^ l * n) (sym (twice level));
-        some = omega (arith, c.some);
-        within = omega (arith, twice l);
-        first = c.first ∙ ap (λ (n : ℕ). n * 2 ^ level) even ∙ shift_left half (2 ^ level) ∙ ap (λ (n : ℕ). half * n) (sym (twice level));
-      },
-    )
-
 covers_left : {nodes : List ℕ} {level left node leaf : ℕ} → Covers nodes (suc level) left node leaf → Covers nodes level (suc left) (2 * node) leaf
 covers_left {nodes} {level} {left} {node} {leaf} c = record {
   many = c.many ∙ ap (λ (n : ℕ). 2 ^ left * n) (twice level) ∙ sym (shift (2 ^ left) (2 ^ level)) ∙ ap (λ (n : ℕ). n * 2 ^ level) (sym (twice left));
@@ -121,21 +80,17 @@ seat_later {nodes} time seat t s late = λ k from to.
 pub seat_end : {nodes : List ℕ} {seat : Seat} → IsSeat nodes seat → (0 < seat.node) × (0 < seat.width) × (seat.node ≤ seat.leaf) × (seat.leaf + seat.width ≤ length nodes)
 seat_end s = (s.covers.some, omega (arith, s.width, pow_pos s.level), covers_node s.covers, omega (arith, s.width, covers_end s.covers))
 
-pub seat_leaf : (nodes : List ℕ) (leaf : ℕ) → IsTournament nodes → IsPowerOfTwo (length nodes / 2) → length nodes / 2 ≤ leaf → leaf < length nodes → IsSeat nodes (record { node = leaf; width = 1; leaf = leaf })
-seat_leaf nodes leaf t power half within =
+-- the first node stands for the second half
+pub seat_root : (nodes : List ℕ) → IsTournament nodes → IsPowerOfTwo (length nodes / 2) → IsSeat nodes (record { node = 1; width = length nodes / 2; leaf = length nodes / 2 })
+seat_root nodes t power =
     let even : length nodes ≡ 2 * (length nodes / 2) = t.halves in
-    let many : length nodes ≡ 2 * 2 ^ power.0 = (let e : length nodes / 2 ≡ 2 ^ power.0 = power.1 in omega arith) in
-    record { level = 0; left = suc power.0; width = refl; covers = covers_leaf nodes leaf power.0 many (omega arith) within }
-
-pub seat_next_odd : {nodes : List ℕ} (seat : Seat) → IsSeat nodes seat → seat.leaf + seat.width ≢ length nodes → IsSeat nodes (record { node = seat.node + 1; width = seat.width; leaf = seat.leaf + seat.width })
-seat_next_odd {nodes} seat s differs =
-    record { level = s.level; left = s.left; width = s.width; covers = rw s.width (covers_next s.covers (λ e. differs (ap (λ (n : ℕ). seat.leaf + n) s.width ∙ e))) }
-
-pub seat_next_even : {nodes : List ℕ} (seat : Seat) (half : ℕ) → IsSeat nodes seat → seat.leaf + seat.width ≢ length nodes → seat.node + 1 ≡ 2 * half → IsSeat nodes (record { node = half; width = seat.width * 2; leaf = seat.leaf + seat.width })
-seat_next_even {nodes} seat half s differs even =
-    let n : IsSeat nodes (record { node = seat.node + 1; width = seat.width; leaf = seat.leaf + seat.width }) = seat_next_odd seat s differs in
-    let up : (l : ℕ) × (n.left ≡ suc l) × Covers nodes (suc n.level) l half (seat.leaf + seat.width) = covers_up nodes n.level n.left (seat.node + 1) half (seat.leaf + seat.width) even n.covers in
-    record { level = suc n.level; left = up.0; width = omega (arith, n.width, twice n.level); covers = up.2 }
+    let half : length nodes / 2 ≡ 2 ^ power.0 = power.1 in
+    record {
+      level = power.0;
+      left = 1;
+      width = half;
+      covers = record { many = omega (arith, twice 0); some = omega arith; within = omega (arith, twice 0); first = omega arith };
+    }
 
 -- a wide seat has two halves
 halves : (nodes : List ℕ) (level left width node leaf : ℕ) → width ≡ 2 ^ level → 1 < width → Covers nodes level left node leaf → (l : ℕ) × (level ≡ suc l) × (width / 2 ≡ 2 ^ l)
@@ -193,12 +148,6 @@ seat_one {nodes} seat s narrow = one nodes s.level s.left seat.width seat.node s
     one : (nodes : List ℕ) (level left width node leaf : ℕ) → width ≡ 2 ^ level → width ≤ 1 → Covers nodes level left node leaf → node ≡ leaf
     one nodes zero left width node leaf e h c = omega (arith, c.first)
     one nodes (suc l) left width node leaf e h c = absurd (omega (arith, twice l, pow_pos l))
-
--- on the way up
-pub record IsSoughtFrom (time : ℕ) (nodes : List ℕ) (from : ℕ) (seat : Seat) : Type 0 where
-  pub is : IsSeat nodes seat
-  pub from_leaf : from ≤ seat.leaf
-  pub passed : AreLater time nodes from seat.leaf
 
 -- on the way down
 pub record IsSoughtUnder (time : ℕ) (nodes : List ℕ) (seat below : Seat) : Type 0 where

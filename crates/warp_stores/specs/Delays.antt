@@ -1,9 +1,9 @@
 -- Queues of words that come true a delay after the steps that made them.
 use Rattle.std.specs.Prelude.{◌≡◌, ℕ, suc, ◌+◌, ◌<◌, ◌≤◌, nat_lt, nat_le, List, [], ◌++◌, length, get_or, map}
-use Rattle.std.specs.List.{filter}
+use Rattle.std.specs.List.{filter, AllByRecursion}
 use Rattle.warp_stores.specs.declared.queue.TheConstants.{MOST_DEAD}
 use Rattle.warp_stores.specs.Words.{Move}
-use Rattle.warp_stores.specs.Dated.{Dated, Line, at, before, since, later, undated, standing}
+use Rattle.warp_stores.specs.Dated.{Dated, Line, Rises, at, before, since, later, undated, standing}
 use Rattle.warp_stores.specs.Least.{least_of}
 
 -- a queue of words, at the times of the steps that made them, that come true a delay after
@@ -53,6 +53,16 @@ read_by time queue = record {
     ahead = true_since queue.delay (suc time) queue.line.ahead;
   };
 }
+
+-- A queue was read up to a time: what was read came true before it, what is ahead comes true at it or later.
+pub record IsReadUpTo (time : ℕ) (queue : Delayed) : Type 0 where
+  pub read : AllByRecursion (λ d. d.0 + queue.delay < time) queue.line.read
+  pub ahead : AllByRecursion (λ d. time ≤ d.0 + queue.delay) queue.line.ahead
+  pub rises : Rises (standing queue.line)
+
+-- the same of each of some queues
+abbrev pub AreReadUpTo : ℕ → List Delayed → Type 0
+AreReadUpTo time queues = (place : ℕ) → IsReadUpTo time (queue_at queues place)
 
 -- when the words that were read and come true at a time or later were put back
 abbrev pub back_from : ℕ → Delayed → Delayed

@@ -5,3 +5,4 @@ pub mod Marks
 pub mod Order
 pub mod Lists
 pub mod Spans
+pub mod Reading

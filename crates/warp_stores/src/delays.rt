@@ -2,7 +2,8 @@
 ghost use Rattle.std.specs.Prelude.{◌≡◌, ◌≤◌, ◌<◌, ◌++◌, ◌∷◌, [], IfOk, OnOk, OnErr, length, map, slice_set};
 ghost use Rattle.std.specs.List.{flat_map};
 ghost use Rattle.warp_stores.specs.Dated.{last_time, standing};
-ghost use Rattle.warp_stores.specs.Delays.{queue_at, empty_after, due_of, least_due, with_made, due_by, read_by, back_from, made_since, told_since, cut_since, AreForgotten};
+ghost use Rattle.warp_stores.specs.Delays.{queue_at, empty_after, due_of, least_due, with_made, due_by, read_by, back_from, made_since, told_since, cut_since, AreReadUpTo, AreForgotten};
+ghost use Rattle.warp_stores.specs.Inner.Reading.{AreSomeRead};
 
 use crate::batch::Batch;
 use crate::delay_queue::DelayQueue;
@@ -98,22 +99,22 @@ impl Delays {
         Ok(())
     }
 
-    /// Puts the words ahead that come true by a time behind a list, in order of queues. An error is a refused growth; then
-    /// the list stays.
-    pub fn list_due(&self, time: u64, out: &mut Vec<Word>) -> Result<(), AllocError>
-        requires { time < NEVER }
-        ensures ok { OnOk result (out.new.items ≡ out.old.items ++ flat_map (due_by time) self.now) }
-        ensures err { OnErr result (out.new.items ≡ out.old.items) }
+    /// Reads the words ahead that come true by a time, and puts them behind a list, in order of queues. An error is a refused
+    /// growth; then all queues stay.
+    pub fn take_due(&mut self, time: u64, out: &mut Vec<Word>) -> Result<(), AllocError>
+        requires time { time < NEVER }
+        requires read { AreReadUpTo time self.old }
+        ensures ok { OnOk result (out.new.items ≡ out.old.items ++ flat_map (due_by time) self.old) }
+        ensures read { OnOk result (self.new ≡ map (read_by time) self.old) }
+        ensures err { OnErr result (self.new ≡ self.old) }
     {
-        list_due(self.queues.as_slice(), &self.due, time, out)
-    }
-
-    /// Reads the words ahead that come true by a time.
-    pub fn read_due(&mut self, time: u64)
-        requires { time < NEVER }
-        ensures { self.new ≡ map (read_by time) self.old }
-    {
-        read_due(&mut self.queues, &mut self.due, time);
+        match take_due(&mut self.queues, &mut self.due, time, out) {
+            Ok(()) => Ok(()),
+            Err(error) => {
+                self.put_back(time);
+                Err(error)
+            }
+        }
     }
 
     /// Puts back the words that were read and come true at a time or later.
@@ -193,42 +194,28 @@ fn tell_due(queues: &[DelayQueue], due: &mut Least)
     }
 }
 
-/// Puts the words ahead that come true by a time behind a list, in order of queues.
-fn list_due(
-    queues: &[DelayQueue],
-    due: &Least,
+/// Reads the words ahead that come true by a time, and puts them behind a list, in order of queues. An error is a refused
+/// growth; then some queues are read, and the others stay.
+fn take_due(
+    queues: &mut Vec<DelayQueue>,
+    due: &mut Least,
     time: u64,
     out: &mut Vec<Word>,
 ) -> Result<(), AllocError>
-    requires due { due.now ≡ map due_of queues.now }
-    requires time { time < NEVER }
-    ensures ok { OnOk result (out.new.items ≡ out.old.items ++ flat_map (due_by time) queues.now) }
-    ensures err { OnErr result (out.new.items ≡ out.old.items) }
-{
-    let len = out.len();
-    let mut queue = due.first_by(0, time);
-    while queue < queues.len() {
-        if out.extend_from_slice(queues[queue].due_by(time)).is_err() {
-            out.truncate(len);
-            return Err(AllocError);
-        }
-        queue = due.first_by(queue + 1, time);
-    }
-    Ok(())
-}
-
-/// Reads the words ahead that come true by a time.
-fn read_due(queues: &mut Vec<DelayQueue>, due: &mut Least, time: u64)
     requires due { due.old ≡ map due_of queues.old.items }
     requires time { time < NEVER }
     ensures due { due.new ≡ map due_of queues.new.items }
-    ensures read { queues.new.items ≡ map (read_by time) queues.old.items }
+    ensures listed { OnOk result (out.new.items ≡ out.old.items ++ flat_map (due_by time) queues.old.items) }
+    ensures read { OnOk result (queues.new.items ≡ map (read_by time) queues.old.items) }
+    ensures some { OnErr result (AreSomeRead time queues.old.items queues.new.items) }
 {
-    let mut place = due.first_by(0, time);
+    let mut place = due.first(time);
     while place < queues.len() {
         let queue = &mut queues[place];
+        out.extend_from_slice(queue.due_by(time))?;
         queue.read_by(time);
         due.set(place, queue.due());
-        place = due.first_by(place + 1, time);
+        place = due.first(time);
     }
+    Ok(())
 }

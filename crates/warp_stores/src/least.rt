@@ -53,18 +53,14 @@ impl Least {
         self.nodes[1]
     }
 
-    /// The first place from one on whose time is no later than a time, or how many places there are.
-    pub fn first_by(&self, from: usize, time: u64) -> usize
-        requires { from ≤ length self.now }
-        ensures within { from ≤ result × result ≤ length self.now }
-        ensures passed { (k : ℕ) → from ≤ k → k < result → time < slice_index self.now k }
+    /// The first place whose time is no later than a time, or how many places there are.
+    pub fn first(&self, time: u64) -> usize
+        ensures within { result ≤ length self.now }
+        ensures passed { (k : ℕ) → k < result → time < slice_index self.now k }
         ensures found { result < length self.now → slice_index self.now result ≤ time }
     {
-        if from >= self.count {
-            return self.count;
-        }
         let half = self.nodes.len() / 2;
-        let leaf = first_from(self.nodes.as_slice(), half + from, time);
+        let leaf = first_of(self.nodes.as_slice(), time);
         (leaf - half).min(self.count)
     }
 
@@ -86,53 +82,24 @@ struct Seat {
     leaf: usize,
 }
 
-/// The first node of the second half from one on whose time is no later than a time, or how many nodes there are.
-fn first_from(nodes: &[u64], from: usize, time: u64) -> usize
+/// The first node of the second half whose time is no later than a time, or how many nodes there are.
+fn first_of(nodes: &[u64], time: u64) -> usize
     requires tournament { IsTournament nodes.now }
     requires power { IsPowerOfTwo (length nodes.now / 2) }
-    requires half { length nodes.now / 2 ≤ from }
-    requires within { from < length nodes.now }
-    ensures within { from ≤ result × result ≤ length nodes.now }
-    ensures passed { AreLater time nodes.now from result }
+    ensures within { length nodes.now / 2 ≤ result × result ≤ length nodes.now }
+    ensures passed { AreLater time nodes.now (length nodes.now / 2) result }
     ensures found { result < length nodes.now → slice_index nodes.now result ≤ time }
 {
-    let mut seat = Seat {
-        node: from,
-        width: 1,
-        leaf: from,
+    if nodes[1] > time {
+        return nodes.len();
+    }
+    let half = nodes.len() / 2;
+    let root = Seat {
+        node: 1,
+        width: half,
+        leaf: half,
     };
-    while nodes[seat.node] > time {
-        if seat.leaf + seat.width == nodes.len() {
-            return nodes.len();
-        }
-        seat = next(nodes, seat);
-    }
-    descend(nodes, seat, time)
-}
-
-/// The seat behind another, the widest of one or two.
-fn next(nodes: &[u64], seat: Seat) -> Seat
-    requires seat { IsSeat nodes.now seat }
-    requires more { seat.leaf + seat.width ≢ length nodes.now }
-    requires fits { length nodes.now < 2 ^ 63 }
-    ensures seat { IsSeat nodes.now result }
-    ensures leaf { result.leaf ≡ seat.leaf + seat.width }
-{
-    let _ = nodes;
-    let node = seat.node + 1;
-    let leaf = seat.leaf + seat.width;
-    if node % 2 == 1 {
-        return Seat {
-            node,
-            width: seat.width,
-            leaf,
-        };
-    }
-    Seat {
-        node: node / 2,
-        width: seat.width * 2,
-        leaf,
-    }
+    descend(nodes, root, time)
 }
 
 /// The first node of the second half under a seat whose time is no later than a time.
@@ -185,8 +152,20 @@ fn put(nodes: &mut [u64], leaf: usize, time: u64)
 {
     nodes[leaf] = time;
     let mut node = leaf;
+    let mut least = time;
     while node > 1 {
+        least = least.min(nodes[beside(node)]);
         node /= 2;
-        nodes[node] = nodes[2 * node].min(nodes[2 * node + 1]);
+        nodes[node] = least;
     }
+}
+
+/// The other of the two nodes that one of them plays with.
+#[inline]
+fn beside(node: usize) -> usize
+    requires { 1 < node }
+    ensures even { node ≡ 2 * (node / 2) → result ≡ 2 * (node / 2) + 1 }
+    ensures odd { node ≡ 2 * (node / 2) + 1 → result ≡ 2 * (node / 2) }
+{
+    if node % 2 == 0 { node + 1 } else { node - 1 }
 }

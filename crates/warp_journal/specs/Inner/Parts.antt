@@ -14,6 +14,10 @@ use Rattle.warp_journal.specs.Books.{Parts, all_of}
 abbrev pub words_of : List Put → List Move
 words_of puts = map (λ (p : Put). p.word) puts
 
+-- what is due by a time is read
+abbrev pub AreRead : ℕ → Parts → Parts → Type 0
+AreRead time old new = new ≡ record { read = map (read_by time) old.read; unread = map (read_by time) old.unread }
+
 -- no queue has a word of a later step
 abbrev pub AreUpTo : ℕ → List Delayed → Type 0
 AreUpTo step queues = (number : ℕ) → last_time (standing (queue_at queues number).line) ≤ step
