@@ -1,10 +1,10 @@
 -- What is brought to places is what is heard.
-use Rattle.std.proofs.Common.{◌≡◌, ◌≢◌, ◌∙◌, ℕ, zero, suc, ◌+◌, ◌-◌, ◌<◌, ◌≤◌, ◌++◌, ◌==◌, inl, inr, Bool, true, false, cond, nat_lt, Option, Some, None, IsTrue, is_some, unwrap_or, List, [], length, get_or, refl, ap, sym, subst, arith}
+use Rattle.std.proofs.Common.{◌≡◌, ◌≢◌, ◌∙◌, ℕ, zero, suc, ◌+◌, ◌-◌, ◌<◌, ◌≤◌, ◌++◌, ◌==◌, inl, inr, Bool, true, false, cond, nat_lt, Option, Some, None, IsTrue, is_some, max, unwrap_or, IsSome, List, [], length, get_or, refl, ap, sym, subst, arith}
 use Rattle.std.specs.List.{All, flat_map}
 use Rattle.std.specs.List.Sorted.{IsStrictlyIncreasing}
 use Rattle.std.proofs.lemmas.Bool.{cases_lt, cases_Bool, true≢false, cond-true}
 use Rattle.std.proofs.lemmas.List.{append-nil, get_or_past}
-use Rattle.std.proofs.lemmas.List.Elements.{filter-append}
+use Rattle.std.proofs.lemmas.List.Elements.{All-nil, filter-append}
 use Rattle.std.proofs.lemmas.Grind.{common_steps}
 use Rattle.gate_values.specs.declared.logic.Logic.{Logic}
 use Rattle.gate_values.specs.declared.logic.Logic.TheVariants.{X}
@@ -25,15 +25,14 @@ use Rattle.warp_part.specs.Inner.Building.{has}
 use Rattle.warp_part.specs.Placing.{net_of_place, placed, place_source, place_given}
 use Rattle.warp_part.proofs.PartLists.{has_past}
 use Rattle.warp_part.proofs.Placing.{nothing_past}
-use Rattle.warp_process.specs.Entries.{no_messages, effective_of}
 use Rattle.warp_process.specs.Lawful.{IsLawful}
 use Rattle.warp_process.specs.Played.{played_view}
-use Rattle.warp_process.specs.View.{View, given_by, entry_of, effective_at, is_busy}
-use Rattle.part_engine.specs.Runs.{IsEngineOf}
+use Rattle.warp_process.specs.View.{View, given_by, effective_at, is_busy}
+use Rattle.part_engine.specs.Runs.{IsEngineOf, IsNextBrought}
 use Rattle.part_engine.specs.Inner.Bringing.{first_move, AreFirstMoves, move_to, heard_move}
 use Rattle.part_engine.proofs.Sources.{source_out, delay_placed, delay_some, content_at}
 use Rattle.warp_process.proofs.Playing.{played_lawful}
-use Rattle.part_engine.proofs.Heeding.{unheard, quiet_none}
+use Rattle.part_engine.proofs.Heeding.{some_or_none, unheard, heard_busy, quiet_none}
 use Rattle.part_engine.proofs.Gathering.{to_own, to_other, gathered}
 
 -- what is effective moves a place to it, and else it stays
@@ -45,6 +44,9 @@ moves_to place from (Some to) = refl
 pub not_begun : (p : Portion) (time : ℕ) (words : List Move) → time ≢ 0 → words ≡ [] → AreFirstMoves p time words
 not_begun p zero words n e = absurd (n refl)
 not_begun p (suc time) words n e = λ place. ap (words_at place) e
+
+none_rises : IsStrictlyIncreasing []
+none_rises i l = absurd (omega (arith, l))
 
 module _ (v : View) (run : Run) (floor : ℕ) (of : IsEngineOf v floor run) where
   abbrev ps : ℕ → Source
@@ -194,3 +196,23 @@ module _ (v : View) (run : Run) (floor : ℕ) (of : IsEngineOf v floor run) wher
 
       pub is_brought : IsBrought ps pg run.book.mark time (first ++ flat_map move places)
       is_brought = record { still = none_brought; brought = all_brought }
+
+    -- where nothing is heard at the time, only what begins is brought
+    pub only_first : (first : List Move) → AreFirstMoves v.part time first → ((i : ℕ) → i < count → effective_at v (net_of_place v.part i) time ≡ None) → IsBrought ps pg run.book.mark time first
+    only_first first firsts none =
+        subst (IsBrought ps pg run.book.mark time) (append-nil first)
+        (is_brought first firsts [] none_rises (All-nil (λ i. i < count)) (λ i l some. absurd (some (none i l))))
+
+    -- at a time from the floor on that isn't the least one at which something is heard, nothing is
+    pub other_none : v.floor ≤ time → (brought : Option ℕ) → IsNextBrought v run.book.mark brought → (brought ≡ Some time → ⊥) → (i : ℕ) → i < count → effective_at v (net_of_place v.part i) time ≡ None
+    other_none since brought least other i l = some_or_none (effective_at v (net_of_place v.part i) time) (λ some. go brought least other some)
+      where
+        go : (o : Option ℕ) → IsNextBrought v run.book.mark o → (o ≡ Some time → ⊥) → IsSome (effective_at v (net_of_place v.part i) time) → ⊥
+        go None h n some = h time (omega (arith, ahead, since), (i, l, some))
+        go (Some at) h n some =
+            let until : at ≤ time = h.1 time (omega (arith, ahead, since), (i, l, some)) in
+            let from : max run.book.mark v.floor ≤ at = h.0.0 in
+            elim (cases_lt at time) [
+              | inr late ↦ n (ap (λ (t : ℕ). Some t) (let e : at ≡ time = omega (arith, late, until) in e))
+              | inl early ↦ true≢false (sym (heard_busy (played_view v run.book.mark) lawful h.0.1.0 at h.0.1.1 h.0.1.2) ∙ quiet at (omega (arith, from)) early)
+            ]

@@ -12,7 +12,8 @@ use Rattle.warp_process.specs.Lawful.{IsLawful}
 use Rattle.warp_process.proofs.Rows.{source_here, queue_here}
 use Rattle.part_engine.proofs.Sources.{source_out}
 
-some_or_none : (o : Option Logic) → (IsSome o → ⊥) → o ≡ None
+-- what isn't there is none
+pub some_or_none : (o : Option Logic) → (IsSome o → ⊥) → o ≡ None
 some_or_none None n = refl
 some_or_none (Some v) n = absurd (n refl)
 

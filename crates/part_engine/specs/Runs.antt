@@ -1,5 +1,5 @@
 -- What an engine's run is to what a block has received.
-use Rattle.std.specs.Prelude.{◌≡◌, ℕ, Bool, not, ◌&&◌}
+use Rattle.std.specs.Prelude.{◌≡◌, ℕ, max, Bool, not, ◌&&◌, Option}
 use Rattle.std.specs.List.{list_any}
 use Rattle.gate_values.specs.declared.logic.Logic.{Logic}
 use Rattle.gate_values.specs.declared.logic.Logic.TheVariants.{X}
@@ -11,8 +11,8 @@ use Rattle.warp_engine.specs.States.{values_before, contents_before}
 use Rattle.warp_journal.specs.Books.{Book}
 use Rattle.warp_part.specs.Portion.{Portion, source_of, is_used}
 use Rattle.warp_part.specs.Placing.{place_source, place_given, place_cells}
-use Rattle.warp_process.specs.Heard.{IsReceived}
-use Rattle.warp_process.specs.View.{View, Saved, given_by}
+use Rattle.warp_process.specs.Heard.{IsReceived, IsHeardFrom}
+use Rattle.warp_process.specs.View.{View, Saved, IsLeast, given_by}
 
 -- The run has played the sources of a part over what is given, from a floor on, up to a last time.
 pub record IsRunOf (p : Portion) (given : ℕ → ℕ → Logic) (last floor : ℕ) (run : Run) : Type 0 where
@@ -43,3 +43,7 @@ state_of book mark = record { mark = mark; values = values_before mark book; con
 -- the same from some floor on
 abbrev pub IsEngine : View → Run → Type 0
 IsEngine v run = (floor : ℕ) × IsEngineOf v floor run
+
+-- the least time, from a mark on and not below the floor, at which something is brought to a net from outside
+abbrev pub IsNextBrought : View → ℕ → Option ℕ → Type 0
+IsNextBrought v mark brought = IsLeast (IsHeardFrom v (max mark v.floor)) brought

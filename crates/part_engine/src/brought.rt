@@ -5,7 +5,7 @@ ghost use Rattle.warp_journal.specs.Books.{IsBrought};
 ghost use Rattle.warp_part.specs.Placing.{place_source, place_given};
 ghost use Rattle.warp_process.specs.Played.{played_view};
 ghost use Rattle.warp_process.specs.View.{given_by, is_busy};
-ghost use Rattle.part_engine.specs.Runs.{IsEngine};
+ghost use Rattle.part_engine.specs.Runs.{IsEngine, IsNextBrought};
 ghost use Rattle.part_engine.specs.Inner.Bringing.{standing_move};
 
 use crate::moves;
@@ -16,11 +16,13 @@ use warp_stores::Word;
 
 /// Puts into a list, in place of what it had, the words that are brought to an engine at a time by what a block has received:
 /// the values that nets of other blocks and inputs take, and at time 0 what flip-flops begin with. Before that time nothing
-/// happens from the engine's mark on, and time 0 isn't passed over. An error is a refused growth.
+/// happens from the engine's mark on, and time 0 isn't passed over. What is received is looked at only where that time is the
+/// least one at which something is brought from outside. An error is a refused growth.
 pub fn bring(
     heard: &Heard,
     engine: &Engine,
     time: u64,
+    brought: Option<u64>,
     words: &mut Vec<Word>,
 ) -> Result<(), AllocError>
     requires engine { IsEngine heard.now engine.now }
@@ -29,10 +31,14 @@ pub fn bring(
     requires within { time ≤ heard.now.horizon }
     requires quiet { (t : ℕ) → engine.now.book.mark ≤ t → t < time → is_busy (played_view heard.now engine.now.book.mark) t ≡ false }
     requires start { engine.now.book.mark ≡ 0 → time ≡ 0 }
+    requires brought { IsNextBrought heard.now engine.now.book.mark brought }
     ensures { OnOk result (IsBrought (place_source heard.now.part) (place_given heard.now.part (given_by heard.now)) engine.now.book.mark time words.new.items) }
 {
     moves::begin(heard.part(), time, words)?;
-    push_row(heard, engine, heard.row(time), words)
+    if brought == Some(time) {
+        return push_row(heard, engine, heard.row(time), words);
+    }
+    Ok(())
 }
 
 /// The same for time 0, where nothing happens at it: what flip-flops begin with that no gate reads. An error is a refused growth.

@@ -1,5 +1,5 @@
 -- What an engine under way is after a step.
-use Rattle.std.proofs.Common.{◌≡◌, ℕ, suc, false, ◌<◌, ◌≤◌, ◌++◌, nat_lt, Some, List, [], ◌∷◌, length, inl, inr, ap, sym, ◌∙◌, subst, arith, All}
+use Rattle.std.proofs.Common.{◌≡◌, ◌≢◌, ℕ, suc, ◌+◌, max, true, false, ◌<◌, ◌≤◌, ◌++◌, nat_lt, Option, Some, None, List, [], ◌∷◌, length, inl, inr, refl, ap, sym, ◌∙◌, subst, arith, All}
 use Rattle.std.proofs.lemmas.Bool.{cases_lt, true≢false}
 use Rattle.event_times.specs.Marks.{Played, AreTimes}
 use Rattle.warp_stores.specs.Words.{Move}
@@ -11,12 +11,14 @@ use Rattle.warp_engine.specs.Runs.{Run, IsRun, Ran, IsLike, makings}
 use Rattle.warp_engine.specs.Nexts.{AreParted}
 use Rattle.warp_engine.proofs.Making.{makings_later}
 use Rattle.part_engine.proofs.RunLogs.{cells_are}
+use Rattle.part_engine.proofs.Heeding.{heard_busy}
+use Rattle.warp_process.proofs.Playing.{played_lawful}
 use Rattle.warp_part.specs.Portion.{Portion}
 use Rattle.warp_part.specs.Placing.{place_source, place_given, place_cells}
 use Rattle.warp_process.specs.Heard.{IsReceived}
 use Rattle.warp_process.specs.View.{View, IsLeast, IsEventTime, given_by, is_busy}
 use Rattle.warp_process.specs.Played.{played_view, was_busy}
-use Rattle.part_engine.specs.Runs.{IsEngineOf}
+use Rattle.part_engine.specs.Runs.{IsEngineOf, IsNextBrought}
 use Rattle.warp_block.specs.Inner.Held.{IsAt, IsAtRest}
 use Rattle.warp_block.proofs.Times.{times_below, times_on, times_push, times_cut, push_cut, sparse_push, sparse_cut}
 use Rattle.warp_block.proofs.Resting.{least_none, least_now, least_from, quiet_from, next_was}
@@ -122,6 +124,39 @@ module _ (v : View) (run : Run) (played : Played) (at : IsAt v run played) where
     pub least_on : (mark : ℕ) → run.book.mark ≤ mark → mark ≤ time → IsLeast (IsEventTime (played_view v mark)) (Some time)
     least_on mark low high =
         least_from v received mark time high least.0.1 (λ t a b. least_none v received run.book.mark time least t (omega (arith, a, low)) b) (least_now v received run.book.mark time least)
+
+    -- nothing is brought before it
+    brought_since : (at : ℕ) → IsNextBrought v run.book.mark (Some at) → time ≤ at
+    brought_since at h =
+        let from : max run.book.mark v.floor ≤ at = h.0.0 in
+        let busy : is_busy (played_view v run.book.mark) at ≡ true = heard_busy (played_view v run.book.mark) (played_lawful v run.book.mark received) h.0.1.0 at h.0.1.1 h.0.1.2 in
+        elim (cases_lt at time) [
+          | inl before ↦ absurd (true≢false (sym busy ∙ least_quiet at (omega (arith, from)) before))
+          | inr since ↦ since
+        ]
+
+    -- what is brought next stays so at a mark that isn't past it
+    brought_from : (brought : Option ℕ) → IsNextBrought v run.book.mark brought → (mark : ℕ) → run.book.mark ≤ mark → ((at : ℕ) → brought ≡ Some at → mark ≤ at) → IsNextBrought v mark brought
+    brought_from None h mark low high = λ t heard. let from : max mark v.floor ≤ t = heard.0 in h t (omega (arith, low, from), heard.1)
+    brought_from (Some at) h mark low high =
+        let until : mark ≤ at = high at refl in
+        let from : max run.book.mark v.floor ≤ at = h.0.0 in
+        ((omega (arith, until, from), h.0.1), λ t heard. let later : max mark v.floor ≤ t = heard.0 in h.1 t (omega (arith, low, later), heard.1))
+
+    module _ (brought : Option ℕ) (next : IsNextBrought v run.book.mark brought) where
+      since_brought : (at : ℕ) → brought ≡ Some at → time ≤ at
+      since_brought at e = brought_since at (subst (IsNextBrought v run.book.mark) e next)
+
+      -- where a quiet time is passed over
+      pub brought_on : (mark : ℕ) → run.book.mark ≤ mark → mark ≤ time → IsNextBrought v mark brought
+      brought_on mark low high = brought_from brought next mark low (λ at e. let since = since_brought at e in omega (arith, high, since))
+
+      -- and where it is played, and nothing was brought at it
+      pub brought_past : (mark : ℕ) → mark ≡ time + 1 → brought ≢ Some time → IsNextBrought v mark brought
+      brought_past mark is other = brought_from brought next mark (let low = least.0.0 in omega (arith, is, low)) (λ at e. elim (cases_lt time at) [
+        | inl later ↦ omega (arith, is, later)
+        | inr until ↦ absurd (other (e ∙ ap (λ (t : ℕ). Some t) (let since = since_brought at e in let same : at ≡ time = omega (arith, since, until) in same)))
+      ])
 
   -- time 0, at which nothing happens, is played
   pub at_begun : run.book.mark ≡ 0 → is_busy (played_view v 0) 0 ≡ false → (new : Run) → new.book.mark ≡ 1 → new.told ≡ run.told → IsLike run new → IsRun (place_source v.part) (place_given v.part (given_by v)) played.first new

@@ -22,7 +22,7 @@ use crate::rollback::{is_late, roll_back};
 use event_times::Times;
 use gate_values::Change;
 use gate_vcd::Stimulus;
-use part_engine::{begins, next_time, opening_engine};
+use part_engine::{begins, next_brought, next_time, opening_engine};
 use std::alloc::{AllocError, Global};
 use std::marker::Model;
 use warp_engine::Engine;
@@ -275,7 +275,8 @@ impl Block {
     pub fn next_time(&self) -> Option<u64>
         ensures { IsLeast (IsEventTime self.now.seen) result }
     {
-        next_time(&self.heard, &self.engine, self.begins)
+        let brought = next_brought(&self.heard, &self.engine);
+        next_time(&self.heard, &self.engine, self.begins, brought)
     }
 
     /// How many event times from a time on are finished; the time isn't below the floor nor past the mark.

@@ -1,11 +1,11 @@
 //! How a block plays event times.
-ghost use Rattle.std.specs.Prelude.{◌≡◌, ◌<◌, ◌+◌, ◌⊎◌, IfOk, OnOk, OnErr, Some, false};
+ghost use Rattle.std.specs.Prelude.{◌≡◌, ◌<◌, ◌+◌, ◌≢◌, ◌⊎◌, IfOk, OnOk, OnErr, Some, false};
 ghost use Rattle.warp_process.specs.declared.message.Sign.TheVariants.{Plus};
 ghost use Rattle.warp_process.specs.Advance.{IsAdvanced, IsAfterEvent};
 ghost use Rattle.warp_process.specs.Played.{played_view};
 ghost use Rattle.warp_process.specs.Sends.{SendsOnce};
 ghost use Rattle.warp_process.specs.View.{IsLeast, IsEventTime, IsDone, is_busy};
-ghost use Rattle.part_engine.specs.Runs.{begins_of};
+ghost use Rattle.part_engine.specs.Runs.{IsNextBrought, begins_of};
 ghost use Rattle.warp_stores.specs.Lists.{AreLonger};
 ghost use Rattle.warp_engine.specs.Runs.{makings};
 ghost use Rattle.warp_sends.specs.Told.{AreTold};
@@ -13,7 +13,7 @@ ghost use Rattle.warp_block.specs.Shown.Block.{seen_by};
 ghost use Rattle.warp_block.specs.Inner.Held.{IsAt, IsAtRest, IsUntold};
 
 use event_times::Times;
-use part_engine::{bring, bring_first, next_time};
+use part_engine::{bring, bring_first, next_brought, next_time};
 use std::alloc::AllocError;
 use warp_engine::Engine;
 use warp_process::{Heard, Message};
@@ -37,34 +37,51 @@ fn play(
     ensures advanced { IfOk result (λ count. IsAdvanced (played_view heard.now engine.old.book.mark) (played_view heard.now engine.new.book.mark) count) }
     ensures all { IfOk result (λ count. (count ≡ steps) ⊎ ((count < steps) × IsDone (played_view heard.now engine.new.book.mark))) }
 {
+    let mut brought = next_brought(heard, engine);
     for finished in 0..steps {
-        let Some(time) = next_time(heard, engine, begins) else {
+        let Some(time) = next_time(heard, engine, begins, brought) else {
             return Ok(finished);
         };
-        step(heard, engine, times, words, time)?;
+        step(heard, engine, times, words, time, brought)?;
+        brought = brought_after(heard, engine, time, brought);
     }
     Ok(steps)
 }
 
-/// Plays the next event time. An error is a refused growth; then it isn't played.
+/// The least time, from an engine's mark on, at which something is brought from outside, by the one before a time was played: it
+/// is looked for again only where it was that time.
+fn brought_after(heard: &Heard, engine: &Engine, time: u64, brought: Option<u64>) -> Option<u64>
+    requires { brought ≢ Some time → IsNextBrought heard.now engine.now.book.mark brought }
+    ensures { IsNextBrought heard.now engine.now.book.mark result }
+{
+    if brought == Some(time) {
+        return next_brought(heard, engine);
+    }
+    brought
+}
+
+/// Plays the next event time, by the least one at which something is brought from outside. An error is a refused growth; then it
+/// isn't played.
 fn step(
     heard: &Heard,
     engine: &mut Engine,
     times: &mut Times,
     words: &mut Vec<Word>,
     time: u64,
+    brought: Option<u64>,
 ) -> Result<(), AllocError>
     requires at { IsAt heard.now engine.old times.old }
     requires next { IsLeast (IsEventTime (played_view heard.now engine.old.book.mark)) (Some time) }
+    requires brought { IsNextBrought heard.now engine.old.book.mark brought }
     ensures at { IsAt heard.now engine.new times.new }
     ensures untold { IsUntold engine.old engine.new times.old times.new }
     ensures mark { OnOk result (engine.new.book.mark ≡ time + 1) }
 {
     if engine.mark() == 0 && time > 0 {
         begin(heard, engine, times, words)?;
-        return play_time(heard, engine, times, words, time);
+        return play_time(heard, engine, times, words, time, brought);
     }
-    play_time(heard, engine, times, words, time)
+    play_time(heard, engine, times, words, time, brought)
 }
 
 /// Plays time 0, at which nothing happens. An error is a refused growth; then it isn't played.
@@ -86,22 +103,25 @@ fn begin(
     Ok(())
 }
 
-/// Plays the next event time, where it is 0 or time 0 is played. An error is a refused growth; then it isn't played.
+/// Plays the next event time, where it is 0 or time 0 is played, by the least one at which something is brought from outside. An
+/// error is a refused growth; then it isn't played.
 fn play_time(
     heard: &Heard,
     engine: &mut Engine,
     times: &mut Times,
     words: &mut Vec<Word>,
     time: u64,
+    brought: Option<u64>,
 ) -> Result<(), AllocError>
     requires at { IsAt heard.now engine.old times.old }
     requires next { IsLeast (IsEventTime (played_view heard.now engine.old.book.mark)) (Some time) }
+    requires brought { IsNextBrought heard.now engine.old.book.mark brought }
     requires start { engine.old.book.mark ≡ 0 → time ≡ 0 }
     ensures at { IsAt heard.now engine.new times.new }
     ensures untold { IsUntold engine.old engine.new times.old times.new }
     ensures mark { OnOk result (engine.new.book.mark ≡ time + 1) }
 {
-    bring(heard, engine, time, words)?;
+    bring(heard, engine, time, brought, words)?;
     times.push(time)?;
     match engine.play(time, words.as_slice()) {
         Ok(()) => Ok(()),

@@ -5,7 +5,7 @@ use Rattle.warp_process.specs.Played.{played_view}
 use Rattle.warp_process.proofs.Playing.{played_lawful}
 use Rattle.warp_process.proofs.SavingStep.{one_advanced}
 use Rattle.warp_process.proofs.SavingAdvance.{more_advanced}
-use Rattle.warp_block.proofs.Stepping.{at_shown}
+use Rattle.warp_block.proofs.Stepping.{at_shown, brought_past}
 use Rattle.warp_block.proofs.play.play.Goals as goal
 
 pub next_time-requires-clause-quiet : goal.next_time-requires-clause-quiet
@@ -21,6 +21,7 @@ loop-finished-preserved c =
     let more = c.step.ensures.untold in
     record {
       at = c.step.ensures.at;
+      brought = c.brought_after-brought.ensures;
       untold = record {
         told = more.told ∙ before.told;
         lists = more.lists ∙ before.lists;
@@ -32,3 +33,7 @@ loop-finished-preserved c =
           c.loop-finished.invariant.advanced
           (one_advanced (played_view v run.book.mark) (played_view v new.book.mark) (played_lawful v run.book.mark r) (played_lawful v new.book.mark r) refl refl refl refl c.in-Some.time c.in_ok-step.ensures.mark c.in-Some.ensures);
     }
+
+pub brought_after-brought-requires : goal.brought_after-brought-requires
+brought_after-brought-requires c =
+    brought_past c.args.heard.now c.loop-finished.engine c.loop-finished.times c.loop-finished.invariant.at c.in-Some.time c.in-Some.ensures c.loop-finished.brought c.loop-finished.invariant.brought c.step.new.engine.book.mark c.in_ok-step.ensures.mark
