@@ -8,6 +8,7 @@ ghost use Rattle.warp_stores.specs.Inner.Reading.{AreSomeRead};
 use crate::batch::Batch;
 use crate::delay_queue::DelayQueue;
 use crate::least::{Least, NEVER};
+use crate::place::push_some;
 use crate::stop::TIMES;
 use crate::word::{PLACES, Word};
 use std::alloc::{AllocError, Global};
@@ -212,7 +213,7 @@ fn take_due(
     let mut place = due.first(time);
     while place < queues.len() {
         let queue = &mut queues[place];
-        out.extend_from_slice(queue.due_by(time))?;
+        push_some(out, queue.due_by(time))?;
         queue.read_by(time);
         due.set(place, queue.due());
         place = due.first(time);

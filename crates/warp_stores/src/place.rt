@@ -1,5 +1,5 @@
 //! Places between stops.
-ghost use Rattle.std.specs.Prelude.{◌≡◌, ◌<◌, ◌≤◌, ◌+◌, ◌-◌, ◌^◌, ◌++◌, ◌∷◌, [], OnOk, OnErr, length, drop};
+ghost use Rattle.std.specs.Prelude.{◌≡◌, ◌<◌, ◌≤◌, ◌+◌, ◌-◌, ◌^◌, ◌++◌, ◌∷◌, [], IsOk, OnOk, OnErr, length, vec_len, vec_capacity, drop};
 ghost use Rattle.std.specs.List.{between};
 ghost use Rattle.warp_stores.specs.Inner.Stops.{total, Climbs, IsSpan, IsParted, HaveOneMore, HaveMore};
 ghost use Rattle.warp_stores.specs.Shown.Stops.{end_of, told};
@@ -149,6 +149,22 @@ fn count_all(stops: &mut Vec<Stop>, time: u64, count: usize) -> Result<(), Alloc
     Ok(())
 }
 
+/// Appends words. One alone, as it mostly is, is put without a call.
+#[inline]
+pub(crate) fn push_some<T: Copy>(words: &mut Vec<T>, more: &[T]) -> Result<(), AllocError>
+    ensures ok { OnOk result (words.new.items ≡ words.old.items ++ more.now) }
+    ensures err { OnErr result (words.new.items ≡ words.old.items) }
+    ensures room { vec_len words.old + length more.now ≤ vec_capacity words.old → IsOk result }
+{
+    match more {
+        [word] => {
+            words.push(*word)?;
+            Ok(())
+        }
+        _ => words.extend_from_slice(more),
+    }
+}
+
 /// Counts words more, and appends them.
 pub(crate) fn append_all<T>(
     stops: &mut Vec<Stop>,
@@ -166,7 +182,7 @@ where
 {
     words.reserve(more.len())?;
     count_all(stops, time, more.len())?;
-    words.extend_from_slice(more)?;
+    push_some(words, more)?;
     Ok(())
 }
 
