@@ -1,7 +1,6 @@
 -- The codes of variables, and the scalars of nets, a variable at a time.
-use Rattle.std.proofs.Common.{◌≡◌, ℕ, zero, suc, ◌+◌, ◌-◌, ◌<◌, Bool, true, false, cond, ◌&&◌, ◌||◌, nat_eq, List, [], ◌∷◌, ◌++◌, length, map, take, drop, get_or, codes, Option, Some, None, option_map, option_and_then, unwrap_or, is_some, Ok, Err, Bor, refl, ap, sym, ◌∙◌, arith, length-append, take-append-drop, add-one, add-zero, add-suc}
+use Rattle.std.proofs.Common.{◌≡◌, ℕ, zero, suc, ◌+◌, ◌-◌, ◌<◌, Bool, true, false, cond, ◌||◌, List, [], ◌∷◌, ◌++◌, length, map, take, drop, get_or, codes, Option, Some, None, option_map, unwrap_or, is_some, Ok, Err, Bor, refl, ap, sym, ◌∙◌, arith, length-append, take-append-drop, add-one, add-zero, add-suc}
 use Rattle.std.proofs.Math.Seq.{drop-append_seam, take-append_seam}
-use Rattle.std.proofs.lemmas.Bool.Decides.{nat_tests}
 use Rattle.std.proofs.lemmas.Option.{same_Some}
 use Rattle.std.specs.Cow.{cow_slice_items}
 use Rattle.std.specs.List.{list_any, find}
@@ -17,9 +16,9 @@ use Rattle.gate_netlist.specs.Circuit.{Design}
 use Rattle.gate_vcd.specs.declared.fault.StimFault.{StimFault}
 use Rattle.gate_vcd.specs.declared.source.Source.{Source as HeldSource}
 use Rattle.gate_vcd.specs.Changes.{Source}
-use Rattle.gate_vcd.specs.Inner.Known.{Sources, flat, number_of, same_source}
+use Rattle.gate_vcd.specs.Inner.Known.{flat}
 use Rattle.gate_vcd.specs.Shown.Known.{source_by, sources_by}
-use Rattle.gate_vcd.specs.Inner.Scalars.{code_if, numbers_of, without_index}
+use Rattle.gate_vcd.specs.Inner.Scalars.{code_if, without_index}
 use Rattle.gate_vcd.proofs.Keeping.{same_bytes}
 
 pub same_tests : (a b : Bool) → (a ≡ true → b ≡ true) → (b ≡ true → a ≡ true) → a ≡ b
@@ -177,29 +176,3 @@ module _ (d : Design) (vs : List Variable) where
   below-refused i m e found l read r =
       let k : m ≡ suc i + (m - suc i) = omega arith in
       rw k (refused_from (suc i) (m - suc i) e (here_refused i e found read r))
-
--- the sources that are taken, and their numbers, a net at a time
-more_nets : {X Y : Type 0} (f : X → Y) (nets : List X) (i : ℕ) (d : X) → i < length nets → map f (take (i + 1) nets) ≡ map f (take i nets) ++ f (get_or nets i d) ∷ []
-more_nets f nets i d h = rw (take_more nets i d h) (map-append f (take i nets) (get_or nets i d ∷ []))
-
-pub more_taken : (p : Option Source → Bool) (nets : List (Option HeldSource)) (i : ℕ) → i < length nets
-    → list_any p (sources_by (take (i + 1) nets)) ≡ (list_any p (sources_by (take i nets)) || p (source_by (get_or nets i None)))
-more_taken p nets i h = rw (more_nets source_by nets i None h) (any-more p (sources_by (take i nets)) (source_by (get_or nets i None)))
-
-pub more_numbers : (used : Sources) (nets : List (Option HeldSource)) (i : ℕ) (old new : List (Option ℕ)) → i < length nets
-    → old ≡ numbers_of used (sources_by (take i nets)) → new ≡ old ++ option_and_then (number_of used) (source_by (get_or nets i None)) ∷ [] → new ≡ numbers_of used (sources_by (take (i + 1) nets))
-more_numbers used nets i old new h eo en =
-    rw (more_nets source_by nets i None h, map-append (option_and_then (number_of used)) (sources_by (take i nets)) (source_by (get_or nets i None) ∷ []), ← eo) en
-
-both_true : (a b : Bool) → (a && b) ≡ true → (a ≡ true) × (b ≡ true)
-both_true true true e = (refl, refl)
-both_true true false e = cc
-both_true false b e = cc
-
--- sources that agree are the same
-pub same_sources : (a b : Source) → same_source a b ≡ true → a ≡ b
-same_sources a b e =
-    let (c, p) = both_true (bytes_eq a.code b.code) (nat_eq a.place b.place) e in
-    let codes : a.code ≡ b.code = same_bytes a.code b.code c in
-    let places : a.place ≡ b.place = grind (arith, nat_tests, p) in
-    λ i. record { code = codes i; place = places i }

@@ -86,8 +86,8 @@ refuses-change known now t code digits others es taken e (inr (unknown, is)) = i
 abbrev pub GoesOn : KnownCodes → ℕ → Taken → List Item → Result (List Event) StimFault → ℕ → Type 0
 GoesOn known now taken is reading last = (es : List Event) × AreHeld (sources_in known) now es taken × (reading ≡ (events_from (knows known) now is >>= λ later. Ok (es ++ later))) × (last ≡ last_time now is)
 
-pub goes-start : (known : KnownCodes) (n : ℕ) (taken : Taken) (is : List Item) → n ≡ length known.used.keys → taken.lists ≡ replicate {A = List Change} n [] → taken.given ≡ replicate {A = List ℕ} n [] → GoesOn known 0 taken is (events_from (knows known) 0 is) (last_time 0 is)
-goes-start known n taken is e el eg = ([], held-none (sources_in known) n taken (e ∙ sym (length-map known.used.keys source)) el eg, bind-unit (events_from (knows known) 0 is), refl)
+pub goes-start : (known : KnownCodes) (n : ℕ) (taken : Taken) (is : List Item) → n ≡ length known.used.items → taken.lists ≡ replicate {A = List Change} n [] → taken.given ≡ replicate {A = List ℕ} n [] → GoesOn known 0 taken is (events_from (knows known) 0 is) (last_time 0 is)
+goes-start known n taken is e el eg = ([], held-none (sources_in known) n taken (e ∙ sym (length-map known.used.items source)) el eg, bind-unit (events_from (knows known) 0 is), refl)
 
 pub goes-on : (known : KnownCodes) (now next : ℕ) (taken new : Taken) (item : Item) (is others : List Item) (reading : Result (List Event) StimFault) (last : ℕ) → is ≡ item ∷ others
     → GoesOn known now taken is reading last → ((es : List Event) → AreHeld (sources_in known) now es taken → TakesItem known now item others es new (Ok next)) → GoesOn known next new others reading last

@@ -1,12 +1,12 @@
 -- What is kept of a stimulus text means what the text does.
-use Rattle.std.proofs.Common.{◌≡◌, ◌⊎◌, inl, inr, ℕ, zero, suc, ◌+◌, ◌<◌, ◌≤◌, Bool, true, false, not, cond, ◌||◌, nat_eq, nat_le, nat_lt, List, [], ◌∷◌, ◌++◌, length, map, get_or, slice_get, Option, Some, None, IfSome, option_map, option_and_then, unwrap_or, is_some, Result, Ok, Err, Vec, Global, refl, ap, sym, ◌∙◌, subst, arith, length-append, add-one}
-use Rattle.std.specs.List.{list_any, find, prefix_len}
+use Rattle.std.proofs.Common.{◌≡◌, inl, inr, ℕ, zero, suc, ◌+◌, ◌<◌, ◌≤◌, Bool, true, false, cond, ◌||◌, nat_le, nat_lt, List, [], ◌∷◌, ◌++◌, length, get_or, Option, Some, None, IfSome, option_map, option_and_then, unwrap_or, is_some, Result, Ok, Err, Vec, Global, refl, ap, sym, ◌∙◌, subst, arith, length-append, add-one}
+use Rattle.std.specs.List.{find}
 use Rattle.std.specs.Option.{option_map_or}
 use Rattle.std.specs.Str.{bytes_eq}
 use Rattle.std.proofs.lemmas.Bool.{cases_eq}
 use Rattle.std.proofs.lemmas.Bool.Decides.{nat_tests}
 use Rattle.std.proofs.lemmas.Grind.{common_steps}
-use Rattle.std.proofs.lemmas.List.{length-map, get_or-map, get_or_default}
+use Rattle.std.proofs.lemmas.List.{length-map, get_or_default}
 use Rattle.std.proofs.lemmas.Option.{same_Some}
 use Rattle.gate_values.specs.declared.logic.Logic.{Logic}
 use Rattle.gate_values.specs.declared.logic.Logic.TheVariants.{X}
@@ -23,10 +23,9 @@ use Rattle.gate_netlist.specs.Bench.{◌>>=◌}
 use Rattle.gate_vcd.specs.Reading.{Fails}
 use Rattle.gate_vcd.specs.Declarations.{Header, Variable, no_header, declaring}
 use Rattle.gate_vcd.specs.Changes.{Item, stamp, change, wrong, Event, Source, items, nothing, events_from, stamped, changes_with, value_with, last_stamp}
-use Rattle.gate_vcd.specs.declared.source.Source.{Source as HeldSource}
 use Rattle.gate_vcd.specs.Inner.Items.{AreKept}
-use Rattle.gate_vcd.specs.Inner.Known.{Sources, is_taken, knows, number_of, same_source, takes}
-use Rattle.gate_vcd.specs.Shown.Known.{is_of, is_used, source}
+use Rattle.gate_vcd.specs.Inner.Known.{AreNumbers, IsNumber, knows}
+use Rattle.gate_vcd.specs.Shown.Known.{is_of, is_used}
 use Rattle.gate_vcd.specs.Vectors.{Bit, bit_of, place_in, vector_of}
 use Rattle.gate_vcd.specs.declared.known.KnownCodes.{KnownCodes}
 use Rattle.std.specs.Option.{option_or}
@@ -36,14 +35,13 @@ use Rattle.gate_vcd.specs.Inner.Lists.{IsRising}
 use Rattle.gate_vcd.specs.Given.{Given, AreItsChanges, Fits, changes_of, value_at}
 use Rattle.gate_vcd.specs.Inner.Held.{AreLaidOut}
 use Rattle.gate_vcd.specs.Shown.Held.{given_by}
-use Rattle.gate_vcd.specs.Inner.Scalars.{numbers_of}
 use Rattle.gate_vcd.specs.Sources.{AreDeclared}
 use Rattle.gate_vcd.specs.Stimulus.{reading_of, has_code, value_of_source, Means}
 use Rattle.gate_vcd.proofs.DeclarationLaws.{fails_then}
 use Rattle.gate_vcd.proofs.Settling.{AreBelow, latest-flat, changes-below}
-use Rattle.gate_vcd.proofs.InputLaws.{any-more, same_sources}
-use Rattle.gate_vcd.proofs.Keeping.{position-some, same_bytes, up_to_with, past-later, changes-none, latest-none}
-use Rattle.gate_vcd.proofs.Links.{slice_get-is}
+use Rattle.gate_vcd.proofs.InputLaws.{any-more}
+use Rattle.gate_vcd.proofs.Keeping.{same_bytes, up_to_with, past-later, changes-none, latest-none}
+use Rattle.gate_vcd.proofs.Links.{slice_get-within}
 use Rattle.gate_vcd.proofs.Latest.{latest-split, fits-all, some-mapped}
 use Rattle.std.proofs.Math.Seq.{get_or-append_seam}
 use Rattle.std.proofs.Math.ListN.{get_or-append, get_or-map as map-at}
@@ -222,66 +220,22 @@ sourced-by true vs name net cause o e = go (source_of vs name) refl e
     go None h x = cc
     go (Some c) h x = let is : Some c ≡ o = cc in (rw (← is) refl, λ s k. sourced-known vs name s (h ∙ is ∙ k))
 
-any-below : {A : Type 0} (p : A → Bool) (xs : List A) → list_any p xs ≡ true → prefix_len (λ x. not (p x)) xs < length xs
-any-below p [] e = cc
-any-below p (x ∷ xs) e = go (p x) e (any-below p xs)
-  where
-    go : (b : Bool) → (b || list_any p xs) ≡ true → (list_any p xs ≡ true → prefix_len (λ y. not (p y)) xs < length xs) → cond (not b) (1 + prefix_len (λ y. not (p y)) xs) 0 < suc (length xs)
-    go true h ih = omega arith
-    go false h ih = let l : prefix_len (λ y. not (p y)) xs < length xs = ih h in omega arith
-
-pub number-some : (used : Sources) (s : Source) → is_taken used s ≡ true → (k : ℕ) × (number_of used s ≡ Some k)
-number-some used s e =
-    let l = any-below (λ k. same_source s (source k)) used.keys e in
-    let t : nat_lt (prefix_len (λ k. not (same_source s (source k))) used.keys) (length used.keys) ≡ true = grind (arith, nat_tests, l) in
-    (prefix_len (λ k. not (same_source s (source k))) used.keys, rw t refl)
-
-own_source : (s : Source) → same_source s s ≡ true
-own_source s =
-    let places : nat_eq s.place s.place ≡ true = grind (arith, nat_tests) in
-    rw ((bytes_eq-Decides s.code s.code).1 refl, places) refl
-
--- a source stands at its number
-numbered : (used : Sources) (s : Source) (k : ℕ) → number_of used s ≡ Some k → (k < length used.keys) × (slice_get (map source used.keys) k ≡ Some s)
-numbered used s k e =
-    let no_key : HeldSource = record { code = record { now = []; ref_ptr = (0, 0) }; place = 0 } in
-    let (within, is) = position-some (λ x. same_source s (source x)) used.keys k no_key e in
-    let l : k < length (map source used.keys) = omega (arith, length-map used.keys source) in
-    (within, slice_get-is (map source used.keys) k (source no_key) l ∙ ap (λ x. Some x) (get_or-map source used.keys k no_key (source no_key) within ∙ sym (same_sources s (source (get_or used.keys k no_key)) is)))
-
-lt_or_not : (n m : ℕ) → (n < m) ⊎ (m ≤ n)
-lt_or_not n m = grind arith
-
 none_some : {A : Type 0} {x : A} → None ≡ Some x → ⊥
 none_some e = cc
 
--- the source of a net is taken
-used-at : (found : List (Option Source)) (n : ℕ) (s : Source) → get_or found n None ≡ Some s → takes found s ≡ true
-used-at [] n s e = cc
-used-at (o ∷ found) zero s e = rw (e, own_source s) refl
-used-at (o ∷ found) (suc n) s e = rw (used-at found n s e) (elim (option_map_or (same_source s) o false) as (λ b. (b || true) ≡ true) [ true ↦ refl | false ↦ refl ])
-
 -- What is kept of the changes of these sources.
-module _ (timescale : Timescale) (used : Sources) (lists : List (Vec Change Global)) (list_of : List (Option ℕ)) (es : List Event) (now : ℕ) (found : List (Option Source))
-    (taken : (s : Source) → is_taken used s ≡ takes found s) (kept : AreKept (map source used.keys) now es (lists_in lists)) (numbers : list_of ≡ numbers_of used found) where
-  known-at : (n : ℕ) (s : Source) → get_or found n None ≡ Some s → (k : ℕ) × (number_of used s ≡ Some k)
-  known-at n s e = number-some used s (taken s ∙ used-at found n s e)
-
-  number-at : (n : ℕ) → get_or list_of n None ≡ option_and_then (number_of used) (get_or found n None)
-  number-at n = rw numbers (map-at (option_and_then (number_of used)) found n None)
-
+module _ (timescale : Timescale) (sources : List Source) (lists : List (Vec Change Global)) (list_of : List (Option ℕ)) (es : List Event) (now : ℕ) (found : List (Option Source))
+    (kept : AreKept sources now es (lists_in lists)) (numbers : AreNumbers sources found list_of) where
   abbrev given : Given
   given = given_by timescale lists list_of
 
-  list-at : (s : Source) (k : ℕ) → number_of used s ≡ Some k → get_or (lists_in lists) k [] ≡ changes (value_with s es) (last_stamp + 1)
-  list-at s k e = kept.changes k s (numbered used s k e).1
-
-  wave_of : (o : Option Source) → ((s : Source) → o ≡ Some s → (k : ℕ) × (number_of used s ≡ Some k)) → unwrap_or (option_map (λ k. get_or (lists_in lists) k []) (option_and_then (number_of used) o)) [] ≡ changes (value_of_source es o) (last_stamp + 1)
-  wave_of None has = sym (changes-none (value_of_source es None) (last_stamp + 1) (λ t. refl))
-  wave_of (Some s) has = let (k, e) = has s refl in rw e (list-at s k e)
+  wave_of : (o : Option Source) (number : Option ℕ) → IsNumber sources o number → unwrap_or (option_map (λ k. get_or (lists_in lists) k []) number) [] ≡ changes (value_of_source es o) (last_stamp + 1)
+  wave_of None number e = rw e (sym (changes-none (value_of_source es None) (last_stamp + 1) (λ t. refl)))
+  wave_of (Some s) (Some k) e = kept.changes k s e
+  wave_of (Some s) None e = absurd (none_some e)
 
   wave-at : (n : ℕ) → changes_of given n ≡ changes (value_of_source es (get_or found n None)) (last_stamp + 1)
-  wave-at n = ap (λ o. unwrap_or o []) (map-at (option_map (λ k. get_or (lists_in lists) k [])) list_of n None) ∙ rw (number-at n) (wave_of (get_or found n None) (known-at n))
+  wave-at n = ap (λ o. unwrap_or o []) (map-at (option_map (λ k. get_or (lists_in lists) k [])) list_of n None) ∙ wave_of (get_or found n None) (get_or list_of n None) (numbers.each n)
 
   flat-source : (o : Option Source) (u : ℕ) → last_stamp ≤ u → value_of_source es o u ≡ value_of_source es o last_stamp
   flat-source None u l = refl
@@ -290,23 +244,25 @@ module _ (timescale : Timescale) (used : Sources) (lists : List (Vec Change Glob
   pub value-is : (n t : ℕ) → value_at given n t ≡ value_of_source es (get_or found n None) t
   value-is n t = ap (λ cs. latest X cs t) (wave-at n) ∙ latest-all (value_of_source es (get_or found n None)) last_stamp t (flat-source (get_or found n None))
 
-  some-number : (o : Option Source) → ((s : Source) → o ≡ Some s → (k : ℕ) × (number_of used s ≡ Some k)) → is_some (option_and_then (number_of used) o) ≡ is_some o
-  some-number None has = refl
-  some-number (Some s) has = let (k, e) = has s refl in rw e refl
+  some-number : (o : Option Source) (number : Option ℕ) → IsNumber sources o number → is_some number ≡ is_some o
+  some-number None number e = ap is_some e
+  some-number (Some s) (Some k) e = refl
+  some-number (Some s) None e = absurd (none_some e)
 
-  laid-by : (o : Option ℕ) (s : Option Source) → o ≡ option_and_then (number_of used) s → IfSome o (λ k. (k < length lists) × AreItsChanges (get_or (lists_in lists) k []))
-  laid-by None s e = tt
-  laid-by (Some k) None e = absurd (none_some (sym e))
-  laid-by (Some k) (Some s) e =
-      let at : number_of used s ≡ Some k = sym e in
-      (omega (arith, (numbered used s k at).0, kept.count, length-map used.keys source, length-map lists (λ (v : Vec Change Global). v.items)), rw (list-at s k at) (its-changes (value_with s es) (last_stamp + 1)))
+  laid-by : (s : Option Source) (number : Option ℕ) → IsNumber sources s number → IfSome number (λ k. (k < length lists) × AreItsChanges (get_or (lists_in lists) k []))
+  laid-by s None e = tt
+  laid-by None (Some k) e = absurd (none_some (sym e))
+  laid-by (Some s) (Some k) e = (
+    omega (arith, slice_get-within sources k s e, kept.count, length-map lists (λ (v : Vec Change Global). v.items)),
+    rw (kept.changes k s e) (its-changes (value_with s es) (last_stamp + 1)),
+  )
 
   pub laid : AreLaidOut lists list_of
-  laid n o l = laid-by (get_or list_of n o) (get_or found n None) (get_or_default list_of n o None l ∙ number-at n)
+  laid n o l = rw (get_or_default list_of n o None l) (laid-by (get_or found n None) (get_or list_of n None) (numbers.each n))
 
 -- What is kept of a text whose reading is this one.
-module _ (d : Design) (h : Header) (used : Sources) (lists : List (Vec Change Global)) (list_of : List (Option ℕ)) (es : List Event) (now : ℕ) (found : List (Option Source))
-    (taken : (s : Source) → is_taken used s ≡ takes found s) (kept : AreKept (map source used.keys) now es (lists_in lists)) (numbers : list_of ≡ numbers_of used found)
+module _ (d : Design) (h : Header) (sources : List Source) (lists : List (Vec Change Global)) (list_of : List (Option ℕ)) (es : List Event) (now : ℕ) (found : List (Option Source))
+    (kept : AreKept sources now es (lists_in lists)) (numbers : AreNumbers sources found list_of)
     (read : sources_below d h.variables (nets_of d) ≡ Ok found) (drivers : length d.drivers ≡ nets_of d) where
   sourced : (n : ℕ) → n < nets_of d → (is_some (get_or found n None) ≡ is_input (driver_of d n)) × ((s : Source) → get_or found n None ≡ Some s → has_code h.variables s.code ≡ true)
   sourced n l = sourced-by (is_input (driver_of d n)) h.variables (name_of d n) n _ (get_or found n None) (found-at d h.variables (nets_of d) n found read l)
@@ -315,14 +271,14 @@ module _ (d : Design) (h : Header) (used : Sources) (lists : List (Vec Change Gl
   held = given_by h.timescale lists list_of
 
   lengths : length list_of ≡ nets_of d
-  lengths = ap length numbers ∙ length-map found (option_and_then (number_of used)) ∙ found-length d h.variables (nets_of d) found read
+  lengths = numbers.count ∙ found-length d h.variables (nets_of d) found read
 
   fits-circuit : Fits held d
   fits-circuit = some-mapped (λ k. get_or (lists_in lists) k []) list_of ∙ fits-all list_of d.drivers (lengths ∙ sym drivers)
-      (λ n l. (let below : n < nets_of d = omega (arith, lengths) in ap is_some (number-at h.timescale used lists list_of es now found taken kept numbers n) ∙ some-number h.timescale used lists list_of es now found taken kept numbers (get_or found n None) (known-at h.timescale used lists list_of es now found taken kept numbers n) ∙ (sourced n below).0))
+      (λ n l. (let below : n < nets_of d = omega (arith, lengths) in some-number h.timescale sources lists list_of es now found kept numbers (get_or found n None) (get_or list_of n None) (numbers.each n) ∙ (sourced n below).0))
 
   pub means : Means d (record { timescale = h.timescale; events = es; sources = found }) held
-  means = record { timescale = refl; fits = fits-circuit; values = value-is h.timescale used lists list_of es now found taken kept numbers; changes = wave-at h.timescale used lists list_of es now found taken kept numbers }
+  means = record { timescale = refl; fits = fits-circuit; values = value-is h.timescale sources lists list_of es now found kept numbers; changes = wave-at h.timescale sources lists list_of es now found kept numbers }
 
 -- from what the readers of the parts answered
 pub declared-read : (d : Design) (text : List ℕ) (asked : Option (List ℕ)) (ts : List Token) (P : Result (Header × List Token) StimFault → Type 0) → asked ≡ d.scope → ts ≡ tokens_of text

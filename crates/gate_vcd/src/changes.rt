@@ -136,7 +136,7 @@ fn settle_code(
     digits: &[u8],
 ) -> Result<(), StimFault>
     requires linked { IsLinked codes.now }
-    requires count { length lists.old ≡ length codes.now.used.keys }
+    requires count { length lists.old ≡ length codes.now.used.items }
     requires last { last_of (sources_in codes.now) code.now ≡ Some last }
     ensures ok { OnOk result (AreSettled (sources_in codes.now) now code.now had.now digits.now lists.old lists.new) }
     ensures err { IfErr result (λ e. e ≡ out_of_memory) }

@@ -1,4 +1,4 @@
-ghost use Rattle.std.specs.Prelude.{◌≡◌, ◌<◌, ◌++◌, ℕ, List, Err, None, Ok, Some, codes, nat_eq, option_and_then, option_map, IfErr, IfOk, IfSome, MatchResult, OnOk, if◌then◌else◌};
+ghost use Rattle.std.specs.Prelude.{◌≡◌, ◌<◌, ◌++◌, ℕ, List, Err, None, Ok, Some, codes, nat_eq, option_map, IfErr, IfOk, IfSome, MatchResult, OnOk, if◌then◌else◌};
 ghost use Rattle.std.specs.List.{list_any, starts_with};
 ghost use Rattle.std.specs.Str.{bytes_eq};
 ghost use Rattle.gate_netlist.specs.Circuit.{nets_of, driver_of, is_input};
@@ -6,14 +6,12 @@ ghost use Rattle.gate_vcd.specs.Shown.Commands.{variable as variable_of, variabl
 ghost use Rattle.gate_vcd.specs.Faults.{out_of_memory};
 ghost use Rattle.std.specs.Option.{option_or};
 ghost use Rattle.gate_vcd.specs.Inputs.{is_named_for, is_single, is_scalar_of, bit_source, source_of, cause_without, source_or_fault, source_of_net, sources_below};
-ghost use Rattle.gate_vcd.specs.Inner.Known.{number_of};
 ghost use Rattle.gate_vcd.specs.Shown.Known.{source, source_by, sources_by};
-ghost use Rattle.gate_vcd.specs.Inner.Scalars.{AreInputs, AreScalars, code_if, code_in, numbers_of, without_index};
+ghost use Rattle.gate_vcd.specs.Inner.Scalars.{AreInputs, AreScalars, code_if, code_in, without_index};
 ghost use Rattle.gate_vcd.specs.Inner.Sought.{IsGiven};
 
 use crate::fault::{StimCause, StimFault};
 use crate::keyword::is_word;
-use crate::known::KnownCodes;
 use crate::numbers::number_up_to;
 use crate::source::Source;
 use crate::variable::Variable;
@@ -265,30 +263,4 @@ pub fn inputs_of<'a>(
         }
     }
     Ok(Inputs::Found(sources))
-}
-
-/// The number of a source.
-fn number_of(codes: &KnownCodes, source: Option<Source>) -> Option<usize>
-    ensures { result ≡ option_and_then (number_of codes.now.used) (source_by source.entry) }
-{
-    match source {
-        Some(source) => codes.number_of(source),
-        None => None,
-    }
-}
-
-/// The numbers of the sources of the nets.
-pub fn numbers_of(
-    alloc: Global,
-    nets: &[Option<Source>],
-    codes: &KnownCodes,
-) -> Result<Vec<Option<usize>>, StimFault>
-    ensures ok { IfOk result (λ numbers. numbers.items ≡ numbers_of codes.now.used (sources_by nets.now)) }
-    ensures err { IfErr result (λ e. e ≡ out_of_memory) }
-{
-    let mut numbers = Vec::with_capacity(alloc, nets.len())?;
-    for source in nets {
-        numbers.push(number_of(codes, *source))?;
-    }
-    Ok(numbers)
 }

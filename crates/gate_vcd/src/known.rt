@@ -1,12 +1,12 @@
-ghost use Rattle.std.specs.Prelude.{◌≡◌, ◌||◌, ◌↔◌, ℕ, Bool, Option, List, None, Some, false, is_some, IfErr, IfOk, IsTrue, OnOk};
-ghost use Rattle.std.specs.List.{list_any};
+ghost use Rattle.std.specs.Prelude.{◌≡◌, ◌||◌, ℕ, List, None, Some, [], true, get_or, length, slice_get, is_some, IfErr, IfOk, IfSome, IsTrue};
+ghost use Rattle.std.specs.List.{list_any, range_with_len};
+ghost use Rattle.std.specs.List.Sorted.{IsPermutation};
 ghost use Rattle.std.specs.Option.{option_map_or};
 ghost use Rattle.std.specs.Str.{bytes_eq};
-ghost use Rattle.gate_vcd.specs.Changes.{Source as TextSource};
 ghost use Rattle.gate_vcd.specs.Shown.Commands.{variables};
 ghost use Rattle.gate_vcd.specs.Faults.{out_of_memory};
 ghost use Rattle.gate_vcd.specs.Inner.Table.{found_in};
-ghost use Rattle.gate_vcd.specs.Inner.Known.{AreFallingNets, IsLeast, IsLinked, Takes, flat, is_taken, knows, number_of, takes};
+ghost use Rattle.gate_vcd.specs.Inner.Known.{AreFallingNets, AreNumbers, IsLeast, IsLinked, Takes, flat, in_order, knows, sources_in};
 ghost use Rattle.gate_vcd.specs.Shown.Known.{is_used, source as source_of, source_by, sources_by};
 
 use crate::fault::StimFault;
@@ -14,18 +14,24 @@ use crate::source::Source;
 use crate::table::CodeTable;
 use crate::variable::Variable;
 use gate_netlist::TextSeed;
-use indexmap::IndexSet;
 use std::alloc::Global;
 
 /// The codes of a text, and the sources that inputs take.
 #[derive(Drop)]
 pub struct KnownCodes<'a> {
     /// The sources, each with a number.
-    pub used: IndexSet<Source<'a>, TextSeed>,
+    pub used: Vec<Source<'a>>,
     /// Of each code that a variable has the number of its last source.
     pub last: CodeTable<'a>,
     /// Of each source the one before it of the same code.
     pub before: Vec<Option<usize>>,
+}
+
+/// The codes of a text, and of each net the number of its source.
+#[derive(Drop)]
+pub struct Numbered<'a> {
+    pub codes: KnownCodes<'a>,
+    pub numbers: Vec<Option<usize>>,
 }
 
 /// The codes of variables, without sources.
@@ -45,6 +51,7 @@ fn codes_of<'a>(
     Ok(codes)
 }
 
+/// The place of a source, and 0 where there is none.
 fn place_of(taken: Option<Source>) -> u64
     ensures { result ≡ option_map_or (λ s. s.place) (source_by taken.entry) 0 }
 {
@@ -54,19 +61,38 @@ fn place_of(taken: Option<Source>) -> u64
     }
 }
 
-/// The sources of nets, those at greater places first.
-fn by_place<'a>(
-    alloc: Global,
-    nets: &[Option<Source<'a>>],
-) -> Result<Vec<Option<Source<'a>>>, StimFault>
-    ensures same { (p : Option TextSource → Bool) → IfOk result (λ sorted. list_any p (sources_by sorted.items) ≡ list_any p (sources_by nets.now)) }
-    ensures falls { IfOk result (λ sorted. AreFallingNets (sources_by sorted.items)) }
+/// The source of a net, if it has one.
+fn taken_at<'a>(nets: &[Option<Source<'a>>], net: usize) -> Option<Source<'a>>
+    ensures { source_by result ≡ get_or (sources_by nets.now) net None }
+{
+    match nets.get(net) {
+        Some(taken) => *taken,
+        None => None,
+    }
+}
+
+/// The numbers below this one.
+fn all_below(alloc: Global, count: usize) -> Result<Vec<usize>, StimFault>
+    ensures all { IfOk result (λ all. all.items ≡ range_with_len 0 count) }
     ensures err { IfErr result (λ e. e ≡ out_of_memory) }
 {
-    let mut sorted = Vec::from_slice(alloc, nets)?;
-    sorted.sort_by_key(|taken| place_of(*taken))?;
-    sorted.as_mut_slice().reverse();
-    Ok(sorted)
+    let mut all = Vec::with_capacity(alloc, count)?;
+    for number in 0..count {
+        all.push(number)?;
+    }
+    Ok(all)
+}
+
+/// The nets, those whose sources stand at greater places first.
+fn by_place(alloc: Global, nets: &[Option<Source>]) -> Result<Vec<usize>, StimFault>
+    ensures all { IfOk result (λ order. IsPermutation (range_with_len 0 (length nets.now)) order.items) }
+    ensures falls { IfOk result (λ order. AreFallingNets (in_order (sources_by nets.now) order.items)) }
+    ensures err { IfErr result (λ e. e ≡ out_of_memory) }
+{
+    let mut order = all_below(alloc, nets.len())?;
+    order.sort_by_key(|net| place_of(taken_at(nets, *net)))?;
+    order.as_mut_slice().reverse();
+    Ok(order)
 }
 
 /// How many nets take a source.
@@ -87,88 +113,100 @@ impl<'a> KnownCodes<'a> {
 
     /// Whether this is the number of a source.
     fn is_numbered(&self, source: Source, number: usize) -> bool
-        ensures { IsTrue result ↔ (number_of self.now.used (source_of source.entry) ≡ Some number) }
+        ensures { IsTrue result → (slice_get (sources_in self.now) number ≡ Some (source_of source.entry)) }
     {
-        match self.used.as_slice().get(number) {
+        match self.used.get(number) {
             Some(kept) => source == *kept,
             None => false,
         }
     }
 
-    /// The number of a source, sought first at the last source of its code.
-    pub fn number_of(&self, source: Source) -> Option<usize>
-        ensures { result ≡ number_of self.now.used (source_of source.entry) }
+    /// The number of a source, if it is the last one of its code.
+    fn kept_number(&self, source: Source) -> Option<usize>
+        ensures number { IfSome result (λ number. slice_get (sources_in self.now) number ≡ Some (source_of source.entry)) }
+        ensures known { IfSome result (λ number. knows self.now source.entry.code.now ≡ true) }
     {
         match self.last_of(source.code) {
             Some(last) if self.is_numbered(source, last) => Some(last),
-            _ => self.used.get_index_of(&source),
+            _ => None,
         }
     }
 
-    /// Whether a source is kept.
-    fn is_kept(&self, source: Source) -> bool
-        requires { IsLinked self.now }
-        ensures { result ≡ is_taken self.now.used (source_of source.entry) }
-    {
-        self.last_of(source.code).is_some() && self.used.contains(&source)
-    }
-
-    /// Keeps a source that isn't kept yet, behind the last one of its code.
-    fn add(&mut self, source: Source<'a>) -> Result<(), StimFault>
+    /// Keeps a source behind the last one of its code, and answers its number.
+    fn add(&mut self, source: Source<'a>) -> Result<usize, StimFault>
         requires linked { IsLinked self.old }
-        requires new { is_taken self.old.used (source_of source) ≡ false }
         requires least { IsLeast self.old (Some (source_of source)) }
-        ensures ok { OnOk result (Takes self.old self.new (Some (source_of source.entry))) }
+        ensures ok { IfOk result (λ number. Takes self.old self.new (Some (source_of source.entry)) (Some number)) }
         ensures err { IfErr result (λ e. e ≡ out_of_memory) }
     {
+        let number = self.used.len();
         let last = self.last_of(source.code);
         self.before.push(last)?;
-        self.last.insert(source.code, Some(self.used.len()))?;
-        self.used.insert(source)?;
-        Ok(())
+        self.last.insert(source.code, Some(number))?;
+        self.used.push(source)?;
+        Ok(number)
     }
 
-    /// Keeps the source of a net, if it has one and it isn't kept already.
-    fn put(&mut self, taken: Option<Source<'a>>) -> Result<(), StimFault>
+    /// The number of the source of a net, if it has one. A source that isn't the last one of its code is kept now:
+    /// since places fall, it isn't kept already.
+    fn put(&mut self, taken: Option<Source<'a>>) -> Result<Option<usize>, StimFault>
         requires linked { IsLinked self.old }
         requires least { IsLeast self.old (source_by taken) }
-        ensures ok { OnOk result (Takes self.old self.new (source_by taken.entry)) }
+        ensures ok { IfOk result (λ number. Takes self.old self.new (source_by taken.entry) number) }
         ensures err { IfErr result (λ e. e ≡ out_of_memory) }
     {
         match taken {
-            Some(source) => {
-                if self.is_kept(source) {
-                    return Ok(());
-                }
-                self.add(source)
-            }
-            None => Ok(()),
+            Some(source) => match self.kept_number(source) {
+                Some(number) => Ok(Some(number)),
+                None => Ok(Some(self.add(source)?)),
+            },
+            None => Ok(None),
         }
     }
 
-    /// The codes of variables, and the sources that nets take, the nets with greater places first.
-    fn of_sorted(
+    /// The codes of variables, without sources.
+    fn without_sources(
+        alloc: Global,
+        seed: TextSeed,
+        all: &[Variable<'a>],
+        count: usize,
+    ) -> Result<KnownCodes<'a>, StimFault>
+        ensures none { IfOk result (λ known. sources_in known ≡ []) }
+        ensures linked { IfOk result IsLinked }
+        ensures all { (code : List ℕ) → IfOk result (λ known. knows known code ≡ list_any (λ v. bytes_eq code v.code) (variables all.now)) }
+        ensures err { IfErr result (λ e. e ≡ out_of_memory) }
+    {
+        Ok(KnownCodes {
+            used: Vec::with_capacity(alloc, count)?,
+            last: codes_of(alloc, seed, all)?,
+            before: Vec::with_capacity(alloc, count)?,
+        })
+    }
+}
+
+impl<'a> Numbered<'a> {
+    /// The codes of variables, and the sources that nets take, the nets in this order.
+    fn in_order(
         alloc: Global,
         seed: TextSeed,
         all: &[Variable<'a>],
         nets: &[Option<Source<'a>>],
-    ) -> Result<KnownCodes<'a>, StimFault>
-        requires { AreFallingNets (sources_by nets.now) }
-        ensures linked { IfOk result IsLinked }
-        ensures all { (code : List ℕ) → IfOk result (λ known. knows known code ≡ (list_any (λ v. bytes_eq code v.code) (variables all.now) || is_used (sources_by nets.now) code)) }
-        ensures used { (s : TextSource) → IfOk result (λ known. is_taken known.used s ≡ takes (sources_by nets.now) s) }
+        order: &[usize],
+    ) -> Result<Numbered<'a>, StimFault>
+        requires order { IsPermutation (range_with_len 0 (length nets.now)) order.now }
+        requires falls { AreFallingNets (in_order (sources_by nets.now) order.now) }
+        ensures linked { IfOk result (λ numbered. IsLinked numbered.codes) }
+        ensures all { (code : List ℕ) → IfOk result (λ numbered. knows numbered.codes code ≡ (list_any (λ v. bytes_eq code v.code) (variables all.now) || is_used (sources_by nets.now) code)) }
+        ensures numbers { IfOk result (λ numbered. AreNumbers (sources_in numbered.codes) (sources_by nets.now) numbered.numbers.items) }
         ensures err { IfErr result (λ e. e ≡ out_of_memory) }
     {
-        let count = count_of(nets);
-        let mut known = KnownCodes {
-            used: IndexSet::with_capacity_and_hasher(alloc, count, seed)?,
-            last: codes_of(alloc, seed, all)?,
-            before: Vec::with_capacity(alloc, count)?,
-        };
-        for taken in nets {
-            known.put(*taken)?;
+        let mut codes = KnownCodes::without_sources(alloc, seed, all, count_of(nets))?;
+        let mut numbers = Vec::new(alloc);
+        numbers.resize(nets.len(), None)?;
+        for net in order {
+            numbers[*net] = codes.put(taken_at(nets, *net))?;
         }
-        Ok(known)
+        Ok(Numbered { codes, numbers })
     }
 
     /// The codes of variables, and the sources that nets take.
@@ -177,13 +215,13 @@ impl<'a> KnownCodes<'a> {
         seed: TextSeed,
         all: &[Variable<'a>],
         nets: &[Option<Source<'a>>],
-    ) -> Result<KnownCodes<'a>, StimFault>
-        ensures linked { IfOk result IsLinked }
-        ensures all { (code : List ℕ) → IfOk result (λ known. knows known code ≡ (list_any (λ v. bytes_eq code v.code) (variables all.now) || is_used (sources_by nets.now) code)) }
-        ensures used { (s : TextSource) → IfOk result (λ known. is_taken known.used s ≡ takes (sources_by nets.now) s) }
+    ) -> Result<Numbered<'a>, StimFault>
+        ensures linked { IfOk result (λ numbered. IsLinked numbered.codes) }
+        ensures all { (code : List ℕ) → IfOk result (λ numbered. knows numbered.codes code ≡ (list_any (λ v. bytes_eq code v.code) (variables all.now) || is_used (sources_by nets.now) code)) }
+        ensures numbers { IfOk result (λ numbered. AreNumbers (sources_in numbered.codes) (sources_by nets.now) numbered.numbers.items) }
         ensures err { IfErr result (λ e. e ≡ out_of_memory) }
     {
-        let nets = by_place(alloc, nets)?;
-        KnownCodes::of_sorted(alloc, seed, all, nets.as_slice())
+        let order = by_place(alloc, nets)?;
+        Numbered::in_order(alloc, seed, all, nets, order.as_slice())
     }
 }

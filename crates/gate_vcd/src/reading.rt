@@ -4,8 +4,8 @@ ghost use Rattle.gate_vcd.specs.Stimulus.{IsReadAs};
 use crate::changes::read_changes;
 use crate::declarations::read_declarations;
 use crate::fault::StimFault;
-use crate::inputs::{Inputs, inputs_of, numbers_of};
-use crate::known::KnownCodes;
+use crate::inputs::{Inputs, inputs_of};
+use crate::known::Numbered;
 use crate::stimulus::Stimulus;
 use crate::words::Words;
 use gate_netlist::{Circuit, TextSeed};
@@ -25,15 +25,15 @@ pub fn read_stimulus(alloc: Global, text: &[u8], circuit: &Circuit) -> Result<St
     let variables = declared.variables.as_slice();
     match inputs_of(alloc, seed, circuit, variables)? {
         Inputs::Found(sources) => {
-            let codes = KnownCodes::of(alloc, seed, variables, &sources)?;
-            let read = read_changes(alloc, &mut words, &codes)?;
-            let list_of = numbers_of(alloc, &sources, &codes)?;
-            Ok(Stimulus::new(declared.timescale, read.lists, list_of))
+            let numbered = Numbered::of(alloc, seed, variables, &sources)?;
+            drop(sources);
+            let read = read_changes(alloc, &mut words, &numbered.codes)?;
+            Ok(Stimulus::new(declared.timescale, read.lists, numbered.numbers))
         }
         Inputs::Lacking(fault) => {
             // A fault of the changes comes before that of an input.
-            let codes = KnownCodes::of(alloc, seed, variables, &[])?;
-            read_changes(alloc, &mut words, &codes)?;
+            let numbered = Numbered::of(alloc, seed, variables, &[])?;
+            read_changes(alloc, &mut words, &numbered.codes)?;
             Err(fault)
         }
     }

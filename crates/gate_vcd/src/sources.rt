@@ -5,8 +5,7 @@ ghost use Rattle.gate_vcd.specs.Sources.{AreDeclared, IsFollowed};
 
 use crate::changes::read_changes;
 use crate::fault::StimFault;
-use crate::inputs::numbers_of;
-use crate::known::KnownCodes;
+use crate::known::Numbered;
 use crate::source::Source;
 use crate::stimulus::Stimulus;
 use crate::timescale::Timescale;
@@ -36,11 +35,10 @@ pub fn read_sources<'a>(
     requires { AreDeclared (variables_of all.now) (sources_by takers.now) }
     ensures { IsFollowed (variables_of all.now) (sources_by takers.now) (items nothing words.old) result }
 {
-    let codes = KnownCodes::of(alloc, seed, all, takers)?;
-    let read = read_changes(alloc, words, &codes)?;
-    let list_of = numbers_of(alloc, takers, &codes)?;
+    let numbered = Numbered::of(alloc, seed, all, takers)?;
+    let read = read_changes(alloc, words, &numbered.codes)?;
     Ok(Followed {
-        given: Stimulus::new(timescale, read.lists, list_of),
+        given: Stimulus::new(timescale, read.lists, numbered.numbers),
         last: read.last,
     })
 }

@@ -1,28 +1,10 @@
 -- What a reader of changes keeps of the codes of a text.
-use Rattle.std.specs.Prelude.{◌≡◌, ◌⊎◌, ◌≤◌, ℕ, zero, suc, Bool, false, ◌&&◌, ◌||◌, nat_eq, if◌then◌else◌, List, length, map, get_or, slice_get, position, Option, Some, None, is_some, option_and_then}
+use Rattle.std.specs.Prelude.{◌≡◌, ◌⊎◌, ◌≤◌, ℕ, zero, suc, Bool, false, ◌||◌, if◌then◌else◌, List, length, map, get_or, slice_get, Option, Some, None, is_some, option_and_then}
 use Rattle.std.specs.Option.{option_map_or}
-use Rattle.std.specs.List.{list_any}
-use Rattle.std.specs.Str.{bytes_eq}
-use Rattle.indexmap.specs.IndexSet.{IndexSet}
-use Rattle.gate_netlist.specs.declared.seed.TextSeed.{TextSeed}
-use Rattle.gate_vcd.specs.declared.source.Source.{Source as Held}
 use Rattle.gate_vcd.specs.declared.known.KnownCodes.{KnownCodes}
 use Rattle.gate_vcd.specs.Inner.Table.{found_in}
 use Rattle.gate_vcd.specs.Changes.{Source}
 use Rattle.gate_vcd.specs.Shown.Known.{source, is_of}
-
-abbrev pub same_source : Source → Source → Bool
-same_source a b = bytes_eq a.code b.code && nat_eq a.place b.place
-
--- sources with numbers
-abbrev pub Sources : Type 0
-Sources = IndexSet Held TextSeed
-
-abbrev pub is_taken : Sources → Source → Bool
-is_taken sources s = list_any (λ k. same_source s (source k)) sources.keys
-
-abbrev pub number_of : Sources → Source → Option ℕ
-number_of sources s = position (λ k. same_source s (source k)) sources.keys
 
 -- the last place below n that passes a test
 abbrev pub last_below : {X : Type 0} → (X → Bool) → List X → ℕ → Option ℕ
@@ -50,7 +32,7 @@ abbrev pub flat : Option (Option ℕ) → Option ℕ
 flat o = option_and_then (λ x. x) o
 
 abbrev pub sources_in : KnownCodes → List Source
-sources_in known = map source known.used.keys
+sources_in known = map source known.used.items
 
 -- some variable has the code
 abbrev pub knows : KnownCodes → List ℕ → Bool
@@ -59,17 +41,28 @@ knows known code = is_some (found_in known.last code)
 abbrev pub IsLinked : KnownCodes → Type 0
 IsLinked known = AreLinked (λ code. flat (found_in known.last code)) known.before.items (sources_in known)
 
--- some net takes the source
-abbrev pub takes : List (Option Source) → Source → Bool
-takes nets s = list_any (λ taken. option_map_or (same_source s) taken false) nets
-
 -- no source that is kept stands at a place below that of this one
 abbrev pub IsLeast : KnownCodes → Option Source → Type 0
 IsLeast known taken = (s : Source) → taken ≡ Some s → (k : ℕ) (a : Source) → slice_get (sources_in known) k ≡ Some a → s.place ≤ a.place
 
--- what is kept, with the source of one net more
-pub record Takes (old new : KnownCodes) (taken : Option Source) : Type 0 where
+-- a source stands among the others at its number; where there is none there is no number
+abbrev pub IsNumber : List Source → Option Source → Option ℕ → Type 0
+IsNumber sources None number = number ≡ None
+IsNumber sources (Some s) number = option_and_then (slice_get sources) number ≡ Some s
+
+-- each net has the number of its source
+pub record AreNumbers (sources : List Source) (nets : List (Option Source)) (numbers : List (Option ℕ)) : Type 0 where
+  pub count : length numbers ≡ length nets
+  pub each : (net : ℕ) → IsNumber sources (get_or nets net None) (get_or numbers net None)
+
+-- what is kept, with the source of one net more, and its number
+pub record Takes (old new : KnownCodes) (taken : Option Source) (number : Option ℕ) : Type 0 where
   pub kept : (k : ℕ) (a : Source) → slice_get (sources_in new) k ≡ Some a → (slice_get (sources_in old) k ≡ Some a) ⊎ (taken ≡ Some a)
+  pub stays : (k : ℕ) (a : Source) → slice_get (sources_in old) k ≡ Some a → slice_get (sources_in new) k ≡ Some a
   pub linked : IsLinked new
   pub codes : (code : List ℕ) → knows new code ≡ (knows old code || option_map_or (is_of code) taken false)
-  pub used : (s : Source) → is_taken new.used s ≡ (is_taken old.used s || option_map_or (same_source s) taken false)
+  pub numbered : IsNumber (sources_in new) taken number
+
+-- the sources of nets, the nets in this order
+abbrev pub in_order : List (Option Source) → List ℕ → List (Option Source)
+in_order nets order = map (λ net. get_or nets net None) order

@@ -1,5 +1,5 @@
 -- What a reader keeps of the variables: the scalars by their names, the vectors by their bases.
-use Rattle.std.specs.Prelude.{◌≡◌, ◌≤◌, ℕ, ◌-◌, Bool, nat_eq, if◌then◌else◌, List, length, take, codes, Option, Some, None, option_map, option_and_then, position, map, Result, Ok, Err}
+use Rattle.std.specs.Prelude.{◌≡◌, ◌≤◌, ℕ, ◌-◌, Bool, nat_eq, if◌then◌else◌, List, length, take, codes, Option, Some, None, option_map, option_and_then, position, Result, Ok, Err}
 use Rattle.std.specs.Int.{abs_diff}
 use Rattle.std.specs.List.{ends_with}
 use Rattle.std.specs.Borrow.{Bor}
@@ -16,7 +16,6 @@ use Rattle.gate_vcd.specs.Declarations.{Variable}
 use Rattle.gate_vcd.specs.Changes.{Source}
 use Rattle.gate_vcd.specs.Vectors.{Bit}
 use Rattle.gate_vcd.specs.Inputs.{first_given, scalar_code, source_in}
-use Rattle.gate_vcd.specs.Inner.Known.{Sources, number_of}
 use Rattle.gate_vcd.specs.Shown.Known.{sources_by}
 use Rattle.gate_vcd.specs.Inner.Runs.{kept_at}
 
@@ -60,10 +59,6 @@ pub record AreVectors (vectors : Vectors) (vs : List Variable) : Type 0 where
 abbrev pub AreInputs : Inputs → Result (List (Option Source)) StimFault → Type 0
 AreInputs (Found sources) reading = reading ≡ Ok (sources_by sources.items)
 AreInputs (Lacking e) reading = reading ≡ Err e
-
--- the numbers of sources
-abbrev pub numbers_of : Sources → List (Option Source) → List (Option ℕ)
-numbers_of used nets = map (option_and_then (number_of used)) nets
 
 -- the text before an index of 0 of 0, where it ends with one
 abbrev pub without_index : List ℕ → Option (List ℕ)

@@ -1,3 +1,4 @@
+use Rattle.std.proofs.Common.{arith}
 use Rattle.std.proofs.lemmas.Result.{err_from_is_err_and}
 use Rattle.gate_vcd.specs.Changes.{items, last_time, nothing, events_from}
 use Rattle.gate_vcd.specs.Inner.Items.{item_of, taken_in}
@@ -6,7 +7,7 @@ use Rattle.gate_vcd.proofs.ItemLaws.{goes-start, goes-on, goes-wrong, goes-out}
 use Rattle.gate_vcd.proofs.changes.read_changes.Goals as goal
 
 pub loop-taken-init : goal.loop-taken-init
-loop-taken-init c = goes-start c.args.codes.now c.len.result (taken_in c.in_ok-taken.taken) (items nothing c.args.words.now) c.len.ensures.len c.in_ok-taken.ensures.lists c.in_ok-taken.ensures.given
+loop-taken-init c = goes-start c.args.codes.now c.len.result (taken_in c.in_ok-taken.taken) (items nothing c.args.words.now) (omega (arith, c.len.ensures, c.args.codes.now.used.ok)) c.in_ok-taken.ensures.lists c.in_ok-taken.ensures.given
 
 pub returns-in_err-item : goal.returns-in_err-item
 returns-in_err-item c =

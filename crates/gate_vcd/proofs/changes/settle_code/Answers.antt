@@ -19,19 +19,19 @@ returns-then-not-reaches-clause-ok c =
     let stands = settling-stands (sources_in c.args.codes.now) c.args.now c.args.code.now c.args.had.now c.args.digits.now c.args.lists.now c.loop-next.lists c.in-Some.number here in
     let s : Source = get_or (sources_in c.args.codes.now) c.in-Some.number (source no_source) in
     let at : slice_get (sources_in c.args.codes.now) c.in-Some.number ≡ Some s = slice_get-is (sources_in c.args.codes.now) c.in-Some.number (source no_source) stands in
-    let shown : slice_get (map source c.as_slice-sources.result.now) c.in-Some.number ≡ Some s = rw c.as_slice-sources.ensures.keys at in
+    let shown : slice_get (map source c.as_slice-sources.result.now) c.in-Some.number ≡ Some s = rw c.as_slice-sources.ensures.value at in
     settling-stops (sources_in c.args.codes.now) c.args.now c.args.code.now c.args.had.now c.args.digits.now c.args.lists.now c.loop-next.lists c.in-Some.number s c.requires.linked.falls at
     (ap (reaches c.args.had.now c.args.digits.now) (sym (c.place_at-place.ensures s shown)) ∙ sym c.reaches.ensures ∙ c.if-not-reaches.true) here
 
 pub place_at-place-requires : goal.place_at-place-requires
 place_at-place-requires c =
     let stands = settling-stands (sources_in c.args.codes.now) c.args.now c.args.code.now c.args.had.now c.args.digits.now c.args.lists.now c.loop-next.lists c.in-Some.number (rw c.in-Some.is at c.loop-next.invariant) in
-    rw c.as_slice-sources.ensures.keys (omega (arith, stands, length-map c.args.codes.now.used.keys source))
+    rw c.as_slice-sources.ensures.value (omega (arith, stands, length-map c.args.codes.now.used.items source))
 
 pub settle_source-requires : goal.settle_source-requires
 settle_source-requires c =
     let stands = settling-stands (sources_in c.args.codes.now) c.args.now c.args.code.now c.args.had.now c.args.digits.now c.args.lists.now c.loop-next.lists c.in-Some.number (rw c.in-Some.is at c.loop-next.invariant) in
-    omega (arith, stands, length-map c.args.codes.now.used.keys source, c.loop-next.invariant.count, c.requires.count)
+    omega (arith, stands, length-map c.args.codes.now.used.items source, c.loop-next.invariant.count, c.requires.count)
 
 pub index-next-requires : goal.index-next-requires
 index-next-requires c =
@@ -54,9 +54,9 @@ loop-next-preserved c =
     let stands = settling-stands (sources_in c.args.codes.now) c.args.now c.args.code.now c.args.had.now c.args.digits.now c.args.lists.now c.loop-next.lists c.in-Some.number here in
     let s : Source = get_or (sources_in c.args.codes.now) c.in-Some.number (source no_source) in
     let at : slice_get (sources_in c.args.codes.now) c.in-Some.number ≡ Some s = slice_get-is (sources_in c.args.codes.now) c.in-Some.number (source no_source) stands in
-    let shown : slice_get (map source c.as_slice-sources.result.now) c.in-Some.number ≡ Some s = rw c.as_slice-sources.ensures.keys at in
+    let shown : slice_get (map source c.as_slice-sources.result.now) c.in-Some.number ≡ Some s = rw c.as_slice-sources.ensures.value at in
     let within : c.in-Some.number < length c.args.codes.now.before.items = omega (arith, stands, c.requires.linked.count) in
-    let long : length c.args.lists.now ≡ length (sources_in c.args.codes.now) = c.requires.count ∙ sym (length-map c.args.codes.now.used.keys source) in
+    let long : length c.args.lists.now ≡ length (sources_in c.args.codes.now) = c.requires.count ∙ sym (length-map c.args.codes.now.used.items source) in
     let next = c.index-next.ensures ∙ get_or_default c.args.codes.now.before.items c.in-Some.number c.index-next.result.now None within in
     let reach : reaches c.args.had.now c.args.digits.now s.place ≡ true = ap (reaches c.args.had.now c.args.digits.now) (sym (c.place_at-place.ensures s shown)) ∙ sym c.reaches.ensures ∙ c.if-not-reaches.false in
     let new =

@@ -16,7 +16,7 @@ settle_code-requires c =
     let (es, held) = c.requires.held in
     record {
       linked = c.requires.linked;
-      count = omega (arith, held.lists.count, length-map c.args.codes.now.used.keys source);
+      count = omega (arith, held.lists.count, length-map c.args.codes.now.used.items source);
       last = c.requires.last;
     }
 

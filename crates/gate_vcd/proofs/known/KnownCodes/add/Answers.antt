@@ -1,7 +1,9 @@
+use Rattle.std.proofs.Common.{◌≡◌, length, arith}
 use Rattle.gate_vcd.proofs.KnownLaws.{takes-more}
 use Rattle.gate_vcd.proofs.known.KnownCodes.add.Goals as goal
 
 pub returns-clause-ok : goal.returns-clause-ok
 returns-clause-ok c =
-    takes-more c.args.self.now (record { used = c.insert-2.new.self; last = c.insert.new.self; before = c.push.new.self }) c.args.source c.requires.linked (rw c.requires.new at c.in_ok-insert-2.ensures.keys)
-    (rw (← c.last_of-last.ensures) c.in_ok-push.ensures.items) c.requires.least (λ code. rw (← c.len.ensures.len) (c.in_ok-insert.ensures.ok code))
+    let e : c.len-number.result ≡ length c.args.self.now.used.items = omega (arith, c.len-number.ensures, c.args.self.now.used.ok) in
+    rw e (takes-more c.args.self.now (record { used = c.push-2.new.self; last = c.insert.new.self; before = c.push.new.self }) c.args.source c.requires.linked c.in_ok-push-2.ensures.items
+    (rw (← c.last_of-last.ensures) c.in_ok-push.ensures.items) c.requires.least (λ code. rw (← e) (c.in_ok-insert.ensures.ok code)))
