@@ -1,25 +1,28 @@
 -- The codes of variables, and the scalars of nets, a variable at a time.
-use Rattle.std.proofs.Common.{◌≡◌, ℕ, zero, suc, ◌+◌, ◌-◌, ◌<◌, Bool, true, false, cond, ◌||◌, List, [], ◌∷◌, ◌++◌, length, map, take, drop, get_or, codes, Option, Some, None, option_map, unwrap_or, is_some, Ok, Err, Bor, refl, ap, sym, ◌∙◌, arith, length-append, take-append-drop, add-one, add-zero, add-suc}
+use Rattle.std.proofs.Common.{◌≡◌, ◌≢◌, ℕ, zero, suc, ◌+◌, ◌-◌, ◌<◌, ◌≤◌, Bool, true, false, cond, ◌&&◌, ◌||◌, List, [], ◌∷◌, ◌++◌, length, map, take, drop, set, get_or, codes, Option, Some, None, option_map, is_some, Ok, Err, refl, ap, sym, ◌∙◌, arith, length-append, take-append-drop, add-one, add-zero, add-suc}
 use Rattle.std.proofs.Math.Seq.{drop-append_seam, take-append_seam}
 use Rattle.std.proofs.lemmas.Option.{same_Some}
 use Rattle.std.specs.Cow.{cow_slice_items}
 use Rattle.std.specs.List.{list_any, find}
 use Rattle.std.specs.Str.{bytes_eq}
-use Rattle.std.proofs.lemmas.List.{map-append, take_more}
+use Rattle.std.proofs.lemmas.List.{get_or-set_other, length-set, map-append, take_more, take_more_set}
+use Rattle.std.proofs.lemmas.Bool.Decides.{nat_tests}
+use Rattle.std.specs.Str.{IsUtf8}
 use Rattle.std.proofs.lemmas.Slice.Eq.{bytes_eq-Decides}
 use Rattle.gate_vcd.specs.declared.variable.Variable.{Variable as Held}
 use Rattle.gate_vcd.specs.Declarations.{Variable}
 use Rattle.gate_vcd.specs.Shown.Commands.{variable, variables}
 use Rattle.std.specs.Option.{option_or}
-use Rattle.gate_vcd.specs.Inputs.{is_single, is_scalar_of, scalar_code, is_named_for, source_of_net, sources_below}
-use Rattle.gate_netlist.specs.Circuit.{Design}
+use Rattle.gate_vcd.specs.Inputs.{is_single, is_scalar_of, scalar_source, is_named_for, source_of_net, sources_below}
+use Rattle.gate_netlist.specs.Circuit.{Design, IsCircuit, name_of, net_of, nets_of}
 use Rattle.gate_vcd.specs.declared.fault.StimFault.{StimFault}
 use Rattle.gate_vcd.specs.declared.source.Source.{Source as HeldSource}
 use Rattle.gate_vcd.specs.Changes.{Source}
 use Rattle.gate_vcd.specs.Inner.Known.{flat}
 use Rattle.gate_vcd.specs.Shown.Known.{source_by, sources_by}
-use Rattle.gate_vcd.specs.Inner.Scalars.{code_if, without_index}
-use Rattle.gate_vcd.proofs.Keeping.{same_bytes}
+use Rattle.gate_vcd.specs.Inner.Scalars.{AreScalars, is_net, scalar_if, source_at, without_index}
+use Rattle.gate_vcd.proofs.Compared.{eq_true}
+use Rattle.gate_vcd.proofs.Keeping.{position-some, same_bytes}
 
 pub same_tests : (a b : Bool) → (a ≡ true → b ≡ true) → (b ≡ true → a ≡ true) → a ≡ b
 same_tests true b f g = sym (f refl)
@@ -57,36 +60,27 @@ pub no_sources : (b : Bool) (old : Option (Option ℕ)) → flat old ≡ None �
 no_sources true old e = refl
 no_sources false old e = e
 
--- a code is kept for a name that had none
-pub noted : (name other : List ℕ) (code kept : Bor (List ℕ)) (old : List ℕ → Option (Bor (List ℕ))) (new : Option (Bor (List ℕ))) → kept ≡ unwrap_or (old name) code → new ≡ cond (bytes_eq name other) (Some kept) (old other)
-    → option_map (λ (c : Bor (List ℕ)). c.now) new ≡ option_or (option_map (λ (c : Bor (List ℕ)). c.now) (old other)) (cond (bytes_eq other name) (Some code.now) None)
-noted name other code kept old new is en = rw (en, is, turned other name) (go (bytes_eq name other) refl)
-  where
-    first : (o : Option (Bor (List ℕ))) → Some (unwrap_or o code).now ≡ option_or (option_map (λ (c : Bor (List ℕ)). c.now) o) (Some code.now)
-    first None = refl
-    first (Some x) = refl
-
-    go : (b : Bool) → bytes_eq name other ≡ b → option_map (λ (c : Bor (List ℕ)). c.now) (cond b (Some (unwrap_or (old name) code)) (old other)) ≡ option_or (option_map (λ (c : Bor (List ℕ)). c.now) (old other)) (cond b (Some code.now) None)
-    go false e = elim (old other) as (λ o. option_map (λ (c : Bor (List ℕ)). c.now) o ≡ option_or (option_map (λ (c : Bor (List ℕ)). c.now) o) None) [ None ↦ refl | Some x ↦ refl ]
-    go true e = rw (← same_bytes name other e) (first (old name))
-
 find-more : {X : Type 0} (p : X → Bool) (xs : List X) (x : X) → find p (xs ++ x ∷ []) ≡ option_or (find p xs) (cond (p x) (Some x) None)
 find-more p [] x = refl
 find-more p (y ∷ xs) x = elim (p y) as (λ b. cond b (Some y) (find p (xs ++ x ∷ [])) ≡ option_or (cond b (Some y) (find p xs)) (cond (p x) (Some x) None))
     [ true ↦ refl | false ↦ find-more p xs x ]
 
-code_option_or : (o : Option Variable) (b : Bool) (v : Variable) → option_map (λ (x : Variable). x.code) (option_or o (cond b (Some v) None)) ≡ option_or (option_map (λ (x : Variable). x.code) o) (cond b (Some v.code) None)
-code_option_or None true v = refl
-code_option_or None false v = refl
-code_option_or (Some y) b v = refl
+abbrev scalar_by : List ℕ → Source
+scalar_by code = record { code = code; place = 0 }
+
+scalar_option_or : (o : Option Variable) (b : Bool) (v : Variable)
+    → option_map scalar_by (option_map (λ (x : Variable). x.code) (option_or o (cond b (Some v) None))) ≡ option_or (option_map scalar_by (option_map (λ (x : Variable). x.code) o)) (scalar_if b v.code)
+scalar_option_or None true v = refl
+scalar_option_or None false v = refl
+scalar_option_or (Some y) b v = refl
 
 -- the first scalar, with one variable more
-code-more : (vs : List Variable) (v : Variable) (name : List ℕ) → scalar_code (vs ++ v ∷ []) name ≡ option_or (scalar_code vs name) (cond (is_scalar_of name v) (Some v.code) None)
-code-more vs v name = rw (find-more (is_scalar_of name) vs v) (code_option_or (find (is_scalar_of name) vs) (is_scalar_of name v) v)
+scalar-more : (vs : List Variable) (v : Variable) (name : List ℕ) → scalar_source (vs ++ v ∷ []) name ≡ option_or (scalar_source vs name) (scalar_if (is_scalar_of name v) v.code)
+scalar-more vs v name = rw (find-more (is_scalar_of name) vs v) (scalar_option_or (find (is_scalar_of name) vs) (is_scalar_of name v) v)
 
-pub more_scalars : (name : List ℕ) (all : List Held) (i : ℕ) (item : Held) (old new : Option (List ℕ)) → i < length all → item ≡ get_or all i item → old ≡ scalar_code (variables (take i all)) name
-    → new ≡ option_or old (cond (is_scalar_of name (variable item)) (Some item.code.now) None) → new ≡ scalar_code (variables (take (i + 1) all)) name
-more_scalars name all i item old new h e eo en = rw (more_variables all i item h e, code-more (variables (take i all)) (variable item) name, ← eo) en
+more_scalars : (name : List ℕ) (all : List Held) (i : ℕ) (item : Held) (old new : Option Source) → i < length all → item ≡ get_or all i item → old ≡ scalar_source (variables (take i all)) name
+    → new ≡ option_or old (scalar_if (is_scalar_of name (variable item)) item.code.now) → new ≡ scalar_source (variables (take (i + 1) all)) name
+more_scalars name all i item old new h e eo en = rw (more_variables all i item h e, scalar-more (variables (take i all)) (variable item) name, ← eo) en
 
 any-map : {X Y : Type 0} (p : Y → Bool) (f : X → Y) (xs : List X) → list_any p (map f xs) ≡ list_any (λ x. p (f x)) xs
 any-map p f [] = refl
@@ -130,7 +124,7 @@ with_index name text short e =
     (λ h. (bytes_eq-Decides name short).1 (same_Some name short (sym (indexed name) ∙ ap without_index (same_bytes (name ++ index_text) text h) ∙ e)))
     (λ h. (bytes_eq-Decides (name ++ index_text) text).1 (ap (λ n. n ++ index_text) (same_bytes name short h) ∙ sym (whole text short e)))
 
-both_noted : (old : Option (List ℕ)) (a b : Bool) (code : List ℕ) → option_or (option_or old (code_if a code)) (code_if b code) ≡ option_or old (code_if (a || b) code)
+both_noted : (old : Option Source) (a b : Bool) (code : List ℕ) → option_or (option_or old (scalar_if a code)) (scalar_if b code) ≡ option_or old (scalar_if (a || b) code)
 both_noted None true b code = refl
 both_noted None false b code = refl
 both_noted (Some x) a b code = refl
@@ -140,14 +134,37 @@ or_false true = refl
 or_false false = refl
 
 -- a variable without an index is noted by its whole text
-pub noted-plain : (v : Held) (name : List ℕ) (old new : Option (List ℕ)) → v.counted ≡ true → is_single (variable v) ≡ true → without_index (cow_slice_items v.reference) ≡ None
-    → new ≡ option_or old (cond (bytes_eq name (cow_slice_items v.reference)) (Some v.code.now) None) → new ≡ option_or old (code_if (is_scalar_of name (variable v)) v.code.now)
-noted-plain v name old new c s e h = rw (c, s, no_index name (cow_slice_items v.reference) e) (h ∙ ap (λ b. option_or old (code_if b v.code.now)) (or_false (bytes_eq name (cow_slice_items v.reference))))
+pub noted-plain : (v : Held) (name : List ℕ) (old new : Option Source) → v.counted ≡ true → is_single (variable v) ≡ true → without_index (cow_slice_items v.reference) ≡ None
+    → new ≡ option_or old (scalar_if (bytes_eq name (cow_slice_items v.reference)) v.code.now) → new ≡ option_or old (scalar_if (is_scalar_of name (variable v)) v.code.now)
+noted-plain v name old new c s e h = rw (c, s, no_index name (cow_slice_items v.reference) e) (h ∙ ap (λ b. option_or old (scalar_if b v.code.now)) (or_false (bytes_eq name (cow_slice_items v.reference))))
 
 -- one with an index also by the text before it
-pub noted-short : (v : Held) (name short : List ℕ) (old mid new : Option (List ℕ)) → v.counted ≡ true → is_single (variable v) ≡ true → without_index (cow_slice_items v.reference) ≡ Some short
-    → mid ≡ option_or old (cond (bytes_eq name (cow_slice_items v.reference)) (Some v.code.now) None) → new ≡ option_or mid (cond (bytes_eq name short) (Some v.code.now) None) → new ≡ option_or old (code_if (is_scalar_of name (variable v)) v.code.now)
+pub noted-short : (v : Held) (name short : List ℕ) (old mid new : Option Source) → v.counted ≡ true → is_single (variable v) ≡ true → without_index (cow_slice_items v.reference) ≡ Some short
+    → mid ≡ option_or old (scalar_if (bytes_eq name (cow_slice_items v.reference)) v.code.now) → new ≡ option_or mid (scalar_if (bytes_eq name short) v.code.now) → new ≡ option_or old (scalar_if (is_scalar_of name (variable v)) v.code.now)
 noted-short v name short old mid new c s e em h = rw (c, s, with_index name (cow_slice_items v.reference) short e) (h ∙ rw em (both_noted old (bytes_eq name (cow_slice_items v.reference)) (bytes_eq name short) v.code.now))
+
+pub both_true : (a b : Bool) → (a && b) ≡ true → (a ≡ true) × (b ≡ true)
+both_true true true e = (refl, refl)
+both_true true false e = cc
+both_true false b e = cc
+
+-- a net is found by its name, and by no other
+module _ (d : Design) where
+  found-back : (name : List ℕ) (net : ℕ) (o : Option ℕ) → net_of d name ≡ o → is_net o net ≡ true → bytes_eq (name_of d net) name ≡ true
+  found-back name net None e t = cc
+  found-back name net (Some k) e t =
+      let same : net ≡ k = grind (arith, nat_tests, t) in
+      let (within, is) = position-some (λ other. bytes_eq name other) d.names k [] e in
+      turned (name_of d net) name ∙ rw same is
+
+  pub found-here : IsCircuit d → (name : List ℕ) (net : ℕ) → net < nets_of d → bytes_eq name (name_of d net) ≡ true → net_of d name ≡ Some net
+  found-here law name net l h = ap (net_of d) (same_bytes name (name_of d net) h) ∙ law.named net l
+
+  pub found-net : IsCircuit d → (name : List ℕ) (net : ℕ) → net < nets_of d → bytes_eq (name_of d net) name ≡ is_net (net_of d name) net
+  found-net law name net l =
+      same_tests (bytes_eq (name_of d net) name) (is_net (net_of d name) net)
+      (λ h. (let found : net_of d name ≡ Some net = found-here law name net l (turned name (name_of d net) ∙ h) in rw (found, eq_true net net refl) refl))
+      (found-back name net (net_of d name) refl)
 
 -- the nets from the first on
 module _ (d : Design) (vs : List Variable) where
@@ -176,3 +193,25 @@ module _ (d : Design) (vs : List Variable) where
   below-refused i m e found l read r =
       let k : m ≡ suc i + (m - suc i) = omega arith in
       rw k (refused_from (suc i) (m - suc i) e (here_refused i e found read r))
+
+-- The nets so far have their sources, and the others those of their first scalars.
+pub record AreFound (d : Design) (vs : List Variable) (i : ℕ) (sources : List (Option HeldSource)) : Type 0 where
+  pub count : length sources ≡ nets_of d
+  pub below : sources_below d vs i ≡ Ok (sources_by (take i sources))
+  pub rest : (net : ℕ) → i ≤ net → net < nets_of d → IsUtf8 (name_of d net) → source_at sources net ≡ scalar_source vs (name_of d net)
+
+module _ (d : Design) (vs : List Variable) where
+  pub found-start : (sources : List (Option HeldSource)) → AreScalars d vs sources → AreFound d vs 0 sources
+  found-start sources s = record { count = s.count; below = below-start d vs (take 0 sources) refl; rest = λ net h l u. s.each net l u }
+
+  pub found-next : (i : ℕ) (sources : List (Option HeldSource)) (s : Option HeldSource) → i < nets_of d → AreFound d vs i sources → source_of_net d vs i ≡ Ok (source_by s) → AreFound d vs (i + 1) (set sources i s)
+  found-next i sources s l f sourced = record {
+    count = length-set sources i s ∙ f.count;
+    below = below-more d vs i (take i sources) (take (i + 1) (set sources i s)) s f.below sourced (take_more_set sources i s (omega (arith, f.count)));
+    rest = λ net h m u. (let apart : net ≢ i = (λ e. omega arith) in rw (get_or-set_other sources i net s None apart) (f.rest net (omega arith) m u));
+  }
+
+-- the scalars among the variables so far, with one more
+pub scalars-next : (d : Design) (all : List Held) (i : ℕ) (item : Held) (old new : List (Option HeldSource)) → i < length all → item ≡ get_or all i item → length new ≡ nets_of d
+    → ((net : ℕ) → net < nets_of d → IsUtf8 (name_of d net) → source_at new net ≡ option_or (source_at old net) (scalar_if (is_scalar_of (name_of d net) (variable item)) item.code.now)) → AreScalars d (variables (take i all)) old → AreScalars d (variables (take (i + 1) all)) new
+scalars-next d all i item old new h e count kept s = record { count = count; each = λ net l u. more_scalars (name_of d net) all i item (source_at old net) (source_at new net) h e (s.each net l u) (kept net l u) }

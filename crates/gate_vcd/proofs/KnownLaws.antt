@@ -19,17 +19,12 @@ use Rattle.gate_vcd.specs.Inner.Known.{AreFallingNets, AreLinked, AreNumbers, Is
 use Rattle.gate_vcd.specs.Shown.Known.{is_of, is_used, source}
 use Rattle.gate_vcd.proofs.Compared.{cases_eq}
 use Rattle.gate_vcd.proofs.Keeping.{same_bytes}
-use Rattle.gate_vcd.proofs.InputLaws.{any-more, one_code}
+use Rattle.gate_vcd.proofs.InputLaws.{any-more, both_true, one_code}
 use Rattle.gate_vcd.proofs.Links.{slice_get-front, slice_get-end, slice_get-is, slice_get-within, last_below-front}
 
 -- as sources are compared
 abbrev pub same_source : Source → Source → Bool
 same_source a b = bytes_eq a.code b.code && nat_eq a.place b.place
-
-both_true : (a b : Bool) → (a && b) ≡ true → (a ≡ true) × (b ≡ true)
-both_true true true e = (refl, refl)
-both_true true false e = cc
-both_true false b e = cc
 
 same_sources : (a b : Source) → same_source a b ≡ true → a ≡ b
 same_sources a b e =

@@ -1,13 +1,13 @@
-ghost use Rattle.std.specs.Prelude.{◌≡◌, ◌<◌, ◌++◌, ℕ, List, Err, None, Ok, Some, codes, nat_eq, option_map, IfErr, IfOk, IfSome, MatchResult, OnOk, if◌then◌else◌};
+ghost use Rattle.std.specs.Prelude.{◌≡◌, ◌<◌, ◌&&◌, ◌++◌, ℕ, List, Err, None, Ok, codes, length, nat_eq, nat_lt, option_map, IfErr, IfOk, IfSome, IsUtf8, MatchResult};
 ghost use Rattle.std.specs.List.{list_any, starts_with};
 ghost use Rattle.std.specs.Str.{bytes_eq};
-ghost use Rattle.gate_netlist.specs.Circuit.{nets_of, driver_of, is_input};
+ghost use Rattle.gate_netlist.specs.Circuit.{nets_of, driver_of, is_input, name_of};
 ghost use Rattle.gate_vcd.specs.Shown.Commands.{variable as variable_of, variables};
 ghost use Rattle.gate_vcd.specs.Faults.{out_of_memory};
 ghost use Rattle.std.specs.Option.{option_or};
-ghost use Rattle.gate_vcd.specs.Inputs.{is_named_for, is_single, is_scalar_of, bit_source, source_of, cause_without, source_or_fault, source_of_net, sources_below};
+ghost use Rattle.gate_vcd.specs.Inputs.{is_named_for, is_single, is_scalar_of, bit_source, scalar_source, source_of, cause_without, source_or_fault, source_of_net, sources_below};
 ghost use Rattle.gate_vcd.specs.Shown.Known.{source, source_by, sources_by};
-ghost use Rattle.gate_vcd.specs.Inner.Scalars.{AreInputs, AreScalars, code_if, code_in, without_index};
+ghost use Rattle.gate_vcd.specs.Inner.Scalars.{AreInputs, AreScalars, is_net, scalar_if, source_at, without_index};
 ghost use Rattle.gate_vcd.specs.Inner.Sought.{IsGiven};
 
 use crate::fault::{StimCause, StimFault};
@@ -17,20 +17,37 @@ use crate::source::Source;
 use crate::variable::Variable;
 use crate::vectors::{Vectors, bit_of};
 use gate_netlist::{Circuit, Driver, TextSeed};
-use indexmap::IndexMap;
 use std::alloc::Global;
 
-/// Keeps a code for a name that has none yet.
-fn note<'v, 'a>(
-    scalars: &mut IndexMap<&'v [u8], &'a [u8], TextSeed>,
-    name: &'v [u8],
-    code: &'a [u8],
-) -> Result<(), StimFault>
-    ensures ok { (other : List ℕ) → OnOk result (code_in scalars.new other ≡ option_or (code_in scalars.old other) (if bytes_eq other name.now then Some code.now else None)) }
-    ensures err { IfErr result (λ e. e ≡ out_of_memory) }
+/// Whether a net has this name.
+fn has_name(circuit: &Circuit, net: u32, name: &[u8]) -> bool
+    ensures { result ≡ (nat_lt net (nets_of circuit.now) && bytes_eq name.now (name_of circuit.now net)) }
 {
-    scalars.entry(name)?.or_insert(code);
-    Ok(())
+    net < circuit.nets() && is_word(name, circuit.name(net).as_bytes())
+}
+
+/// The net of a name.
+fn find(circuit: &Circuit, name: &[u8]) -> Option<u32>
+    ensures within { IfSome result (λ net. net < nets_of circuit.now) }
+    ensures found { (net : ℕ) → net < nets_of circuit.now → IsUtf8 (name_of circuit.now net) → bytes_eq (name_of circuit.now net) name.now ≡ is_net result net }
+{
+    circuit.law();
+    match str::from_utf8(name) {
+        Ok(name) => circuit.find(name),
+        Err(_) => None,
+    }
+}
+
+/// The net of a name, sought first at this one.
+fn net_of(circuit: &Circuit, name: &[u8], next: u32) -> Option<u32>
+    ensures within { IfSome result (λ net. net < nets_of circuit.now) }
+    ensures found { (net : ℕ) → net < nets_of circuit.now → IsUtf8 (name_of circuit.now net) → bytes_eq (name_of circuit.now net) name.now ≡ is_net result net }
+{
+    circuit.law();
+    if has_name(circuit, next, name) {
+        return Some(next);
+    }
+    find(circuit, name)
 }
 
 /// The text before an index of 0 of 0, where it ends with one.
@@ -46,38 +63,71 @@ fn is_single(variable: &Variable) -> bool
     variable.valued && number_up_to(1, variable.size) == Some(1)
 }
 
-/// Keeps the code of a variable for the names of nets that it is a scalar of.
-fn note_variable<'v, 'a>(
-    scalars: &mut IndexMap<&'v [u8], &'a [u8], TextSeed>,
-    variable: &'v Variable<'a>,
-) -> Result<(), StimFault>
-    ensures ok { (name : List ℕ) → OnOk result (code_in scalars.new name ≡ option_or (code_in scalars.old name) (code_if (is_scalar_of name (variable_of variable.now)) variable.now.code.now)) }
-    ensures err { IfErr result (λ e. e ≡ out_of_memory) }
-{
-    if !variable.counted || !is_single(variable) {
-        return Ok(());
+/// What the scalars among variables give nets.
+#[derive(Drop)]
+struct Scalars<'a> {
+    /// Of each net the source that the first scalar of its name gives.
+    sources: Vec<Option<Source<'a>>>,
+    /// The net behind the one found last: variables mostly stand in the order of the nets.
+    next: u32,
+}
+
+impl<'a> Scalars<'a> {
+    /// Keeps a code for a net that has none yet.
+    fn put(&mut self, net: u32, code: &'a [u8])
+        requires { net < length self.old.sources.items }
+        ensures count { length self.new.sources.items ≡ length self.old.sources.items }
+        ensures kept { (other : ℕ) → source_at self.new.sources.items other ≡ option_or (source_at self.old.sources.items other) (scalar_if (nat_eq other net) code.now) }
+    {
+        if self.sources[net as usize].is_none() {
+            self.sources[net as usize] = Some(Source { code, place: 0 });
+        }
     }
-    note(scalars, variable.reference.as_slice(), variable.code)?;
-    match without_index(variable.reference.as_slice()) {
-        Some(name) => note(scalars, name, variable.code),
-        None => Ok(()),
+
+    /// Keeps a code for the net of a name, if that has none yet.
+    fn note(&mut self, circuit: &Circuit, name: &[u8], code: &'a [u8])
+        requires { length self.old.sources.items ≡ nets_of circuit.now }
+        ensures count { length self.new.sources.items ≡ nets_of circuit.now }
+        ensures kept { (net : ℕ) → net < nets_of circuit.now → IsUtf8 (name_of circuit.now net) → source_at self.new.sources.items net ≡ option_or (source_at self.old.sources.items net) (scalar_if (bytes_eq (name_of circuit.now net) name.now) code.now) }
+    {
+        if let Some(net) = net_of(circuit, name, self.next) {
+            self.put(net, code);
+            self.next = net.saturating_add(1);
+        }
+    }
+
+    /// Keeps the code of a variable for the nets that it is a scalar of.
+    fn note_variable(&mut self, circuit: &Circuit, variable: &Variable<'a>)
+        requires { length self.old.sources.items ≡ nets_of circuit.now }
+        ensures count { length self.new.sources.items ≡ nets_of circuit.now }
+        ensures kept { (net : ℕ) → net < nets_of circuit.now → IsUtf8 (name_of circuit.now net) → source_at self.new.sources.items net ≡ option_or (source_at self.old.sources.items net) (scalar_if (is_scalar_of (name_of circuit.now net) (variable_of variable.now)) variable.now.code.now) }
+    {
+        if !variable.counted || !is_single(variable) {
+            return;
+        }
+        self.note(circuit, variable.reference.as_slice(), variable.code);
+        if let Some(name) = without_index(variable.reference.as_slice()) {
+            self.note(circuit, name, variable.code);
+        }
     }
 }
 
-/// The codes of the first scalars, by the names of the nets.
-fn scalars_of<'v, 'a>(
+/// Of each net the source that the first scalar of its name gives.
+fn scalars_of<'a>(
     alloc: Global,
-    seed: TextSeed,
-    all: &'v [Variable<'a>],
-) -> Result<IndexMap<&'v [u8], &'a [u8], TextSeed>, StimFault>
-    ensures ok { IfOk result (λ scalars. AreScalars scalars (variables all.now)) }
+    circuit: &Circuit,
+    all: &[Variable<'a>],
+) -> Result<Vec<Option<Source<'a>>>, StimFault>
+    ensures ok { IfOk result (λ sources. AreScalars circuit.now (variables all.now) sources.items) }
     ensures err { IfErr result (λ e. e ≡ out_of_memory) }
 {
-    let mut scalars = IndexMap::with_capacity_and_hasher(alloc, all.len(), seed)?;
+    let mut sources = Vec::new(alloc);
+    sources.resize(circuit.nets() as usize, None)?;
+    let mut scalars = Scalars { sources, next: 0 };
     for variable in all {
-        note_variable(&mut scalars, variable)?;
+        scalars.note_variable(circuit, variable);
     }
-    Ok(scalars)
+    Ok(scalars.sources)
 }
 
 fn is_named_for(name: &[u8], variable: &Variable) -> bool
@@ -115,11 +165,10 @@ fn cause_without(all: &[Variable], name: &[u8]) -> StimCause
     }
 }
 
-/// What inputs ask the variables for.
+/// What inputs without a scalar ask the variables for.
 #[derive(Drop)]
 struct Given<'v, 'a> {
     all: &'v [Variable<'a>],
-    scalars: IndexMap<&'v [u8], &'a [u8], TextSeed>,
     vectors: Vectors<'v, 'a>,
 }
 
@@ -133,37 +182,8 @@ impl<'v, 'a> Given<'v, 'a> {
         ensures all { IfOk result (λ given. given.all.now ≡ all.now) }
         ensures err { IfErr result (λ e. e ≡ out_of_memory) }
     {
-        let scalars = scalars_of(alloc, seed, all)?;
         let vectors = Vectors::of(alloc, seed, all)?;
-        Ok(Given {
-            all,
-            scalars,
-            vectors,
-        })
-    }
-
-    /// The code kept at a place, if it is kept for this name.
-    fn code_at(&self, place: usize, name: &[u8]) -> Option<&'a [u8]>
-        ensures { IfSome result (λ code. code_in self.now.scalars name.now ≡ Some code.now) }
-    {
-        match self.scalars.get_index(place) {
-            Some((key, code)) if is_word(name, *key) => Some(*code),
-            _ => None,
-        }
-    }
-
-    /// The code kept for a name, sought first at the place behind the name found before: variables mostly stand in
-    /// the order of the inputs.
-    fn code_of(&self, name: &[u8], next: &mut usize) -> Option<&'a [u8]>
-        ensures { option_map (λ code. code.now) result ≡ code_in self.now.scalars name.now }
-    {
-        if let Some(code) = self.code_at(*next, name) {
-            *next = next.saturating_add(1);
-            return Some(code);
-        }
-        let (place, _, code) = self.scalars.get_full(name)?;
-        *next = place.saturating_add(1);
-        Some(*code)
+        Ok(Given { all, vectors })
     }
 
     /// The source that the first vector gives of which a net is a bit.
@@ -174,14 +194,15 @@ impl<'v, 'a> Given<'v, 'a> {
         self.vectors.source_of(bit_of(name)?)
     }
 
-    /// The source of an input: the first scalar of its name, and where there is none the first vector of which it
-    /// is a bit.
-    fn source_of(&self, name: &[u8], next: &mut usize) -> Option<Source<'a>>
-        requires { IsGiven self.now }
+    /// The source of an input: that of the first scalar of its name, and where there is none that of the first
+    /// vector of which it is a bit.
+    fn source_of(&self, name: &[u8], scalar: Option<Source<'a>>) -> Option<Source<'a>>
+        requires given { IsGiven self.now }
+        requires scalar { source_by scalar ≡ scalar_source (variables self.now.all.now) name.now }
         ensures { source_by result ≡ source_of (variables self.now.all.now) name.now }
     {
-        match self.code_of(name, next) {
-            Some(code) => Some(Source { code, place: 0 }),
+        match scalar {
+            Some(source) => Some(source),
             None => self.bit_source(name),
         }
     }
@@ -191,12 +212,13 @@ impl<'v, 'a> Given<'v, 'a> {
         &self,
         net: u32,
         name: &[u8],
-        next: &mut usize,
+        scalar: Option<Source<'a>>,
     ) -> Result<Source<'a>, StimFault>
-        requires { IsGiven self.now }
+        requires given { IsGiven self.now }
+        requires scalar { source_by scalar ≡ scalar_source (variables self.now.all.now) name.now }
         ensures { MatchResult result (λ s. source_or_fault (source_of (variables self.now.all.now) name.now) net (cause_without (variables self.now.all.now) name.now) ≡ Ok (source s)) (λ e. source_or_fault (source_of (variables self.now.all.now) name.now) net (cause_without (variables self.now.all.now) name.now) ≡ Err e) }
     {
-        match self.source_of(name, next) {
+        match self.source_of(name, scalar) {
             Some(source) => Ok(source),
             None => Err(StimFault {
                 at: net as u64,
@@ -214,21 +236,22 @@ pub fn is_input(circuit: &Circuit, net: u32) -> bool
     matches!(circuit.driver(net), Driver::Input)
 }
 
-/// The source of a net, which only an input has.
+/// The source of a net, which only an input has, where the first scalar of its name gives this one.
 fn source_of_net<'a>(
     circuit: &Circuit,
     net: u32,
     given: &Given<'_, 'a>,
-    next: &mut usize,
+    scalar: Option<Source<'a>>,
 ) -> Result<Option<Source<'a>>, StimFault>
     requires within { net < nets_of circuit.now }
     requires given { IsGiven given.now }
+    requires scalar { IsUtf8 (name_of circuit.now net) → source_by scalar ≡ scalar_source (variables given.now.all.now) (name_of circuit.now net) }
     ensures { MatchResult result (λ s. source_of_net circuit.now (variables given.now.all.now) net ≡ Ok (source_by s)) (λ e. source_of_net circuit.now (variables given.now.all.now) net ≡ Err e) }
 {
     if !is_input(circuit, net) {
         return Ok(None);
     }
-    match given.source_of_input(net, circuit.name(net).as_bytes(), next) {
+    match given.source_of_input(net, circuit.name(net).as_bytes(), scalar) {
         Ok(source) => Ok(Some(source)),
         Err(fault) => Err(fault),
     }
@@ -254,11 +277,10 @@ pub fn inputs_of<'a>(
     ensures err { IfErr result (λ e. e ≡ out_of_memory) }
 {
     let given = Given::of(alloc, seed, all)?;
-    let mut sources = Vec::with_capacity(alloc, circuit.nets() as usize)?;
-    let mut next = 0;
+    let mut sources = scalars_of(alloc, circuit, all)?;
     for net in 0..circuit.nets() {
-        match source_of_net(circuit, net, &given, &mut next) {
-            Ok(source) => sources.push(source)?,
+        match source_of_net(circuit, net, &given, sources[net as usize]) {
+            Ok(source) => sources[net as usize] = source,
             Err(fault) => return Ok(Inputs::Lacking(fault)),
         }
     }

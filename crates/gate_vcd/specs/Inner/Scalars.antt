@@ -1,35 +1,41 @@
--- What a reader keeps of the variables: the scalars by their names, the vectors by their bases.
-use Rattle.std.specs.Prelude.{◌≡◌, ◌≤◌, ℕ, ◌-◌, Bool, nat_eq, if◌then◌else◌, List, length, take, codes, Option, Some, None, option_map, option_and_then, position, Result, Ok, Err}
+-- What a reader keeps of the variables: the scalars by their nets, the vectors by their bases.
+use Rattle.std.specs.Prelude.{◌≡◌, ◌<◌, ◌≤◌, ℕ, ◌-◌, Bool, false, nat_eq, if◌then◌else◌, List, length, get_or, take, codes, Option, Some, None, option_map, option_and_then, position, IsUtf8, Result, Ok, Err}
 use Rattle.std.specs.Int.{abs_diff}
+use Rattle.std.specs.Option.{option_map_or}
 use Rattle.std.specs.List.{ends_with}
 use Rattle.std.specs.Borrow.{Bor}
 use Rattle.std.specs.Str.{bytes_eq}
-use Rattle.gate_netlist.specs.declared.seed.TextSeed.{TextSeed}
-use Rattle.indexmap.specs.IndexMap.{IndexMap, get_by}
+use Rattle.gate_netlist.specs.Circuit.{Design, name_of, nets_of}
 use Rattle.gate_vcd.specs.declared.fault.StimFault.{StimFault}
 use Rattle.gate_vcd.specs.declared.inputs.Inputs.{Inputs}
 use Rattle.gate_vcd.specs.declared.inputs.Inputs.TheVariants.{Found, Lacking}
+use Rattle.gate_vcd.specs.declared.source.Source.{Source as Held}
 use Rattle.gate_vcd.specs.declared.vectors.Bit.{Bit as HeldBit}
 use Rattle.gate_vcd.specs.declared.runs.Kept.{Kept}
 use Rattle.gate_vcd.specs.declared.vectors.Vectors.{Vectors}
 use Rattle.gate_vcd.specs.Declarations.{Variable}
 use Rattle.gate_vcd.specs.Changes.{Source}
 use Rattle.gate_vcd.specs.Vectors.{Bit}
-use Rattle.gate_vcd.specs.Inputs.{first_given, scalar_code, source_in}
-use Rattle.gate_vcd.specs.Shown.Known.{sources_by}
+use Rattle.gate_vcd.specs.Inputs.{first_given, scalar_source, source_in}
+use Rattle.gate_vcd.specs.Shown.Known.{source_by, sources_by}
 use Rattle.gate_vcd.specs.Inner.Runs.{kept_at}
 
--- codes by the names of the nets that they are scalars of
-abbrev pub Scalars : Type 0
-Scalars = IndexMap (Bor (List ℕ)) (Bor (List ℕ)) TextSeed
+-- the net that was found
+abbrev pub is_net : Option ℕ → ℕ → Bool
+is_net found net = option_map_or (nat_eq net) found false
 
--- the code kept for a name
-abbrev pub code_in : Scalars → List ℕ → Option (List ℕ)
-code_in scalars name = option_map (λ (code : Bor (List ℕ)). code.now) (get_by (λ (k : Bor (List ℕ)). bytes_eq name k.now) scalars)
+-- the source that is kept for a net
+abbrev pub source_at : List (Option Held) → ℕ → Option Source
+source_at sources net = source_by (get_or sources net None)
 
--- for each name the code of the first scalar is kept
-abbrev pub AreScalars : Scalars → List Variable → Type 0
-AreScalars scalars vs = (name : List ℕ) → code_in scalars name ≡ scalar_code vs name
+-- the source that a scalar with this code gives, where it is one of the net
+abbrev pub scalar_if : Bool → List ℕ → Option Source
+scalar_if b code = if b then Some (record { code = code; place = 0 }) else None
+
+-- for each net the source is kept that the first scalar of its name gives; each name is UTF-8
+pub record AreScalars (d : Design) (vs : List Variable) (sources : List (Option Held)) : Type 0 where
+  pub count : length sources ≡ nets_of d
+  pub each : (net : ℕ) → net < nets_of d → IsUtf8 (name_of d net) → source_at sources net ≡ scalar_source vs (name_of d net)
 
 abbrev pub bit : HeldBit → Bit
 bit b = record { base = b.base.now; index = b.index }
@@ -63,7 +69,3 @@ AreInputs (Lacking e) reading = reading ≡ Err e
 -- the text before an index of 0 of 0, where it ends with one
 abbrev pub without_index : List ℕ → Option (List ℕ)
 without_index text = if ends_with nat_eq text (codes "[0:0]") then Some (take (length text - 5) text) else None
-
--- the code, where the names are the same
-abbrev pub code_if : Bool → List ℕ → Option (List ℕ)
-code_if b code = if b then Some code else None

@@ -1,9 +1,8 @@
 -- What is kept of the variables for the inputs.
 use Rattle.gate_vcd.specs.declared.inputs.Given.{Given}
 use Rattle.gate_vcd.specs.Shown.Commands.{variables}
-use Rattle.gate_vcd.specs.Inner.Scalars.{AreScalars, AreVectors}
+use Rattle.gate_vcd.specs.Inner.Scalars.{AreVectors}
 
--- the scalars and the vectors are those of the variables
-pub record IsGiven (g : Given) : Type 0 where
-  pub scalars : AreScalars g.scalars (variables g.all.now)
-  pub vectors : AreVectors g.vectors (variables g.all.now)
+-- the vectors are those of the variables
+abbrev pub IsGiven : Given → Type 0
+IsGiven g = AreVectors g.vectors (variables g.all.now)

@@ -1,8 +1,6 @@
-use Rattle.gate_vcd.specs.Inner.Scalars.{code_in}
-use Rattle.gate_vcd.proofs.InputLaws.{more_scalars}
+use Rattle.gate_vcd.proofs.InputLaws.{scalars-next}
 use Rattle.gate_vcd.proofs.inputs.scalars_of.Goals as goal
 
 pub loop-variable-preserved : goal.loop-variable-preserved
-loop-variable-preserved c name =
-    more_scalars name c.args.all.now c.loop-variable.variable-index c.variable-item.result (code_in c.loop-variable.scalars name) (code_in c.note_variable.new.scalars name) c.loop-variable-test.true c.variable-item.is (c.loop-variable.invariant name)
-    (c.in_ok-note_variable.ensures.ok name)
+loop-variable-preserved c =
+    scalars-next c.args.circuit.now c.args.all.now c.loop-variable.variable-index c.variable-item.result c.loop-variable.scalars.sources.items c.note_variable.new.self.sources.items c.loop-variable-test.true c.variable-item.is c.note_variable.ensures.count c.note_variable.ensures.kept c.loop-variable.invariant
