@@ -5,8 +5,10 @@ pub mod Showing
 pub mod Moving
 pub mod Folding
 pub mod Padding
+pub mod Stale
 pub mod Telling
 pub mod Evaluating
+pub mod Reached
 pub mod Loading
 pub mod Steps
 pub mod Undoing

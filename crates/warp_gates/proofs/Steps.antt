@@ -1,6 +1,7 @@
 -- A step: flip-flops load, values are shown, gates are evaluated.
 use Rattle.std.proofs.Common.{◌≡◌, ◌∙◌, inl, inr, ℕ, ◌/◌, ◌<◌, ◌≤◌, Bool, true, false, ◌&&◌, ◌||◌, not, eqb, List, [], ◌∷◌, ◌++◌, length, map, take, drop, get_or, refl, ap, sym, subst, arith}
 use borrow.Author.Tests.{eqb-true}
+use Rattle.std.specs.List.{All}
 use Rattle.std.proofs.lemmas.Bool.{cases_lt}
 use Rattle.std.proofs.lemmas.List.{get_or_past, length-map, ext_get_or, take_at}
 use Rattle.std.proofs.Math.ListN.{get_or-map}
@@ -12,7 +13,7 @@ use Rattle.warp_gates.specs.declared.front.Front.{Front}
 use Rattle.warp_gates.specs.declared.put.Put.{Put}
 use Rattle.warp_gates.specs.Cells.{Cell, Outside, Gate, Flop, value_at, cell_at, next_output, moved, put_of, ArePut, HaveNext}
 use Rattle.warp_gates.specs.Inner.Fronts.{front_at, row_of, has, has_gate, reached, AreReaders, AreFronts, AreSettled, AreTouched, IsKept, IsFresh}
-use Rattle.warp_gates.specs.Inner.Told.{AreTold, AreEvaluating, AreRefreshed, IsEdge, all_edges, is_gate}
+use Rattle.warp_gates.specs.Inner.Told.{AreTold, AreEvaluating, AreRefreshed, AreListed, IsEdge, all_edges, is_gate}
 use Rattle.warp_gates.specs.Inner.Loading.{IsLoaded, AreLoaded, loaded_output}
 use Rattle.gate_values.specs.declared.gate.Kind.TheVariants.{And}
 use Rattle.warp_gates.specs.Inner.Held.{ArePassedOn}
@@ -21,6 +22,7 @@ use Rattle.gate_values.specs.Tables.{flip_of}
 use Rattle.warp_gates.proofs.Showing.{eqb_same, or_true}
 use Rattle.warp_gates.proofs.Moving.{true_or_not}
 use Rattle.warp_gates.proofs.Telling.{put_of-itself}
+use Rattle.warp_gates.proofs.Reached.{listed_gate}
 use Rattle.warp_gates.proofs.Evaluating.{showing_settled, is_edge}
 
 fresh_loaded : (values : List Logic) (words : List Move) (cell : Cell) (f g : Front) → g.is_stale ≡ false → f.is_stale ≡ false → g.output ≡ loaded_output values words cell f.output → IsFresh values cell f → IsFresh values cell g
@@ -43,6 +45,16 @@ fronts_loaded cells values words first second fronts settled loaded =
       fresh = λ place d h.
           let l : IsLoaded values words (cell_at cells place) (front_at d first place) (front_at d second place) = loaded.each place d (omega arith) in
           fresh_loaded values words (cell_at cells place) (front_at d first place) (front_at d second place) l.fresh (settled.each place d (omega arith)) l.output (fronts.fresh place d h);
+    }
+
+-- where flip-flops loaded, no place is stale
+pub settled_loaded : (cells : List Cell) (values : List Logic) (words : List Move) (first second : List Front) → AreLoaded cells values words first second → AreSettled second
+settled_loaded cells values words first second loaded =
+    let len : length second ≡ length first = loaded.same in
+    record {
+      each = λ place d h.
+          let l : IsLoaded values words (cell_at cells place) (front_at d first place) (front_at d second place) = loaded.each place d (omega arith) in
+          l.fresh;
     }
 
 -- values that are shown tell nothing
@@ -108,23 +120,15 @@ evaluating_begins cells rows values now words first second third before out read
     }
 
 -- no place is stale in the end
-pub settled_in_the_end : (cells : List Cell) (rows : List (List ℕ)) (values : List Logic) (words : List Move) (first second third fourth : List Front)
-    → AreLoaded cells values words first second → AreTouched rows words second third → AreRefreshed (all_edges rows words) third fourth → AreSettled fourth
-settled_in_the_end cells rows values words first second third fourth loaded touched refreshed =
-    let len : length second ≡ length first = loaded.same in
-    let len' : length third ≡ length second = touched.same in
-    let len'' : length fourth ≡ length third = refreshed.same in
+pub settled_in_the_end : (edges stale : List ℕ) (third fourth : List Front) → AreListed edges third stale → AreRefreshed stale third fourth → AreSettled fourth
+settled_in_the_end edges stale third fourth listed refreshed =
+    let len : length fourth ≡ length third = refreshed.same in
     record {
       each = λ place d h.
-          let l : IsLoaded values words (cell_at cells place) (front_at d first place) (front_at d second place) = loaded.each place d (omega arith) in
-          let now : (front_at d fourth place).is_stale ≡ ((front_at d third place).is_stale && not (has_gate (all_edges rows words) place)) = refreshed.stale place d (omega arith) in
+          let now : (front_at d fourth place).is_stale ≡ ((front_at d third place).is_stale && not (has_gate stale place)) = refreshed.stale place d (omega arith) in
           elim (true_or_not (front_at d third place).is_stale) [
-            | inr fresh ↦ now ∙ ap (λ (b : Bool). b && not (has_gate (all_edges rows words) place)) fresh
-            | inl stale ↦ elim (touched.stale place d (omega arith) stale) [
-              | inl was ↦ (let fresh : (front_at d second place).is_stale ≡ false = l.fresh in cc)
-              | inr reach ↦
-                  now ∙ ap (λ (b : Bool). b && not (has_gate (all_edges rows words) place)) stale ∙ ap (λ (b : Bool). true && not b) (reached-edges rows words place ∙ reach)
-            ]
+            | inr fresh ↦ now ∙ ap (λ (b : Bool). b && not (has_gate stale place)) fresh
+            | inl was ↦ now ∙ ap (λ (b : Bool). b && not (has_gate stale place)) was ∙ ap (λ (b : Bool). true && not b) (listed.all place d (omega arith) was)
           ];
     }
 
@@ -139,10 +143,10 @@ gate_next before now words (Gate kind inputs) first second third fourth is settl
 ]
 
 -- each place puts out what it is to put out next
-pub outputs_in_the_end : (cells : List Cell) (rows : List (List ℕ)) (values now : List Logic) (words : List Move) (first second third fourth : List Front)
-    → AreReaders cells rows → now ≡ moved words values → AreFronts cells now fourth → AreSettled fourth → AreLoaded cells values words first second → AreTouched rows words second third → AreRefreshed (all_edges rows words) third fourth
+pub outputs_in_the_end : (cells : List Cell) (rows : List (List ℕ)) (values now : List Logic) (words : List Move) (stale : List ℕ) (first second third fourth : List Front)
+    → All (IsEdge cells) stale → now ≡ moved words values → AreFronts cells now fourth → AreSettled fourth → AreLoaded cells values words first second → AreTouched rows words second third → AreRefreshed stale third fourth
     → (place : ℕ) (d : Front) → place < length cells → (front_at d fourth place).output ≡ next_output values now (cell_at cells place) (front_at d first place).output
-outputs_in_the_end cells rows values now words first second third fourth readers is fronts settled loaded touched refreshed place d h =
+outputs_in_the_end cells rows values now words stale first second third fourth edges is fronts settled loaded touched refreshed place d h =
     let len : length second ≡ length first = loaded.same in
     let len' : length third ≡ length second = touched.same in
     let len'' : length fourth ≡ length third = refreshed.same in
@@ -150,9 +154,9 @@ outputs_in_the_end cells rows values now words first second third fourth readers
     let l : IsLoaded values words (cell_at cells place) (front_at d first place) (front_at d second place) = loaded.each place d (omega arith) in
     let k : IsKept (front_at d second place) (front_at d third place) = touched.kept place d (omega arith) in
     gate_next values now words (cell_at cells place) (front_at d first place) (front_at d second place) (front_at d third place) (front_at d fourth place) is (settled.each place d (omega arith)) (fronts.fresh place d h) l.output k.output
-    (λ none. refreshed.others place d (omega arith) (elim (true_or_not (has_gate (all_edges rows words) place)) [
+    (λ none. refreshed.others place d (omega arith) (elim (true_or_not (has_gate stale place)) [
       | inr isnt ↦ isnt
-      | inl some ↦ (let gate : is_gate (cell_at cells place) ≡ true = reached_gate cells rows words place readers (sym (reached-edges rows words place) ∙ some) in cc)
+      | inl some ↦ (let gate : is_gate (cell_at cells place) ≡ true = listed_gate cells stale place edges some in cc)
     ]))
 
 -- ---- what contracts see of it

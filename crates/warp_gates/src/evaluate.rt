@@ -2,10 +2,10 @@
 ghost use Rattle.std.specs.Prelude.{◌≡◌, ◌≤◌, ◌<◌, ◌+◌, ◌/◌, ◌++◌, ◌∷◌, [], List, false, vec_len, vec_capacity, length};
 ghost use Rattle.std.specs.List.{All};
 ghost use Rattle.warp_gates.specs.Cells.{IsCell, cell_at, put_of};
-ghost use Rattle.warp_gates.specs.Inner.Fronts.{IsShowing, AreFronts, AreReaders};
+ghost use Rattle.warp_gates.specs.Inner.Fronts.{IsShowing, AreFronts};
 ghost use Rattle.warp_gates.specs.declared.front.Front.{Front};
 ghost use Rattle.warp_gates.specs.declared.put.Put.{Put};
-ghost use Rattle.warp_gates.specs.Inner.Told.{cell_output, IsEdge, AreEvaluating, AreRefreshed, all_edges};
+ghost use Rattle.warp_gates.specs.Inner.Told.{cell_output, IsEdge, AreEvaluating, AreRefreshed};
 
 use crate::front::{EDGES, Front};
 use crate::outputs::Outputs;
@@ -14,7 +14,6 @@ use crate::put::Put;
 use crate::wide::wide_output;
 use crate::wiring::Wiring;
 use gate_values::Logic;
-use number_groups::Groups;
 use warp_stores::{PLACES, Word};
 
 /// Puts out a value: where it is another than the last one, the change goes to the place's queue.
@@ -90,7 +89,7 @@ fn evaluate_edge(
 }
 
 /// Evaluates the gates of some edges.
-fn evaluate(
+pub(crate) fn evaluate(
     fronts: &mut [Front],
     edges: &[u32],
     values: &[Logic],
@@ -112,32 +111,5 @@ fn evaluate(
 {
     for edge in edges {
         evaluate_edge(fronts, *edge, values, outputs, wiring, puts);
-    }
-}
-
-/// Evaluates the gates that read the places of some words.
-pub(crate) fn evaluate_all(
-    fronts: &mut [Front],
-    readers: &Groups,
-    words: &[Word],
-    values: &[Logic],
-    outputs: &Outputs,
-    wiring: &Wiring,
-    puts: &mut Vec<Put>,
-)
-    requires readers { AreReaders wiring.now readers.now }
-    requires words { All (λ word. word.place < length readers.now) words.now }
-    requires few { length wiring.now ≤ PLACES }
-    requires cells { All (IsCell (length values.now)) wiring.now }
-    requires fronts { AreFronts wiring.now values.now fronts.old }
-    requires room { vec_len puts.old + length (all_edges readers.now words.now) ≤ vec_capacity puts.old }
-    ensures fronts { AreFronts wiring.now values.now fronts.new }
-    ensures refreshed { AreRefreshed (all_edges readers.now words.now) fronts.old fronts.new }
-    ensures evaluating { (old : List Front) (before : List Put) → AreEvaluating wiring.now values.now old fronts.old before puts.old.items → AreEvaluating wiring.now values.now old fronts.new before puts.new.items }
-    ensures capacity { vec_capacity puts.new ≡ vec_capacity puts.old }
-{
-    for word in words {
-        let edges = readers.get(word.place());
-        evaluate(fronts, edges, values, outputs, wiring, puts);
     }
 }

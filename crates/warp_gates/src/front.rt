@@ -1,8 +1,9 @@
 //! What is kept of each place at hand, and how a value is shown to those who read it.
-ghost use Rattle.std.specs.Prelude.{◌≡◌, ◌<◌, ◌/◌, List, length};
+ghost use Rattle.std.specs.Prelude.{◌≡◌, ℕ, ◌<◌, ◌≤◌, ◌+◌, ◌/◌, ◌++◌, ◌∷◌, [], if◌then◌else◌, List, length, vec_len, vec_capacity};
 ghost use Rattle.std.specs.List.{All};
 ghost use Rattle.warp_gates.specs.Cells.{Cell, moved, unmoved};
-ghost use Rattle.warp_gates.specs.Inner.Fronts.{AreShown, IsShownAt, AreReaders, AreFronts, AreTouched, AreEdges};
+ghost use Rattle.warp_gates.specs.Inner.Fronts.{AreShown, IsShownAt, AreReaders, AreFronts, AreSettled, AreTouched, AreEdges};
+ghost use Rattle.warp_gates.specs.Inner.Told.{AreListed, all_edges};
 
 use crate::pins::{PINS, Pins};
 use gate_values::{Kind, Logic};
@@ -33,19 +34,59 @@ pub(crate) fn show(fronts: &mut [Front], edges: &[u32], value: Logic)
     }
 }
 
-/// Words change the values of their places, and are shown to who reads these.
-pub(crate) fn show_all(fronts: &mut [Front], values: &mut [Logic], readers: &Groups, words: &[Word])
+/// Lists an edge, unless its place is stale, and so has one in the list.
+#[inline]
+fn list(edge: u32, front: Front, stale: &mut Vec<u32>)
+    requires { vec_len stale.old < vec_capacity stale.old }
+    ensures listed { stale.new.items ≡ (if front.is_stale then stale.old.items else stale.old.items ++ edge ∷ []) }
+    ensures room { vec_len stale.new ≤ vec_len stale.old + 1 }
+    ensures capacity { vec_capacity stale.new ≡ vec_capacity stale.old }
+{
+    if !front.is_stale {
+        stale.push_reserved(edge);
+    }
+}
+
+/// Shows a value along some edges, and lists one to each place that wasn't stale.
+fn show_and_list(fronts: &mut [Front], edges: &[u32], value: Logic, stale: &mut Vec<u32>)
+    requires within { All (λ edge. edge / EDGES < length fronts.old) edges.now }
+    requires room { vec_len stale.old + length edges.now ≤ vec_capacity stale.old }
+    ensures shown { AreShown edges.now value fronts.old fronts.new }
+    ensures listed { (before : List ℕ) → AreListed before fronts.old stale.old.items → AreListed (before ++ edges.now) fronts.new stale.new.items }
+    ensures room { vec_len stale.new ≤ vec_len stale.old + length edges.now }
+    ensures capacity { vec_capacity stale.new ≡ vec_capacity stale.old }
+{
+    for edge in edges {
+        let place = (*edge / EDGES) as usize;
+        list(*edge, fronts[place], stale);
+        show_at(&mut fronts[place], *edge % EDGES, value);
+    }
+}
+
+/// Words change the values of their places, and are shown to who reads these. Of each place that is stale then an edge is
+/// listed, in place of what was in the list.
+pub(crate) fn show_all(
+    fronts: &mut [Front],
+    values: &mut [Logic],
+    readers: &Groups,
+    words: &[Word],
+    stale: &mut Vec<u32>,
+)
     requires edges { AreEdges (length fronts.old) readers.now }
     requires rows { length readers.now ≡ length values.old }
     requires words { All (λ word. word.place < length values.old) words.now }
+    requires settled { AreSettled fronts.old }
+    requires room { length (all_edges readers.now words.now) ≤ vec_capacity stale.old }
     ensures values { values.new ≡ moved words.now values.old }
     ensures fronts { (cells : List Cell) → AreReaders cells readers.now → AreFronts cells values.old fronts.old → AreFronts cells values.new fronts.new }
     ensures touched { AreTouched readers.now words.now fronts.old fronts.new }
+    ensures listed { AreListed (all_edges readers.now words.now) fronts.new stale.new.items }
 {
+    stale.clear();
     for word in words {
         let place = word.place();
         values[place as usize] = word.after();
-        show(fronts, readers.get(place), word.after());
+        show_and_list(fronts, readers.get(place), word.after(), stale);
     }
 }
 

@@ -9,7 +9,7 @@ ghost use Rattle.warp_gates.specs.Inner.Undoing.{AreFollowing};
 ghost use Rattle.warp_gates.specs.Inner.Held.{AreHeld, ArePassedOn};
 
 use crate::clocked::Clocked;
-use crate::evaluate::evaluate_all;
+use crate::evaluate::evaluate;
 use crate::first::fronts_of;
 use crate::front::{Front, show_all, unshow_all};
 use crate::load::load_all;
@@ -34,6 +34,8 @@ pub struct Gates {
     readers: Groups,
     clocked: Clocked,
     outputs: Outputs,
+    // an edge to each gate that the words of a step are shown to
+    stale: Vec<u32>,
 }
 
 impl Model for Gates {
@@ -71,6 +73,7 @@ impl Gates {
         let fronts = fronts_of(alloc, &wiring, queues, contents)?;
         let values = Vec::from_elem(alloc, Logic::X, wiring.len())?;
         let outputs = Outputs::new(alloc)?;
+        let stale = Vec::new(alloc);
         Ok(Gates {
             wiring,
             fronts,
@@ -78,6 +81,7 @@ impl Gates {
             readers,
             clocked,
             outputs,
+            stale,
         })
     }
 
@@ -139,8 +143,10 @@ impl Gates {
         ensures unput { OnErr result (puts.new.items ≡ puts.old.items) }
     {
         let flops = self.clocked.room_for(words);
-        let room = room_for(&self.readers, words).saturating_add(flops);
-        puts.reserve(room)?;
+        let edges = room_for(&self.readers, words);
+        self.stale.clear();
+        self.stale.reserve(edges)?;
+        puts.reserve(edges.saturating_add(flops))?;
         pass_on(
             &mut self.fronts,
             &mut self.values,
@@ -149,6 +155,7 @@ impl Gates {
             &self.outputs,
             &self.wiring,
             words,
+            &mut self.stale,
             puts,
         );
         Ok(())
@@ -195,11 +202,13 @@ fn pass_on(
     outputs: &Outputs,
     wiring: &Wiring,
     words: &[Word],
+    stale: &mut Vec<u32>,
     puts: &mut Vec<Put>,
 )
     requires held { AreHeld wiring.now fronts.old values.old readers.now clocked.now }
     requires words { All (λ word. word.place < length wiring.now) words.now }
     requires apart { AreApart words.now }
+    requires list { length (all_edges readers.now words.now) ≤ vec_capacity stale.old }
     requires room { vec_len puts.old + length (all_edges clocked.now words.now) + length (all_edges readers.now words.now) ≤ vec_capacity puts.old }
     ensures held { AreHeld wiring.now fronts.new values.new readers.now clocked.now }
     ensures values { values.new ≡ moved words.now values.old }
@@ -207,8 +216,8 @@ fn pass_on(
     ensures told { AreTold fronts.old fronts.new puts.old.items puts.new.items }
 {
     load_all(fronts, clocked, words, values, wiring, puts);
-    show_all(fronts, values, readers, words);
-    evaluate_all(fronts, readers, words, values, outputs, wiring, puts);
+    show_all(fronts, values, readers, words, stale);
+    evaluate(fronts, stale.as_slice(), values, outputs, wiring, puts);
 }
 
 /// Puts values back, shows them to gates, and evaluates these.

@@ -9,7 +9,7 @@ use Rattle.warp_gates.specs.declared.front.TheConstants.{EDGES}
 use Rattle.warp_gates.specs.declared.pins.TheConstants.{PINS}
 use Rattle.warp_gates.specs.declared.put.Put.{Put}
 use Rattle.warp_gates.specs.Cells.{Cell, Outside, Gate, Flop, cell_at, gate_output, puts_at, put_of}
-use Rattle.warp_gates.specs.Inner.Fronts.{front_at, row_of, has_gate, inputs_of, is_narrow, AreFronts}
+use Rattle.warp_gates.specs.Inner.Fronts.{front_at, row_of, has, has_gate, inputs_of, is_narrow, AreFronts}
 
 -- For each place that puts out another value than at first its change was put, and nothing else.
 pub record AreTold (old now : List Front) (before out : List Put) : Type 0 where
@@ -60,6 +60,12 @@ pub record AreRefreshed (edges : List ℕ) (old new : List Front) : Type 0 where
   pub same : length new ≡ length old
   pub stale : (place : ℕ) (d : Front) → place < length old → (front_at d new place).is_stale ≡ ((front_at d old place).is_stale && not (has_gate edges place))
   pub others : (place : ℕ) (d : Front) → place < length old → has_gate edges place ≡ false → front_at d new place ≡ front_at d old place
+
+-- Of some edges one is listed to each place that is stale, and no other.
+pub record AreListed (edges : List ℕ) (fronts : List Front) (stale : List ℕ) : Type 0 where
+  pub some : (edge : ℕ) → has stale edge ≡ true → has edges edge ≡ true
+  pub all : (place : ℕ) (d : Front) → place < length fronts → (front_at d fronts place).is_stale ≡ true → has_gate stale place ≡ true
+  pub few : length stale ≤ length edges
 
 -- the edges from the places of some words, one after the other
 abbrev pub all_edges : List (List ℕ) → List Move → List ℕ

@@ -43,12 +43,12 @@ returns-clause-puts c =
     let fronts : take c.self.inside.fronts.len (c.pass_on.new.fronts ++ drop (length c.pass_on.new.fronts) c.self.inside.fronts.items) ≡ c.pass_on.new.fronts =
     written_back c.self.inside.fronts.items c.pass_on.new.fronts c.self.inside.fronts.len len (c.pass_on.ensures.told.same ∙ ap (λ (fs : List Front). length fs) c.deref_mut.ensures.value) in
     let values : List Logic = take c.self.inside.values.len (c.pass_on.new.values ++ drop (length c.pass_on.new.values) c.self.inside.values.items) in
-    let first : List Put = c.reserve.new.self.items in
+    let first : List Put = c.reserve-2.new.self.items in
     let put : ArePut (gates_of c.self.inside.wiring c.deref_mut.result.now c.self.inside.values.items) (gates_of c.self.inside.wiring c.pass_on.new.fronts values) first c.pass_on.new.puts.items =
     passed_puts c.self.inside.wiring c.self.inside.values.items values c.deref_mut.result.now c.pass_on.new.fronts first c.pass_on.new.puts.items c.pass_on.ensures.told in
     let put' : ArePut c.args.self.now (gates_of c.self.inside.wiring c.pass_on.new.fronts values) first c.pass_on.new.puts.items =
     subst (λ (g : Gates). ArePut g (gates_of c.self.inside.wiring c.pass_on.new.fronts values) first c.pass_on.new.puts.items) c.self.view_is
     (subst (λ (fs : List Front). ArePut (gates_of c.self.inside.wiring fs c.self.inside.values.items) (gates_of c.self.inside.wiring c.pass_on.new.fronts values) first c.pass_on.new.puts.items) c.deref_mut.ensures.value put) in
     let put'' : ArePut c.args.self.now (gates_of c.self.inside.wiring c.pass_on.new.fronts values) c.args.puts.now.items c.pass_on.new.puts.items =
-    subst (λ (ps : List Put). ArePut c.args.self.now (gates_of c.self.inside.wiring c.pass_on.new.fronts values) ps c.pass_on.new.puts.items) c.reserve.ensures.items put' in
+    subst (λ (ps : List Put). ArePut c.args.self.now (gates_of c.self.inside.wiring c.pass_on.new.fronts values) ps c.pass_on.new.puts.items) c.reserve-2.ensures.items put' in
     subst (λ (fs : List Front). ArePut c.args.self.now (gates_of c.self.inside.wiring fs values) c.args.puts.now.items c.pass_on.new.puts.items) (sym fronts) put''
