@@ -35,8 +35,8 @@ class Text:
     err: bytes = b""
 
     def words(self, program, players, names, first, last):
-        lines = lambda form: "".join(form.format(name=name, at=at) for at, name in enumerate(names))
-        made = lambda text: text.format(lines=lines(self.line), count=len(names), more=len(names) + 1, first=first, end=last).encode()
+        lines = lambda form: "".join(form.format(name=name) for name in names)
+        made = lambda text: text.format(lines=lines(self.line), first=first, end=last).encode()
         files = [players.file(made(text)) for text in (self.bench, self.stimulus) if text]
         return (program, *(("run", "--until", "0", "--workers", "1") if self.stimulus else ("check",)), *files)
 
@@ -46,11 +46,8 @@ TAIL = "$comment {end} $end $enddefinitions $end "
 LACKING = b"stimulus net 0: MissingInput\n"
 TEXTS = [
     Text("nets of a bench", "# {first}\n{lines}# {end}\n", "", "INPUT({name})\n", 0),
-    Text("names of a stimulus", "INPUT(A)\n", HEAD + "{lines}" + TAIL, "$var wire 1 ! {name} $end ", err=LACKING),
     Text("vectors of a stimulus", "INPUT(A)\n", HEAD + "{lines}" + TAIL, "$var wire 2 ! {name} [1:0] $end ", err=LACKING),
     Text("codes of a stimulus", "INPUT(A)\n", HEAD + "{lines}" + TAIL, "$var wire 1 {name} B $end ", err=LACKING),
-    Text("sources of a stimulus", "{lines}INPUT(B)\n", HEAD + "$var wire {more} ! A [{count}:0] $end $var wire 1 ! B $end " + TAIL + "q",
-         "INPUT(A[{at}])\n"),
 ]
 
 
