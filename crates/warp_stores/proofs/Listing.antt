@@ -95,6 +95,12 @@ AreShorter-append a b x y z first second =
           ∙ ap (λ (n : ℕ). take (length (get_or x place []) - n) (get_or x place [])) (sym many);
     }
 
+-- a word more
+pub shorter_more : (ws : List Move) (i : ℕ) (w : Move) (x y z : List (List Change)) → i < length ws → w ≡ get_or ws i w → AreShorter (take i ws) x y → AreShorter (w ∷ []) y z → AreShorter (take (i + 1) ws) x z
+shorter_more ws i w x y z l is first second =
+    let more : take (i + 1) ws ≡ take i ws ++ w ∷ [] = take_more ws i w l ∙ ap (λ (v : Move). take i ws ++ v ∷ []) (sym is) in
+    subst (λ (vs : List Move). AreShorter vs x z) (sym more) (AreShorter-append (take i ws) (w ∷ []) x y z first second)
+
 -- what words lengthened and then shortened is as it was
 pub shorter_again : (put : List (Dated Move)) (words : List Move) (old mid new : List (List Change)) → undated put ≡ words → AreLonger put old mid → AreShorter words mid new → new ≡ old
 shorter_again put words old mid new are longer shorter =

@@ -6,7 +6,7 @@ use Rattle.std.specs.declared.alloc.Global.{Global}
 use Rattle.std.proofs.lemmas.Bool.{cases_Bool, eq-eqb, true≢false, false≢true}
 use Rattle.std.proofs.lemmas.Bool.Decides.{nat_tests}
 use Rattle.std.proofs.lemmas.List.Elements.{All-nil, All-cons, All-head, All-tail, All-take, All-drop, filter-append}
-use Rattle.std.proofs.lemmas.List.{append-nil, map-set, length-map, length-set, get_or-set_same, get_or-set_other, get_or-map, get_or_default, take_at, same_lists}
+use Rattle.std.proofs.lemmas.List.{append-nil, map-set, length-map, length-set, get_or-set_same, get_or-set_other, get_or-map, get_or_default, take_at, take_more, map-append, same_lists}
 use Rattle.std.proofs.lemmas.Grind.{common_steps}
 use Rattle.gate_values.specs.declared.logic.Change.{Change}
 use Rattle.warp_stores.specs.Words.{Move}
@@ -84,6 +84,15 @@ within_all n to (d ∷ ds) h all =
     let P : Dated Move → Type 0 = λ e. e.1.place < n in
     let first : d.1.place < n = All-head P d ds all in
     rw (inside 0 to d.1.place (omega arith) (omega arith)) (ap (λ (xs : List (Dated Move)). d ∷ xs) (within_all n to ds h (All-tail P d ds all)))
+
+-- a word more
+pub within_more : (from to time : ℕ) (ws : List Move) (i : ℕ) (w : Move) (x y z : List (List Change)) → i < length ws → w ≡ get_or ws i w → AreLonger (words_within from to (at time (take i ws))) x y → AreLonger (words_within from to (at time (w ∷ []))) y z → AreLonger (words_within from to (at time (take (i + 1) ws))) x z
+within_more from to time ws i w x y z l is first second =
+    let more : at time (take (i + 1) ws) ≡ at time (take i ws) ++ at time (w ∷ []) =
+    ap (at time) (take_more ws i w l ∙ ap (λ (v : Move). take i ws ++ v ∷ []) (sym is)) ∙ map-append {B = Dated Move} (λ v. (time, v)) (take i ws) (w ∷ []) in
+    let parts : words_within from to (at time (take (i + 1) ws)) ≡ words_within from to (at time (take i ws)) ++ words_within from to (at time (w ∷ [])) =
+    ap (words_within from to) more ∙ filter-append (λ (d : Dated Move). nat_le from d.1.place && nat_lt d.1.place to) (at time (take i ws)) (at time (w ∷ [])) in
+    subst (λ (ds : List (Dated Move)). AreLonger ds x z) (sym parts) (AreLonger-append (words_within from to (at time (take i ws))) (words_within from to (at time (w ∷ []))) x y z first second)
 
 -- no place lies below 0
 pub within_none : (ds : List (Dated Move)) → words_within 0 0 ds ≡ []
