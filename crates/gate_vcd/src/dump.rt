@@ -1,7 +1,8 @@
 //! The dump of waves, as one text.
 
-ghost use Rattle.std.specs.Prelude.{◌≡◌, ℕ, ◌+◌, ◌*◌, ◌<◌, ◌≤◌, ◌^◌, ◌++◌, ◌↔◌, false, length, map, take, IsTrue, IsErr, IfErr, OnOk};
+ghost use Rattle.std.specs.Prelude.{◌≡◌, ℕ, ◌+◌, ◌*◌, ◌<◌, ◌≤◌, ◌^◌, ◌++◌, ◌↔◌, List, false, length, map, take, IsTrue, IsErr, IfErr, OnOk};
 ghost use Rattle.std.specs.List.{AllByRecursion};
+ghost use Rattle.gate_values.specs.declared.logic.Change.{Change};
 ghost use Rattle.gate_vcd.specs.declared.timeline.Stop.{Stop};
 ghost use Rattle.gate_netlist.specs.Circuit.{nets_of};
 ghost use Rattle.gate_values.specs.declared.logic.Logic.TheVariants.{X};
@@ -10,6 +11,7 @@ ghost use Rattle.gate_vcd.specs.Inner.Sink.{Writes};
 ghost use Rattle.gate_vcd.specs.Inner.Lots.{Passes};
 ghost use Rattle.gate_vcd.specs.Waves.{wave_of, wave_value, IsWave, IsUntil};
 ghost use Rattle.gate_vcd.specs.Dump.{header, var_lines, first_lines, moments, dump_text, vcd_text};
+ghost use Rattle.gate_vcd.specs.Inner.ByTime.{stops_in};
 ghost use Rattle.gate_vcd.specs.Inner.Packed.{told, all_told};
 ghost use Rattle.gate_vcd.specs.Inner.Waves.{AreStopsOf};
 ghost use Rattle.gate_vcd.specs.Inner.Walk.{stop_lines, walked, last_stop, tail_line};
@@ -61,6 +63,34 @@ pub fn write_vcd<S: Sink>(
     Ok(())
 }
 
+/// Does what [`write_vcd`] does with waves that nobody needs any more: their lists are given back before the changes are written.
+pub fn write_vcd_once<S: Sink>(
+    sink: &mut S,
+    top: &str,
+    circuit: &Circuit,
+    stimulus: &Stimulus,
+    waves: Waves,
+    horizon: u64,
+) -> Result<(), WriteFault>
+    requires sound { (S.held sink.old).failed ≡ false }
+    requires nets { length waves ≡ nets_of circuit.now }
+    requires until { (n : ℕ) → IsUntil horizon (wave_of waves n) }
+    requires near { horizon ≤ 10 ^ 12 }
+    ensures whole { let text = vcd_text top.now circuit.now stimulus.now (wave_value waves) horizon in
+        OnOk result ((S.held sink.new).bytes ≡ (S.held sink.old).bytes ++ text) }
+    ensures part { let text = vcd_text top.now circuit.now stimulus.now (wave_value waves) horizon in
+        IfErr result (λ e. (S.held sink.new).bytes ≡ (S.held sink.old).bytes ++ take e.written text) }
+    ensures within { let text = vcd_text top.now circuit.now stimulus.now (wave_value waves) horizon in
+        IfErr result (λ e. e.written ≤ length text) }
+    ensures fault { IsErr result ↔ IsTrue (S.held sink.new).failed }
+{
+    let written = put_dump_once(sink, top, circuit, stimulus.timescale(), waves, horizon);
+    if sink.failed() {
+        return Err(WriteFault { written });
+    }
+    Ok(())
+}
+
 /// Puts the whole text, and counts what the sink took of it.
 fn put_dump<S: Sink>(
     sink: &mut S,
@@ -81,6 +111,29 @@ fn put_dump<S: Sink>(
     put_first_values(sink, &mut lot, waves, circuit.nets());
     lot.put_text(sink, "$end\n");
     put_moments(sink, &mut lot, waves, horizon);
+    lot.finish(sink)
+}
+
+/// Does what [`put_dump`] does, and gives the waves' lists back on the way.
+fn put_dump_once<S: Sink>(
+    sink: &mut S,
+    top: &str,
+    circuit: &Circuit,
+    scale: Timescale,
+    waves: Waves,
+    horizon: u64,
+) -> u128
+    requires nets { length waves ≡ nets_of circuit.now }
+    requires until { (n : ℕ) → IsUntil horizon (wave_of waves n) }
+    requires near { horizon ≤ 10 ^ 12 }
+    ensures text { Writes (S.held sink.old) (S.held sink.new) 0 (dump_text top.now circuit.now.names scale (wave_value waves) horizon) result }
+    ensures countable { length (dump_text top.now circuit.now.names scale (wave_value waves) horizon) < 2 ^ 128 }
+{
+    let mut lot = Lot::new();
+    put_header(sink, &mut lot, top, circuit, scale);
+    put_first_values(sink, &mut lot, &waves, circuit.nets());
+    lot.put_text(sink, "$end\n");
+    put_last_moments(sink, &mut lot, waves, horizon);
     lot.finish(sink)
 }
 
@@ -131,24 +184,53 @@ fn first_value(changes: &[Change]) -> Logic
 
 /// Puts what changes after 0, and the horizon.
 fn put_moments<S: Sink>(sink: &mut S, lot: &mut Lot, waves: &Waves, horizon: u64)
-    requires few { length waves.now ≤ 1000000 }
-    requires until { (n : ℕ) → IsUntil horizon (wave_of waves.now n) }
-    ensures { Passes (S.held sink.old) (S.held sink.new) lot.old (moments (wave_value waves.now) (length waves.now) horizon horizon) lot.new }
+    ghost lists: { List (List Change) }
+    requires lists { waves.now ≡ lists }
+    requires few { length lists ≤ 1000000 }
+    requires until { (n : ℕ) → IsUntil horizon (wave_of lists n) }
+    ensures { Passes (S.held sink.old) (S.held sink.new) lot.old (moments (wave_value lists) (length lists) horizon horizon) lot.new }
 {
-    match waves.by_time() {
-        ByTime::Words(packed) => put_words(sink, lot, waves, packed, horizon),
-        ByTime::Runs(timeline) => put_runs(sink, lot, waves, timeline, horizon),
+    waves.law();
+    put_by_time(sink, lot, waves.by_time(), horizon);
+}
+
+/// The same of waves whose lists are given back before.
+fn put_last_moments<S: Sink>(sink: &mut S, lot: &mut Lot, waves: Waves, horizon: u64)
+    ghost lists: { List (List Change) }
+    requires lists { waves ≡ lists }
+    requires few { length lists ≤ 1000000 }
+    requires until { (n : ℕ) → IsUntil horizon (wave_of lists n) }
+    ensures { Passes (S.held sink.old) (S.held sink.new) lot.old (moments (wave_value lists) (length lists) horizon horizon) lot.new }
+{
+    waves.law();
+    let by_time = waves.into_by_time();
+    put_by_time(sink, lot, &by_time, horizon);
+}
+
+/// Puts what changes after 0 in some lists, which is had by time, and the horizon.
+fn put_by_time<S: Sink>(sink: &mut S, lot: &mut Lot, by_time: &ByTime, horizon: u64)
+    ghost lists: { List (List Change) }
+    requires few { length lists ≤ 1000000 }
+    requires until { (n : ℕ) → IsUntil horizon (wave_of lists n) }
+    requires waves { (n : ℕ) → IsWave (wave_of lists n) }
+    requires stops { AreStopsOf lists (stops_in by_time.now) }
+    ensures { Passes (S.held sink.old) (S.held sink.new) lot.old (moments (wave_value lists) (length lists) horizon horizon) lot.new }
+{
+    match by_time {
+        ByTime::Words(packed) => put_words(sink, lot, packed, horizon),
+        ByTime::Runs(timeline) => put_runs(sink, lot, timeline, horizon),
     }
 }
 
 /// Puts what changes after 0, which words tell, and the horizon.
-fn put_words<S: Sink>(sink: &mut S, lot: &mut Lot, waves: &Waves, packed: &Packed, horizon: u64)
-    requires few { length waves.now ≤ 1000000 }
-    requires until { (n : ℕ) → IsUntil horizon (wave_of waves.now n) }
-    requires stops { AreStopsOf waves.now (all_told packed.now) }
-    ensures { Passes (S.held sink.old) (S.held sink.new) lot.old (moments (wave_value waves.now) (length waves.now) horizon horizon) lot.new }
+fn put_words<S: Sink>(sink: &mut S, lot: &mut Lot, packed: &Packed, horizon: u64)
+    ghost lists: { List (List Change) }
+    requires few { length lists ≤ 1000000 }
+    requires until { (n : ℕ) → IsUntil horizon (wave_of lists n) }
+    requires waves { (n : ℕ) → IsWave (wave_of lists n) }
+    requires stops { AreStopsOf lists (all_told packed.now) }
+    ensures { Passes (S.held sink.old) (S.held sink.new) lot.old (moments (wave_value lists) (length lists) horizon horizon) lot.new }
 {
-    waves.law();
     packed.law();
     let mut last = 0;
     for time in 0..packed.times() {
@@ -171,13 +253,14 @@ fn put_told<S: Sink>(sink: &mut S, lot: &mut Lot, mut last: u64, time: u64, word
 }
 
 /// Puts what changes after 0, which is in runs, and the horizon.
-fn put_runs<S: Sink>(sink: &mut S, lot: &mut Lot, waves: &Waves, timeline: &Timeline, horizon: u64)
-    requires few { length waves.now ≤ 1000000 }
-    requires until { (n : ℕ) → IsUntil horizon (wave_of waves.now n) }
-    requires stops { AreStopsOf waves.now timeline.now.stops }
-    ensures { Passes (S.held sink.old) (S.held sink.new) lot.old (moments (wave_value waves.now) (length waves.now) horizon horizon) lot.new }
+fn put_runs<S: Sink>(sink: &mut S, lot: &mut Lot, timeline: &Timeline, horizon: u64)
+    ghost lists: { List (List Change) }
+    requires few { length lists ≤ 1000000 }
+    requires until { (n : ℕ) → IsUntil horizon (wave_of lists n) }
+    requires waves { (n : ℕ) → IsWave (wave_of lists n) }
+    requires stops { AreStopsOf lists timeline.now.stops }
+    ensures { Passes (S.held sink.old) (S.held sink.new) lot.old (moments (wave_value lists) (length lists) horizon horizon) lot.new }
 {
-    waves.law();
     let mut all = timeline.all_runs();
     let runs = &mut all[..timeline.runs()];
     let mut last = 0;

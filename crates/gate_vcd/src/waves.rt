@@ -174,4 +174,12 @@ impl Waves {
     {
         &self.by_time
     }
+
+    /// All changes by time, without the lists.
+    pub(crate) fn into_by_time(self) -> ByTime
+        ensures { AreStopsOf self (stops_in result) }
+    {
+        let Waves { lists: _, by_time } = self;
+        by_time
+    }
 }

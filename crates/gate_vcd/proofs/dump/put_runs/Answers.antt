@@ -15,11 +15,11 @@ slice_bounds-runs-end g c = omega (arith, c.runs.ensures, c.all_runs-all.ensures
 
 pub loop-run-init : goal.loop-run-init
 loop-run-init g c =
-    let lists = c.args.waves.now in
+    let lists = g.lists in
     merged_start _ _ c.args.timeline.now c.all_runs-all.result c.runs.result (all_stops (wave_value lists) (length lists) (suc c.args.horizon)) c.all_runs-all.ensures.law c.runs.ensures
     (omega (arith, c.all_runs-all.ensures.room, c.all_runs-all.ensures.law.few)) c.all_runs-all.ensures.runs (all_stops-rising (wave_value lists) (length lists) (suc c.args.horizon))
-    (stops_are lists c.args.timeline.now.stops c.args.horizon c.requires.stops c.law.ensures c.requires.until)
-    (known_below (wave_value lists) (length lists) 1000000 (suc c.args.horizon) c.requires.few)
+    (stops_are lists c.args.timeline.now.stops c.args.horizon c.requires.1.1.1.1 c.requires.1.1.1.0 c.requires.1.1.0)
+    (known_below (wave_value lists) (length lists) 1000000 (suc c.args.horizon) c.requires.1.0)
 
 pub put_stops-last-requires : goal.put_stops-last-requires
 put_stops-last-requires g c = merged_known _ _ _ _ _ c.loop-run.runs _ c.in-Some.run' c.in-Some.count c.split_at.result.0.now c.loop-run.invariant c.in-Some.ensures.some c.split_at.ensures.front
@@ -32,6 +32,6 @@ loop-run-preserved g c = merged_step _ _ _ _ _ c.loop-run.runs _ c.in-Some.run' 
 
 pub returns : goal.returns
 returns g c =
-    let lists = c.args.waves.now in
+    let lists = g.lists in
     let ended = merged_end _ _ _ _ _ (lefts c.loop-run.runs) _ c.loop-run.invariant c.in_default.ensures.none in
     rw (moments-walked (wave_value lists) (length lists) c.args.horizon, ← ended.1) (passes_then ended.0 c.put_tail.ensures)

@@ -12,10 +12,10 @@ loop-time-init g c = record { text = passes_none _ _; end = refl }
 
 pub put_told-last-requires : goal.put_told-last-requires
 put_told-last-requires g c =
-    let lists = c.args.waves.now in
-    let all = told-all lists c.args.packed.now c.args.horizon c.law-2.ensures c.requires.stops c.law.ensures c.requires.until in
+    let lists = g.lists in
+    let all = told-all lists c.args.packed.now c.args.horizon c.law.ensures c.requires.1.1.1.1 c.requires.1.1.1.0 c.requires.1.1.0 in
     let known : c.loop-time.time < times c.args.packed.now = omega (arith, c.loop-time-test.true, c.times-time-end.ensures) in
-    rw c.words.ensures (told-known lists c.args.packed.now c.args.horizon c.loop-time.time all c.requires.few known)
+    rw c.words.ensures (told-known lists c.args.packed.now c.args.horizon c.loop-time.time all c.requires.1.0 known)
 
 pub loop-time-preserved : goal.loop-time-preserved
 loop-time-preserved g c =
@@ -23,9 +23,9 @@ loop-time-preserved g c =
 
 pub returns : goal.returns
 returns g c =
-    let lists = c.args.waves.now in
+    let lists = g.lists in
     let end : c.loop-time.time ≡ times c.args.packed.now = omega (arith, c.loop-time-test.false, c.loop-time.auto.time-end, c.times-time-end.ensures) in
     let all : told_below c.args.packed.now c.loop-time.time ≡ all_stops (wave_value lists) (length lists) (suc c.args.horizon) =
-    ap (told_below c.args.packed.now) end ∙ told-all lists c.args.packed.now c.args.horizon c.law-2.ensures c.requires.stops c.law.ensures c.requires.until in
+    ap (told_below c.args.packed.now) end ∙ told-all lists c.args.packed.now c.args.horizon c.law.ensures c.requires.1.1.1.1 c.requires.1.1.1.0 c.requires.1.1.0 in
     let last : c.loop-time.last ≡ last_stop 0 (told_below c.args.packed.now c.loop-time.time) = c.loop-time.invariant.end in
     rw (moments-walked (wave_value lists) (length lists) c.args.horizon, ← all, ← last) (passes_then c.loop-time.invariant.text c.put_tail.ensures)

@@ -1,0 +1,7 @@
+use Rattle.gate_vcd.proofs.dump.put_by_time.Given as goal
+
+abbrev pub ghost-put_words : goal.ghost-put_words
+ghost-put_words g a = g.lists
+
+abbrev pub ghost-put_runs : goal.ghost-put_runs
+ghost-put_runs g a = g.lists
