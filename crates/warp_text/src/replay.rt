@@ -117,7 +117,7 @@ fn replay_on(
     let stimulus = read_stimulus(alloc, stimulus, circuit)?;
     let events = read_schedule(alloc, schedule)?;
     let waves = waves_of(alloc, circuit, &stimulus, events.as_slice(), options)?;
-    Ok(dump_of(alloc, circuit, &stimulus, &waves, options.until())?)
+    Ok(dump_of(alloc, circuit, &stimulus, waves, options.until())?)
 }
 
 /// The dump of every net of a circuit, from time 0 to the options' `until`, in units of the stimulus's timescale, where

@@ -160,7 +160,7 @@ fn dump_under<G: Gate + Sync, W: Watch, R: Threads + Wait + Sync>(
 {
     let stimulus = read_stimulus(alloc, stimulus, circuit)?;
     let ran = run_blocks(rt, alloc, circuit, &stimulus, options, gate, watch)?;
-    let dump = dump_of(alloc, circuit, &stimulus, &ran.waves, options.until())?;
+    let dump = dump_of(alloc, circuit, &stimulus, ran.waves, options.until())?;
     Ok(Simulated {
         dump,
         stats: ran.stats,
