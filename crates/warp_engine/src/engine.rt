@@ -161,8 +161,10 @@ impl Engine {
     {
         batch.clear();
         self.journal.tell_since(self.told, self.horizon, batch)?;
+        let mark = self.journal.mark();
+        self.lists.make_room(batch, mark, self.horizon);
         self.lists.append_batch(batch)?;
-        self.told = self.journal.mark();
+        self.told = mark;
         Ok(())
     }
 

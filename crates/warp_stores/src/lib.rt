@@ -21,6 +21,7 @@ mod marks;
 mod order;
 mod place;
 mod queue;
+mod room;
 mod spans;
 mod steps;
 mod stop;

@@ -10,6 +10,7 @@ ghost use Rattle.warp_stores.specs.Shown.Stops.{dated};
 
 use crate::batch::Batch;
 use crate::place::part;
+use crate::room::{count_words, widen_all};
 use crate::spans::{cut_all, note_lens, push_spans};
 use crate::stop::Stop;
 use crate::word::Word;
@@ -23,6 +24,8 @@ pub struct Lists {
     lists: Vec<Vec<Change>>,
     // how long they were before many words came
     lens: Vec<usize>,
+    // how many of these came to each
+    counts: Vec<usize>,
 }
 
 impl Model for Lists {
@@ -46,8 +49,11 @@ impl Lists {
         ensures { IfOk result (λ lists. lists ≡ replicate count []) }
     {
         let lists = empty_lists(alloc, count)?;
-        let lens = Vec::new(alloc);
-        Ok(Lists { lists, lens })
+        Ok(Lists {
+            lists,
+            lens: Vec::new(alloc),
+            counts: Vec::new(alloc),
+        })
     }
 
     /// The changes of a place.
@@ -71,6 +77,21 @@ impl Lists {
                 pop_all(&mut self.lists, &words[..pushed]);
                 Err(AllocError)
             }
+        }
+    }
+
+    /// Gives lists room for the words of a batch, which come up to a time, and for what may come after it up to a last time. Where
+    /// there are few words, or memory is wanted, lists stay as they are.
+    pub fn make_room(&mut self, batch: &Batch<Word>, time: u64, last: u64)
+        ensures { self.new ≡ self.old }
+    {
+        let places = self.lists.len();
+        if batch.words.len() < places {
+            return;
+        }
+        let words = batch.words.as_slice();
+        if count_words(&mut self.counts, places, words).is_ok() {
+            widen_all(&mut self.lists, self.counts.as_slice(), time, last);
         }
     }
 
@@ -131,8 +152,11 @@ impl Lists {
         ensures { IfOk result (λ lists. lists ≡ self.now) }
     {
         let lists = copies(alloc, self.lists.as_slice())?;
-        let lens = Vec::new(alloc);
-        Ok(Lists { lists, lens })
+        Ok(Lists {
+            lists,
+            lens: Vec::new(alloc),
+            counts: Vec::new(alloc),
+        })
     }
 
     /// Gives the lists away.

@@ -9,13 +9,13 @@ pub append_batch-requires : goal.append_batch-requires
 append_batch-requires c =
     let run : Run = record { book = c.self.inside.journal; lists = c.self.inside.lists; told = c.self.inside.told; horizon = c.self.inside.horizon } in
     let ran : Ran run = subst Ran (sym c.self.view_is) c.requires in
-    makings_within run ran run.told c.tell_since.new.batch ran.is.low (c.in_ok-tell_since.ensures.ok ∙ ap (λ (ds : List (Dated Move)). ds ++ makings run.told run) c.clear.ensures)
+    rw c.make_room.ensures (makings_within run ran run.told c.tell_since.new.batch ran.is.low (c.in_ok-tell_since.ensures.ok ∙ ap (λ (ds : List (Dated Move)). ds ++ makings run.told run) c.clear.ensures))
 
 pub returns-clause-ok : goal.returns-clause-ok
 returns-clause-ok c =
     let run : Run = record { book = c.self.inside.journal; lists = c.self.inside.lists; told = c.self.inside.told; horizon = c.self.inside.horizon } in
     let ran : Ran run = subst Ran (sym c.self.view_is) c.requires in
     let words : c.tell_since.new.batch ≡ makings run.told run = c.in_ok-tell_since.ensures.ok ∙ ap (λ (ds : List (Dated Move)). ds ++ makings run.told run) c.clear.ensures in
-    subst (λ (old : Run). HasTold old (record run { lists = c.append_batch.new.self; told = c.mark-self-inside.result }) c.tell_since.new.batch) c.self.view_is
-    (subst (λ (m : ℕ). HasTold run (record run { lists = c.append_batch.new.self; told = m }) c.tell_since.new.batch) (sym c.mark-self-inside.ensures)
-    (has_told run ran c.tell_since.new.batch c.append_batch.new.self words c.in_ok-append_batch.ensures.ok))
+    subst (λ (old : Run). HasTold old (record run { lists = c.append_batch.new.self; told = c.mark-mark.result }) c.tell_since.new.batch) c.self.view_is
+    (subst (λ (m : ℕ). HasTold run (record run { lists = c.append_batch.new.self; told = m }) c.tell_since.new.batch) (sym c.mark-mark.ensures)
+    (has_told run ran c.tell_since.new.batch c.append_batch.new.self words (rw c.make_room.ensures at c.in_ok-append_batch.ensures.ok)))

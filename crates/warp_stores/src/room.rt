@@ -1,0 +1,66 @@
+//! Room for what comes to lists, made ahead: a list that grows by one change after another moves each time that it is full.
+ghost use Rattle.std.specs.Prelude.{◌≡◌, ◌≤◌, OnOk, length, vec_len};
+ghost use Rattle.warp_stores.specs.Shown.Lists.{lists_of};
+
+use crate::word::Word;
+use gate_values::Change;
+use std::alloc::AllocError;
+
+/// Fewer changes than these, the first ones of a list, tell nothing of how it goes on.
+const FEW: usize = 16;
+
+/// A list gets room for at most so many times what it needs.
+const MOST: usize = 8;
+
+/// Counts the words of each of so many places, in place of what was counted. An error is a refused growth.
+pub(crate) fn count_words(
+    counts: &mut Vec<usize>,
+    places: usize,
+    words: &[Word],
+) -> Result<(), AllocError>
+    ensures { OnOk result (vec_len counts.new ≡ places) }
+{
+    counts.clear();
+    counts.resize(places, 0)?;
+    for word in words {
+        if let Some(count) = counts.get_mut(word.place() as usize) {
+            *count = count.saturating_add(1);
+        }
+    }
+    Ok(())
+}
+
+/// Gives lists that come to be longer by so many changes each, up to a time, the room that they come to need up to a last time.
+/// Where memory is wanted a list stays as it is.
+pub(crate) fn widen_all(lists: &mut Vec<Vec<Change>>, more: &[usize], time: u64, last: u64)
+    requires { length more.now ≤ vec_len lists.old }
+    ensures { lists_of lists.new.items ≡ lists_of lists.old.items }
+{
+    for place in 0..more.len() {
+        widen(&mut lists[place], more[place], time, last);
+    }
+}
+
+/// The same of one list.
+fn widen(list: &mut Vec<Change>, more: usize, time: u64, last: u64)
+    ensures { list.new.items ≡ list.old.items }
+{
+    let len = list.len();
+    let need = len.saturating_add(more);
+    if need <= list.capacity() {
+        return;
+    }
+    let room = room_for(len, need, time, last);
+    let _ = list.reserve_exact(room.saturating_sub(len));
+}
+
+/// For how many changes a list gets room that has so many and needs more: for as many as it has at a last time if it goes on as
+/// up to a time, and some more.
+fn room_for(len: usize, need: usize, time: u64, last: u64) -> usize {
+    let most = if len == 0 && need < FEW { 2 } else { MOST };
+    let per_time = (need as u64).saturating_mul(last) / time.saturating_add(1);
+    let at_last = per_time.saturating_add(per_time / 32) as usize;
+    at_last
+        .max(need.saturating_add(need / 4))
+        .min(need.saturating_mul(most))
+}
