@@ -58,8 +58,8 @@ fn widen(list: &mut Vec<Change>, more: usize, time: u64, last: u64)
 /// up to a time, and some more.
 fn room_for(len: usize, need: usize, time: u64, last: u64) -> usize {
     let most = if len == 0 && need < FEW { 2 } else { MOST };
-    let per_time = (need as u64).saturating_mul(last) / time.saturating_add(1);
-    let at_last = per_time.saturating_add(per_time / 32) as usize;
+    let at_this_rate = (need as u64).saturating_mul(last) / time.saturating_add(1);
+    let at_last = at_this_rate.saturating_add(at_this_rate / 32) as usize;
     at_last
         .max(need.saturating_add(need / 4))
         .min(need.saturating_mul(most))
