@@ -12,6 +12,7 @@ pub mod MergeLaws
 pub mod Stops
 pub mod PackedLaws
 pub mod PackedParts
+pub mod KeyLaws
 pub mod WaveValues
 pub mod DumpLaws
 pub mod Walking
@@ -19,6 +20,7 @@ pub mod Arrays
 pub mod Coding
 pub mod Waving
 pub mod PackedWalk
+pub mod KeyWalk
 pub mod Following
 pub mod Places
 pub mod TokenLaws

@@ -24,7 +24,7 @@ at_most x y (inl e) = inl e
 at_most x y (inr e) = inr (e.0, omega (arith, e.1))
 
 -- two lists that rise and have the same stops are one
-rising-same : (xs all : List Stop) → IsRising xs → IsRising all → ((s : Stop) → count s xs ≡ count s all) → xs ≡ all
+pub rising-same : (xs all : List Stop) → IsRising xs → IsRising all → ((s : Stop) → count s xs ≡ count s all) → xs ≡ all
 rising-same [] [] rise up same = refl
 rising-same [] (y ∷ ys) rise up same = absurd (omega (arith, same y, one-self y))
 rising-same (x ∷ xs) all rise up same =

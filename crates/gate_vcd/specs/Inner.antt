@@ -7,6 +7,7 @@ pub mod Headers
 pub mod Held
 pub mod HeldWaves
 pub mod Items
+pub mod Keys
 pub mod Known
 pub mod Lists
 pub mod Lots

@@ -1,4 +1,5 @@
-//! All changes by time: in a word each where times are dense, and else in runs, as also once a change is pushed.
+//! All changes by time: in a word each where times are dense, else in a key each, and in runs where neither can be, as also once
+//! a change is pushed.
 
 ghost use Rattle.std.specs.Prelude.{◌≡◌, ◌≤◌, ◌+◌, ℕ, [], IfOk, OnOk, OnErr, length};
 ghost use Rattle.gate_vcd.specs.declared.timeline.Stop.{Stop};
@@ -8,8 +9,10 @@ ghost use Rattle.gate_vcd.specs.Inner.Timeline.{count, one};
 ghost use Rattle.gate_vcd.specs.Inner.Waves.{stops_below};
 ghost use Rattle.gate_vcd.specs.Inner.ByTime.{stops_in};
 
+use crate::keyed::{Keyed, do_rise};
 use crate::packed::Packed;
 use crate::packing::{pack, pack_by};
+use crate::placing::keys_by_time;
 use crate::timeline::{Stop, Timeline};
 use gate_values::Change;
 use std::alloc::{AllocError, Global};
@@ -19,7 +22,19 @@ use std::thread::Threads;
 #[derive(Drop)]
 pub enum ByTime {
     Words(Packed),
+    Keys(Keyed),
     Runs(Timeline),
+}
+
+/// All changes in a key each, or in runs. An error is a refused growth.
+fn keyed(alloc: Global, lists: &[Vec<Change>]) -> Result<ByTime, AllocError>
+    requires { length lists.now ≤ 4294967295 }
+    ensures { IfOk result (λ all. (s : Stop) → count s (stops_in all) ≡ count s (stops_below (lists_in lists.now) (length lists.now))) }
+{
+    match keys_by_time(alloc, lists)? {
+        Some(keys) if do_rise(keys.as_slice()) => Ok(ByTime::Keys(Keyed::new(keys))),
+        _ => Ok(ByTime::Runs(Timeline::of(alloc, lists)?)),
+    }
 }
 
 impl ByTime {
@@ -38,7 +53,7 @@ impl ByTime {
     {
         match pack(alloc, lists)? {
             Some(packed) => Ok(ByTime::Words(packed)),
-            None => Ok(ByTime::Runs(Timeline::of(alloc, lists)?)),
+            None => keyed(alloc, lists),
         }
     }
 
@@ -56,7 +71,7 @@ impl ByTime {
     {
         match pack_by(rt, alloc, threads, lists)? {
             Some(packed) => Ok(ByTime::Words(packed)),
-            None => Ok(ByTime::Runs(Timeline::of(alloc, lists)?)),
+            None => keyed(alloc, lists),
         }
     }
 
@@ -69,6 +84,12 @@ impl ByTime {
             ByTime::Runs(timeline) => timeline.push(stop),
             ByTime::Words(packed) => {
                 let mut timeline = Timeline::of_stops(packed.stops()?)?;
+                timeline.push(stop)?;
+                *self = ByTime::Runs(timeline);
+                Ok(())
+            }
+            ByTime::Keys(keyed) => {
+                let mut timeline = Timeline::of_stops(keyed.stops()?)?;
                 timeline.push(stop)?;
                 *self = ByTime::Runs(timeline);
                 Ok(())

@@ -13,11 +13,13 @@ ghost use Rattle.gate_vcd.specs.Waves.{wave_of, wave_value, IsWave, IsUntil};
 ghost use Rattle.gate_vcd.specs.Dump.{header, var_lines, first_lines, moments, dump_text, vcd_text};
 ghost use Rattle.gate_vcd.specs.Inner.ByTime.{stops_in};
 ghost use Rattle.gate_vcd.specs.Inner.Packed.{told, all_told};
+ghost use Rattle.gate_vcd.specs.Inner.Keys.{stops_of_keys};
 ghost use Rattle.gate_vcd.specs.Inner.Waves.{AreStopsOf};
 ghost use Rattle.gate_vcd.specs.Inner.Walk.{stop_lines, walked, last_stop, tail_line};
 
 use crate::by_time::ByTime;
 use crate::fault::WriteFault;
+use crate::keyed::{Keyed, stop_of};
 use crate::lines::{put_scope, put_stamp, put_timescale, put_value, put_var};
 use crate::lot::Lot;
 use crate::merging::next_chunk;
@@ -218,6 +220,7 @@ fn put_by_time<S: Sink>(sink: &mut S, lot: &mut Lot, by_time: &ByTime, horizon: 
 {
     match by_time {
         ByTime::Words(packed) => put_words(sink, lot, packed, horizon),
+        ByTime::Keys(keyed) => put_keyed(sink, lot, keyed, horizon),
         ByTime::Runs(timeline) => put_runs(sink, lot, timeline, horizon),
     }
 }
@@ -248,6 +251,35 @@ fn put_told<S: Sink>(sink: &mut S, lot: &mut Lot, mut last: u64, time: u64, word
     for word in words {
         put_stop(sink, lot, last, stop_at(time, *word));
         last = time;
+    }
+    last
+}
+
+/// Puts what changes after 0, which is in keys, and the horizon.
+fn put_keyed<S: Sink>(sink: &mut S, lot: &mut Lot, keyed: &Keyed, horizon: u64)
+    ghost lists: { List (List Change) }
+    requires few { length lists ≤ 1000000 }
+    requires until { (n : ℕ) → IsUntil horizon (wave_of lists n) }
+    requires waves { (n : ℕ) → IsWave (wave_of lists n) }
+    requires stops { AreStopsOf lists (stops_of_keys keyed.now) }
+    ensures { Passes (S.held sink.old) (S.held sink.new) lot.old (moments (wave_value lists) (length lists) horizon horizon) lot.new }
+{
+    keyed.law();
+    let last = put_keys(sink, lot, keyed.keys());
+    put_tail(sink, lot, last, horizon);
+}
+
+/// Puts the stops of keys. Returns the last time, or 0.
+fn put_keys<S: Sink>(sink: &mut S, lot: &mut Lot, keys: &[u64]) -> u64
+    requires { AllByRecursion (λ (s : Stop). s.net < 1000000) (stops_of_keys keys.now) }
+    ensures text { Passes (S.held sink.old) (S.held sink.new) lot.old (walked 0 (stops_of_keys keys.now)) lot.new }
+    ensures last { result ≡ last_stop 0 (stops_of_keys keys.now) }
+{
+    let mut last = 0;
+    for key in keys {
+        let stop = stop_of(*key);
+        put_stop(sink, lot, last, stop);
+        last = stop.time;
     }
     last
 }

@@ -21,6 +21,7 @@ mod fault;
 mod form;
 mod inputs;
 mod items;
+mod keyed;
 mod keyword;
 mod known;
 mod laws;

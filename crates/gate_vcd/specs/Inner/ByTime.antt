@@ -1,11 +1,13 @@
--- All changes by time, in words or in runs.
+-- All changes by time, in words, in keys or in runs.
 use Rattle.std.specs.Prelude.{List}
 use Rattle.gate_vcd.specs.declared.timeline.Stop.{Stop}
 use Rattle.gate_vcd.specs.declared.by_time.ByTime.{ByTime}
-use Rattle.gate_vcd.specs.declared.by_time.ByTime.TheVariants.{Words, Runs}
+use Rattle.gate_vcd.specs.declared.by_time.ByTime.TheVariants.{Words, Keys, Runs}
 use Rattle.gate_vcd.specs.Inner.Packed.{all_told}
+use Rattle.gate_vcd.specs.Inner.Keys.{stops_of_keys}
 
 -- the changes, whichever way they are kept
 abbrev pub stops_in : ByTime → List Stop
 stops_in (Words p) = all_told p
+stops_in (Keys k) = stops_of_keys k
 stops_in (Runs t) = t.stops

@@ -5,3 +5,6 @@ ghost-put_words g a = g.lists
 
 abbrev pub ghost-put_runs : goal.ghost-put_runs
 ghost-put_runs g a = g.lists
+
+abbrev pub ghost-put_keyed : goal.ghost-put_keyed
+ghost-put_keyed g a = g.lists
