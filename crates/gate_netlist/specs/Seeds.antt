@@ -7,4 +7,4 @@ use Rattle.gate_netlist.specs.declared.seed.TextSeed.{TextSeed}
 
 -- a hasher that has read the hash of the whole text
 abbrev pub seed_of : List ℕ → TextSeed
-seed_of text = record { seeded = record { words = fold words.write words.initial (u64 (finish (write initial text))) } }
+seed_of text = record { seeded = record { words = fold words.write words.initial (u64 (finish (write initial text))); last = 0 } }
