@@ -22,7 +22,8 @@ const TOP: u32 = 56;
 #[derive(Clone, Copy)]
 pub struct TextHasher {
     words: FoldHasher,
-    last: u8,
+    last: Option<u8>,
+    is_ended: bool,
 }
 
 /// Reads bytes in steps.
@@ -37,33 +38,38 @@ fn step(words: &mut FoldHasher, bytes: &[u8])
     }
 }
 
-/// Reads a last byte that was held back, where there is one but 0.
-fn hold(words: &mut FoldHasher, last: u8)
-    ensures { words.new ≡ held folding.write words.old last }
+/// Reads a last byte that was held back, if there is one, and what ends a name, if that came behind it.
+fn hold(words: &mut FoldHasher, last: Option<u8>, is_ended: bool)
+    ensures { words.new ≡ held folding.write words.old last is_ended }
 {
-    if last != 0 {
+    if let Some(last) = last {
         words.write(&[last]);
+    }
+    if is_ended {
+        words.write(&[END]);
     }
 }
 
-/// Whether these bytes are what a name's hash input ends with.
-fn is_end(most: &[u8], last: u8) -> bool
-    ensures { result ≡ is_end most.now last }
-{
-    most.is_empty() && last == END
-}
-
 impl TextHasher {
-    /// Reads bytes and a last one, which is held back.
+    /// Whether these bytes are what a name's hash input ends with, behind a byte that is held back.
+    fn is_end(&self, most: &[u8], last: u8) -> bool
+        ensures { result ≡ is_end self.now most.now last }
+    {
+        most.is_empty() && last == END && !self.is_ended
+    }
+
+    /// Reads bytes and a last one, which is held back. What ends a name is noted.
     fn join(&mut self, most: &[u8], last: u8)
         ensures { self.new ≡ joined self.old most.now last }
     {
-        if is_end(most, last) {
+        if self.is_end(most, last) {
+            self.is_ended = true;
             return;
         }
-        hold(&mut self.words, self.last);
+        hold(&mut self.words, self.last, self.is_ended);
         step(&mut self.words, most);
-        self.last = last;
+        self.last = Some(last);
+        self.is_ended = false;
     }
 }
 
@@ -75,7 +81,8 @@ impl Hasher for TextHasher {
     ghost finish = { finished };
 
     fn finish(&self) -> u64 {
-        self.words.finish().wrapping_add((self.last as u64) << TOP)
+        let last = self.last.unwrap_or(0);
+        self.words.finish().wrapping_add((last as u64) << TOP)
     }
 
     #[tactic(auto, unfolding(crate::specs::Inner::Hashing::joined_all))]
@@ -107,7 +114,11 @@ impl TextSeed {
         let mut words = FoldHasher::default();
         words.write_u64(whole.finish());
         TextSeed {
-            seeded: TextHasher { words, last: 0 },
+            seeded: TextHasher {
+                words,
+                last: None,
+                is_ended: false,
+            },
         }
     }
 }
