@@ -80,20 +80,14 @@ impl ByTime {
         ensures ok { (s : Stop) → OnOk result (count s (stops_in self.new) ≡ one s stop + count s (stops_in self.old)) }
         ensures err { (s : Stop) → OnErr result (count s (stops_in self.new) ≡ count s (stops_in self.old)) }
     {
-        match self {
-            ByTime::Runs(timeline) => timeline.push(stop),
-            ByTime::Words(packed) => {
-                let mut timeline = Timeline::of_stops(packed.stops()?)?;
-                timeline.push(stop)?;
-                *self = ByTime::Runs(timeline);
-                Ok(())
-            }
-            ByTime::Keys(keyed) => {
-                let mut timeline = Timeline::of_stops(keyed.stops()?)?;
-                timeline.push(stop)?;
-                *self = ByTime::Runs(timeline);
-                Ok(())
-            }
-        }
+        let stops = match self {
+            ByTime::Runs(timeline) => return timeline.push(stop),
+            ByTime::Words(packed) => packed.stops()?,
+            ByTime::Keys(keyed) => keyed.stops()?,
+        };
+        let mut timeline = Timeline::of_stops(stops)?;
+        timeline.push(stop)?;
+        *self = ByTime::Runs(timeline);
+        Ok(())
     }
 }

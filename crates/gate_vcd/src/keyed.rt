@@ -1,8 +1,7 @@
-//! All changes by time in a key each, whatever their times: 8 bytes a change.
+//! All changes by time in a key each: 8 bytes a change, of times below [`KEY_TIMES`] and nets below [`KEY_NETS`].
 
-ghost use Rattle.std.specs.Prelude.{◌≡◌, ◌<◌, ℕ, IfOk, IsTrue};
+ghost use Rattle.std.specs.Prelude.{◌≡◌, ◌<◌, ◌↔◌, IfOk, IsTrue};
 ghost use Rattle.gate_vcd.specs.Inner.Keys.{AreKeys, key_of, stop_of, stops_of_keys};
-ghost use Rattle.gate_vcd.specs.Inner.Packed.{NetsRise};
 
 use crate::packed::{stop_at, word};
 use crate::timeline::Stop;
@@ -37,8 +36,8 @@ impl Model for Keyed {
 
 /// The key of a stop.
 pub fn key(stop: Stop) -> u64
-    requires time { stop.time < 4398046511104 }
-    requires net { stop.net < 1048576 }
+    requires time { stop.time < KEY_TIMES }
+    requires net { stop.net < KEY_NETS }
     ensures { result ≡ key_of stop }
 {
     stop.time * WORDS + u64::from(word(stop.net, stop.value))
@@ -53,7 +52,7 @@ pub fn stop_of(key: u64) -> Stop
 
 /// Whether keys rise, and so do the stops.
 pub fn do_rise(keys: &[u64]) -> bool
-    ensures { IsTrue result → AreKeys keys.now }
+    ensures { IsTrue result ↔ AreKeys keys.now }
 {
     let mut from: u64 = 0;
     for key in keys {

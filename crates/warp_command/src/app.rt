@@ -161,17 +161,19 @@ fn run_command<'a>(alloc: Global) -> Result<Command<'a>, AllocError>
     let bench = "The circuit; - for standard input, with the stimulus after a line %%";
     Command::new(alloc, "run")
         .about("Simulates a circuit and writes its value change dump")
-        .arg(until_option(alloc))?
-        .arg(blocks_option(alloc))?
-        .arg(workers_option(alloc))?
-        .arg(window_option(alloc))?
-        .arg(settings_option(alloc))?
-        .arg(only_option(alloc))?
-        .arg(stats_option(alloc))?
-        .arg(progress_flag(alloc))?
-        .arg(explain_flag(alloc))?
-        .arg(bench_argument(alloc, bench))?
-        .arg(stimulus_argument(alloc))
+        .args(vec![in alloc;
+            until_option(alloc),
+            blocks_option(alloc),
+            workers_option(alloc),
+            window_option(alloc),
+            settings_option(alloc),
+            only_option(alloc),
+            stats_option(alloc),
+            progress_flag(alloc),
+            explain_flag(alloc),
+            bench_argument(alloc, bench),
+            stimulus_argument(alloc),
+        ]?)
 }
 
 fn replay_command<'a>(alloc: Global) -> Result<Command<'a>, AllocError>
@@ -181,14 +183,16 @@ fn replay_command<'a>(alloc: Global) -> Result<Command<'a>, AllocError>
     let schedule = required_argument(alloc, "SCHEDULE", "The events, a line each");
     Command::new(alloc, "replay")
         .about("Plays a schedule of events on a circuit's blocks and writes the value change dump")
-        .arg(until_option(alloc))?
-        .arg(blocks_option(alloc))?
-        .arg(settings_option(alloc))?
-        .arg(only_option(alloc))?
-        .arg(explain_flag(alloc))?
-        .arg(bench_argument(alloc, "The circuit; - for standard input"))?
-        .arg(stimulus)?
-        .arg(schedule)
+        .args(vec![in alloc;
+            until_option(alloc),
+            blocks_option(alloc),
+            settings_option(alloc),
+            only_option(alloc),
+            explain_flag(alloc),
+            bench_argument(alloc, "The circuit; - for standard input"),
+            stimulus,
+            schedule,
+        ]?)
 }
 
 fn check_command<'a>(alloc: Global) -> Result<Command<'a>, AllocError>
@@ -196,9 +200,11 @@ fn check_command<'a>(alloc: Global) -> Result<Command<'a>, AllocError>
 {
     Command::new(alloc, "check")
         .about("Counts the parts of a circuit")
-        .arg(settings_option(alloc))?
-        .arg(explain_flag(alloc))?
-        .arg(bench_argument(alloc, "The circuit; - for standard input"))
+        .args(vec![in alloc;
+            settings_option(alloc),
+            explain_flag(alloc),
+            bench_argument(alloc, "The circuit; - for standard input"),
+        ]?)
 }
 
 fn nets_command<'a>(alloc: Global) -> Result<Command<'a>, AllocError>
@@ -206,9 +212,11 @@ fn nets_command<'a>(alloc: Global) -> Result<Command<'a>, AllocError>
 {
     Command::new(alloc, "nets")
         .about("Says of each net its number, code and name, what sets it, its delay and its block")
-        .arg(settings_option(alloc))?
-        .arg(explain_flag(alloc))?
-        .arg(bench_argument(alloc, "The circuit; - for standard input"))
+        .args(vec![in alloc;
+            settings_option(alloc),
+            explain_flag(alloc),
+            bench_argument(alloc, "The circuit; - for standard input"),
+        ]?)
 }
 
 fn scope_option<'a>(alloc: Global) -> Arg<'a>
@@ -341,19 +349,20 @@ fn begun_comparison<'a>(alloc: Global) -> Command<'a>
 fn compare_command<'a>(alloc: Global) -> Result<Command<'a>, AllocError>
     ensures { IfOk result (HasShape compare_shape) }
 {
-    begun_comparison(alloc)
-        .arg(scope_option(alloc))?
-        .arg(map_option(alloc))?
-        .arg(from_option(alloc))?
-        .arg(to_option(alloc))?
-        .arg(offset_option(alloc))?
-        .arg(within_option(alloc))?
-        .arg(at_option(alloc))?
-        .arg(any_for_x_flag(alloc))?
-        .arg(list_option(alloc))?
-        .arg(explain_flag(alloc))?
-        .arg(expected_argument(alloc))?
-        .arg(actual_argument(alloc))
+    begun_comparison(alloc).args(vec![in alloc;
+        scope_option(alloc),
+        map_option(alloc),
+        from_option(alloc),
+        to_option(alloc),
+        offset_option(alloc),
+        within_option(alloc),
+        at_option(alloc),
+        any_for_x_flag(alloc),
+        list_option(alloc),
+        explain_flag(alloc),
+        expected_argument(alloc),
+        actual_argument(alloc),
+    ]?)
 }
 
 /// The program's command line, as `clap` reads it.

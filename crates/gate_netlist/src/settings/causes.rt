@@ -53,14 +53,11 @@ fn has_unknown_key(table: &Table) -> bool
 fn is_unknown_top(key: &str, value: &Value) -> bool
     ensures { result ≡ is_unknown_top key.now (view value.now) }
 {
-    if key == "default" {
-        false
-    } else if key == "clock" || key == "scope" {
-        !value.is_str()
-    } else if key == "gate" || key == "net" || key == "block" || key == "clocks" || key == "init" {
-        !value.is_table()
-    } else {
-        true
+    match key {
+        "default" => false,
+        "clock" | "scope" => !value.is_str(),
+        "gate" | "net" | "block" | "clocks" | "init" => !value.is_table(),
+        _ => true,
     }
 }
 
