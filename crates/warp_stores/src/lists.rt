@@ -10,7 +10,7 @@ ghost use Rattle.warp_stores.specs.Shown.Stops.{dated};
 
 use crate::batch::Batch;
 use crate::place::part;
-use crate::room::{count_words, widen_all};
+use crate::room::{count_words, widen_all, widen_full};
 use crate::spans::{cut_all, note_lens, push_spans};
 use crate::stop::Stop;
 use crate::word::Word;
@@ -26,6 +26,8 @@ pub struct Lists {
     lens: Vec<usize>,
     // how many of these came to each
     counts: Vec<usize>,
+    // the last time of a word that may come: by it a list that is full gets room
+    last: u64,
 }
 
 impl Model for Lists {
@@ -53,6 +55,7 @@ impl Lists {
             lists,
             lens: Vec::new(alloc),
             counts: Vec::new(alloc),
+            last: 0,
         })
     }
 
@@ -71,7 +74,7 @@ impl Lists {
         ensures ok { OnOk result (AreLonger (at time words.now) self.old self.new) }
         ensures err { OnErr result (self.new ≡ self.old) }
     {
-        match push_all(&mut self.lists, time, words) {
+        match push_all(&mut self.lists, self.last, time, words) {
             Ok(()) => Ok(()),
             Err(pushed) => {
                 pop_all(&mut self.lists, &words[..pushed]);
@@ -81,11 +84,12 @@ impl Lists {
     }
 
     /// Gives lists room for the words of a batch, which come up to a time, and for what may come after it up to a last time. Where
-    /// there are few words, or memory is wanted, lists stay as they are.
+    /// memory is wanted, lists stay as they are.
     pub fn make_room(&mut self, batch: &Batch<Word>, time: u64, last: u64)
         ensures { self.new ≡ self.old }
     {
         let places = self.lists.len();
+        self.last = last;
         if batch.words.len() < places {
             return;
         }
@@ -116,6 +120,7 @@ impl Lists {
     {
         match push_batch(
             &mut self.lists,
+            self.last,
             batch.stops.as_slice(),
             batch.words.as_slice(),
         ) {
@@ -156,6 +161,7 @@ impl Lists {
             lists,
             lens: Vec::new(alloc),
             counts: Vec::new(alloc),
+            last: self.last,
         })
     }
 
@@ -217,15 +223,16 @@ pub(crate) fn push_one(
     Ok(())
 }
 
-/// Puts the words of a time behind the lists of their places. An error is a refused growth, and says how many words were
-/// put.
-fn push_all(lists: &mut Vec<Vec<Change>>, time: u64, words: &[Word]) -> Result<(), usize>
+/// Puts the words of a time behind the lists of their places. A list that is full gets room for what may come up to a last time.
+/// An error is a refused growth, and says how many words were put.
+fn push_all(lists: &mut Vec<Vec<Change>>, last: u64, time: u64, words: &[Word]) -> Result<(), usize>
     requires { All (λ word. word.place < length lists.old.items) words.now }
     ensures ok { OnOk result (AreLonger (at time words.now) (lists_of lists.old.items) (lists_of lists.new.items)) }
     ensures within { IfErr result (λ pushed. pushed ≤ length words.now) }
     ensures err { IfErr result (λ pushed. AreLonger (at time (take pushed words.now)) (lists_of lists.old.items) (lists_of lists.new.items)) }
 {
     for (pushed, word) in words.iter().enumerate() {
+        widen_full(lists, word.place() as usize, time, last);
         match push_one(lists, time, *word) {
             Ok(()) => {}
             Err(_) => return Err(pushed),
@@ -234,9 +241,14 @@ fn push_all(lists: &mut Vec<Vec<Change>>, time: u64, words: &[Word]) -> Result<(
     Ok(())
 }
 
-/// Puts the words of stops behind the lists of their places. An error is a refused growth, and says how many words were
-/// put.
-fn push_batch(lists: &mut Vec<Vec<Change>>, stops: &[Stop], words: &[Word]) -> Result<(), usize>
+/// Puts the words of stops behind the lists of their places. A list that is full gets room for what may come up to a last time.
+/// An error is a refused growth, and says how many words were put.
+fn push_batch(
+    lists: &mut Vec<Vec<Change>>,
+    last: u64,
+    stops: &[Stop],
+    words: &[Word],
+) -> Result<(), usize>
     requires whole { total stops.now ≡ length words.now }
     requires fits { total stops.now < 2 ^ 64 }
     requires within { All (λ word. word.place < length lists.old.items) words.now }
@@ -247,7 +259,7 @@ fn push_batch(lists: &mut Vec<Vec<Change>>, stops: &[Stop], words: &[Word]) -> R
     let mut pushed = 0;
     for stop in stops {
         let end = pushed + stop.count() as usize;
-        match push_all(lists, stop.time(), part(words, pushed, end)) {
+        match push_all(lists, last, stop.time(), part(words, pushed, end)) {
             Ok(()) => pushed = end,
             Err(more) => return Err(pushed + more),
         }

@@ -1,5 +1,5 @@
 //! Room for what comes to lists, made ahead: a list that grows by one change after another moves each time that it is full.
-ghost use Rattle.std.specs.Prelude.{◌≡◌, ◌≤◌, OnOk, length, vec_len};
+ghost use Rattle.std.specs.Prelude.{◌≡◌, ◌≤◌, ◌<◌, OnOk, length, vec_len};
 ghost use Rattle.warp_stores.specs.Shown.Lists.{lists_of};
 
 use crate::word::Word;
@@ -41,7 +41,15 @@ pub(crate) fn widen_all(lists: &mut Vec<Vec<Change>>, more: &[usize], time: u64,
     }
 }
 
-/// The same of one list.
+/// Gives the list of a place, where it is full at a time, such room.
+pub(crate) fn widen_full(lists: &mut Vec<Vec<Change>>, place: usize, time: u64, last: u64)
+    requires { place < length lists.old.items }
+    ensures { lists_of lists.new.items ≡ lists_of lists.old.items }
+{
+    widen(&mut lists[place], 1, time, last);
+}
+
+/// Gives a list that comes to be longer by so many changes such room.
 fn widen(list: &mut Vec<Change>, more: usize, time: u64, last: u64)
     ensures { list.new.items ≡ list.old.items }
 {
