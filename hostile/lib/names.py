@@ -16,9 +16,8 @@ from memory import programs
 NAMES = 20
 ORDERS = tuple("".join(random.Random(seed).sample("abcdefgh", 8)) for seed in range(40))
 
-# So many names have one hash where a map takes the kit's own hasher, whose seed is fixed; reading them takes at most so
-# many times the instructions of reading the same letters in another order.
-COLLIDING = 48
+# So many names, which a hasher with a fault gives one hash, take at most so many times the instructions of as many plain ones.
+COLLIDING, SCATTERED = 48, 192
 MOST = 1.15
 SEED, MULTIPLIER = 0x243F6A8885A308D3, 0x9E3779B97F4A7C15
 WORD = 2**64 - 1
@@ -36,7 +35,7 @@ class Text:
 
     def words(self, program, players, names, first, last):
         lines = lambda form: "".join(form.format(name=name) for name in names)
-        made = lambda text: text.format(lines=lines(self.line), first=first, end=last).encode()
+        made = lambda text: text.format(lines=lines(self.line), first=first, end=last).encode("latin-1")
         files = [players.file(made(text)) for text in (self.bench, self.stimulus) if text]
         return (program, *(("run", "--until", "0", "--workers", "1") if self.stimulus else ("check",)), *files)
 
@@ -76,6 +75,26 @@ def colliding(count):
             found.append((first + fixed + makes_up + fixed).decode())
         number += 1
     return found
+
+
+def scattered(count, byte, length=10):
+    """Names of as many bytes, half of which are this one, at other places in each."""
+    places = random.Random(1)
+    found = {}
+    while len(found) < count:
+        chosen = {*places.sample(range(length), length // 2)}
+        found["".join(byte if place in chosen else "a" for place in range(length))] = None
+    return list(found)
+
+
+def picked():
+    """What names are, their text, the names, and as many plain ones: names of one hash under the kit's own hasher, whose seed is
+    fixed, and names that are one to a hasher that passes over what ends a name, or over a byte 0."""
+    names = colliding(COLLIDING)
+    yield "of one hash", TEXTS[0], names, [name[::-1] for name in names]
+    plain = scattered(SCATTERED, "b")
+    yield "of vectors with bytes 255", TEXTS[1], scattered(SCATTERED, "\xff"), plain
+    yield "of vectors with bytes 0", TEXTS[1], scattered(SCATTERED, "\0"), plain
 
 
 def counted(counter, words):
@@ -128,15 +147,16 @@ def judge(text, answers):
     return faults, f"{counts['whole'][0]:,} instructions, {told}", len(every)
 
 
-def play_colliding(players, score, program, counter):
-    """Names of one hash are read like any others."""
-    text, names = TEXTS[0], colliding(COLLIDING)
-    plain = [name[::-1] for name in names]
-    some = tuple((counter, text.words(program, players, given, "a", "a")) for given in (names, plain))
-    (first, status, _), (other, _, _) = players.pool.apply(counted_pair, (some,))
-    faults = [] if other and first <= MOST * other and status == text.status else ["too many instructions"]
-    what = f"{first:,} instructions, {other:,} for the same letters in another order"
-    score.tell("names", f"{os.path.basename(program)}, {COLLIDING} names of one hash", faults, what, 2)
+def play_picked(players, score, program, counter):
+    """Names that were picked are read like any others."""
+    kinds = [*picked()]
+    tasks = [tuple((counter, text.words(program, players, names, "a", "a")) for names in both) for _, text, *both in kinds]
+    for (which, text, names, _), ((first, status, err), (other, _, _)) in zip(kinds, players.pool.imap(counted_pair, tasks)):
+        faults = [] if status == text.status and text.err in (b"", err) else [f"status {status}, {err!r}"]
+        if not other or first > MOST * other:
+            faults.append("too many instructions")
+        what = f"{first:,} instructions, {other:,} for as many plain ones"
+        score.tell("names", f"{os.path.basename(program)}, {len(names)} names {which}", faults, what, 2)
 
 
 def play_all(players, score, is_long):
@@ -149,4 +169,4 @@ def play_all(players, score, is_long):
         for text, answers in zip(TEXTS, players.pool.imap(tried, tasks)):
             faults, what, runs = judge(text, answers)
             score.tell("names", f"{os.path.basename(program)}, {text.what}", faults, what, runs)
-        play_colliding(players, score, program, counter)
+        play_picked(players, score, program, counter)
