@@ -12,6 +12,9 @@ const FEW: usize = 16;
 /// A list gets room for at most so many times what it needs.
 const MOST: usize = 8;
 
+/// A list of at most so many changes is sooner copied than let grow where it lies.
+const SHORT: usize = 4096;
+
 /// Counts the words of each of so many places, in place of what was counted. An error is a refused growth.
 pub(crate) fn count_words(
     counts: &mut Vec<usize>,
@@ -58,8 +61,21 @@ fn widen(list: &mut Vec<Change>, more: usize, time: u64, last: u64)
     if need <= list.capacity() {
         return;
     }
-    let room = room_for(len, need, time, last);
-    let _ = list.reserve_exact(room.saturating_sub(len));
+    let _ = grow(list, room_for(len, need, time, last));
+}
+
+/// Gives a list room for so many changes, or for more. A short one moves into what the calling thread makes: to grow what another
+/// thread has made would wait for all that grow such. An error is a refused growth; then the list stays.
+fn grow(list: &mut Vec<Change>, room: usize) -> Result<(), AllocError>
+    ensures { list.new.items ≡ list.old.items }
+{
+    if list.len() > SHORT {
+        return list.reserve_exact(room.saturating_sub(list.len()));
+    }
+    let mut moved = Vec::with_capacity(*list.allocator(), room)?;
+    moved.extend_from_slice(list.as_slice())?;
+    *list = moved;
+    Ok(())
 }
 
 /// For how many changes a list gets room that has so many and needs more: for as many as it has at a last time if it goes on as
