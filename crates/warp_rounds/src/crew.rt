@@ -176,7 +176,7 @@ impl Crew {
         requires floor { order.floor < never }
         ensures { IfErr result (IsRoundFault (length sites.now) order.workers order.floor order.window) }
     {
-        let pace = Pace::of(order.lead, order.blocks, order.workers, &self.front);
+        let pace = Pace::of(order.lead, order.blocks, order.workers, place, &self.front);
         let mut told: Option<Played> = None;
         for _ in rt.forever() {
             let Some(drawn) = self.draw(rt, place, told) else {

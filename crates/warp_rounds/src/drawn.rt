@@ -13,6 +13,9 @@ use std::sync::Wait;
 /// So many blocks are looked at for a draw at most.
 const LOOKS: u32 = 1 << 10;
 
+/// So many blocks are looked at for one that has something to do, where a number is drawn whose block has had its turn.
+const SEEN: usize = 16;
+
 /// What turns tell.
 #[derive(Clone, Copy)]
 pub struct Played {
@@ -34,8 +37,9 @@ impl Played {
     }
 }
 
-/// Lets the block that a number stands for take a turn, and where that is short, so do the blocks of a group that have something to
-/// do, again and again. What they send is delivered. As a lap begins, all are asked how far they have come.
+/// Lets a block take a turn for a number, in the first lap the one that the number stands for, and where that is short, so do the blocks
+/// of its group that have something to do, again and again. What they send is delivered. As a lap begins, all are asked how far they have
+/// come.
 pub(crate) fn play_drawn<G: Gate, R: Wait>(
     rt: &R,
     sites: &[Site],
@@ -50,16 +54,21 @@ pub(crate) fn play_drawn<G: Gate, R: Wait>(
     ensures visits { IfOk result (λ played. AreVisits floor window played.least) }
     ensures fault { IfErr result (IsWorkFault (length sites.now) floor window) }
 {
-    let block = block_of(number, sites.len());
-    if block == 0 {
+    let own = block_of(number, sites.len());
+    if own == 0 {
         pace.meet(sites);
     }
+    let block = if (number as usize) < sites.len() {
+        own
+    } else {
+        busy(sites, own, floor, pace)
+    };
     let reach = pace.reach(sites[block].sure(sites, floor));
     let drawn = play(rt, sites, block, desk, floor, window, reach, gate)?;
     if !drawn.tally.is_short() {
         return Ok(drawn);
     }
-    let Some(first) = claimed(sites, number, pace.group()) else {
+    let Some(first) = claimed(sites, block, pace.group()) else {
         return Ok(drawn);
     };
     let played = go_over(rt, sites, first, drawn, desk, floor, window, pace, gate);
@@ -75,13 +84,35 @@ fn block_of(number: u32, blocks: usize) -> usize
     number as usize % blocks
 }
 
-// Claims a group of blocks: that of a number, or where another worker has it, one of the next. The answer is its first block.
-fn claimed(sites: &[Site], number: u32, group: usize) -> Option<usize>
+// The block that takes a turn for a number that all have been drawn before: from the worker's home on the first that has something to do,
+// of some. Where none of these has, it's the number's own, or one that nobody visits.
+fn busy(sites: &[Site], own: usize, floor: u64, pace: &Pace<'_>) -> usize
+    requires { own < length sites.now }
+    ensures { result < length sites.now }
+{
+    let mut idle = own;
+    for step in 0..SEEN.min(sites.len()) {
+        let block = pace.home().saturating_add(step) % sites.len();
+        let site = &sites[block];
+        if site.has_work(sites, floor, pace.until()) {
+            return block;
+        }
+        site.stays(sites, floor);
+        if sites[idle].signs().is_visited() {
+            idle = block;
+        }
+    }
+    idle
+}
+
+// Claims a group of blocks: that of a block, or where another worker has it, one of the next. The answer is its first block.
+fn claimed(sites: &[Site], block: usize, group: usize) -> Option<usize>
     ensures { IfSome result (λ first. first < length sites.now) }
 {
-    let groups = sites.len().div_ceil(group.max(1));
+    let group = group.max(1);
+    let groups = sites.len().div_ceil(group);
     for tried in 0..groups {
-        let next = (number as usize).wrapping_add(tried) % groups;
+        let next = (block / group).saturating_add(tried) % groups;
         let first = next.saturating_mul(group);
         if let Some(site) = sites.get(first) {
             if site.signs().claim() {
@@ -153,6 +184,7 @@ fn play_near<G: Gate, R: Wait>(
 {
     let site = &sites[block];
     if !site.has_work(sites, floor, pace.until()) {
+        site.stays(sites, floor);
         return Ok(before);
     }
     let reach = pace.reach(site.sure(sites, floor)).short();

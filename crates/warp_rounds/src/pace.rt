@@ -363,24 +363,43 @@ impl Lead {
     }
 }
 
-/// The pace of a round, how many neighbouring blocks are a group, and about how far all blocks have come.
+/// The pace of a worker in a round, how many neighbouring blocks are a group, where it looks first for something to do, and about how far
+/// all blocks have come.
 #[derive(Clone, Copy)]
 pub(crate) struct Pace<'a> {
     lead: Lead,
     group: usize,
+    home: usize,
     front: &'a AtomicU64,
 }
 
 impl<'a> Pace<'a> {
-    /// The pace of a round, over so many blocks by so many workers, whose blocks have come as far as a word says.
-    pub(crate) fn of(lead: Lead, blocks: usize, workers: u32, front: &'a AtomicU64) -> Pace<'a> {
-        let group = (blocks / workers.max(1) as usize).clamp(1, GROUP);
-        Pace { lead, group, front }
+    /// The pace of a worker at its place in a round, over so many blocks by so many workers, whose blocks have come as far as a word
+    /// says. Each worker has a home among the blocks: those that it visits again and again lie near its processor.
+    pub(crate) fn of(
+        lead: Lead,
+        blocks: usize,
+        workers: u32,
+        place: usize,
+        front: &'a AtomicU64,
+    ) -> Pace<'a> {
+        let workers = workers.max(1) as usize;
+        Pace {
+            lead,
+            group: (blocks / workers).clamp(1, GROUP),
+            home: blocks.saturating_mul(place) / workers,
+            front,
+        }
     }
 
     /// How many neighbouring blocks are a group.
     pub(crate) fn group(&self) -> usize {
         self.group
+    }
+
+    /// The block from which on the worker looks for something to do.
+    pub(crate) fn home(&self) -> usize {
+        self.home
     }
 
     /// How often a round of so many workers goes over the blocks.

@@ -33,9 +33,11 @@ use warp_block::{Block, Part};
 use warp_core::gather_by;
 
 /// The waves of a circuit under a stimulus, from time 0 to the horizon, which is at most 10^12. The blocks of the cut
-/// run ahead on their own in rounds. In each, up to `workers` workers (1 to 64) draw the blocks, each once or some times, and a
-/// block that is drawn takes a turn at the round's floor, of as many event times as fit it and at most `window` (1 to 1,000,000),
-/// as [`Site::visit`] says; where it is a short one, so do blocks near by that have something to do. One worker is the caller's thread, each other one has a thread of its own. The gate is lent each block before its turn and after it.
+/// run ahead on their own in rounds. In each, up to `workers` workers (1 to 64) draw the blocks, each once or some times. For a draw
+/// a block takes a turn at the round's floor, of as many event times as fit it and at most `window` (1 to 1,000,000), as
+/// [`Site::visit`] says: the first time it's the block that was drawn, later on one that has something to do. Where the turn is a short
+/// one, blocks near by that have something to do take turns too. One worker is the caller's thread, each other one has a thread of its
+/// own. The gate is lent each block before its turn and after it.
 ///
 /// The floor starts at 0, and each round's least time becomes the next one's. When it is past the horizon the blocks are
 /// gathered, up to `workers` threads looking at them side by side. The answer of a run that ends without a fault is the

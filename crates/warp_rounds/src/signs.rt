@@ -9,7 +9,7 @@ use std::sync::atomic::{AtomicBool, AtomicU64};
 #[derive(Drop)]
 pub(crate) struct Signs {
     before: [u64; 8],
-    /// Up to when nothing will be taken back that the block tells, as its last visit knew.
+    /// Up to when nothing will be taken back that the block tells, as far as is known.
     settled: AtomicU64,
     /// The least time of what has come since its last visit began.
     mail: AtomicU64,
@@ -36,14 +36,15 @@ impl Signs {
         }
     }
 
-    /// Up to when nothing will be taken back that the block tells, as its last visit knew.
+    /// Up to when nothing will be taken back that the block tells, as far as is known.
     pub(crate) fn settled(&self) -> u64 {
         self.settled.load(SeqCst)
     }
 
-    /// Says up to when nothing will be taken back that the block tells. All that it told below is in the inboxes.
+    /// Says up to when nothing will be taken back that the block tells. All that it told below is in the inboxes. The latest that was
+    /// said stands.
     pub(crate) fn settle(&self, until: u64) {
-        self.settled.store(until, SeqCst);
+        self.settled.fetch_max(until, SeqCst);
     }
 
     /// A message of a time lies in the inbox.

@@ -258,6 +258,15 @@ impl Site {
         time < u64::MAX
     }
 
+    /// Says of a block that has nothing to do yet, if nobody visits it, up to when nothing will be taken back that it tells.
+    pub(crate) fn stays(&self, sites: &[Site], floor: u64) {
+        let sure = self.sure(sites, floor);
+        let first = self.signs.first();
+        if !self.signs.is_visited() {
+            self.signs.settle(first.min(sure));
+        }
+    }
+
     /// What others see of it.
     pub(crate) fn signs(&self) -> &Signs {
         &self.signs

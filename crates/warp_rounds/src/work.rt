@@ -41,7 +41,7 @@ pub(crate) fn play_alone<G: Gate, R: Wait>(
     ensures fault { IfErr result (IsRoundFault (length sites.now) 1 order.floor order.window) }
 {
     let front = AtomicU64::new(order.floor);
-    let pace = Pace::of(order.lead, sites.len(), 1, &front);
+    let pace = Pace::of(order.lead, sites.len(), 1, 0, &front);
     let draws = draws_of(sites.len() as u32, pace.laps(1));
     let (round, mut seats) = Round::new(alloc, draws, 1)?;
     let Some(seat) = seats.pop() else {
