@@ -16,7 +16,8 @@ use crate::wiring::Wiring;
 use gate_values::Logic;
 use warp_stores::{PLACES, Word};
 
-/// Puts out a value: where it is another than the last one, the change goes to the place's queue.
+/// Puts out a value: where it is another than the last one, the change goes to the place's queue. There is no branch, since
+/// whether it is can't be foreseen.
 #[inline]
 pub(crate) fn put_out(front: &mut Front, place: u32, value: Logic, puts: &mut Vec<Put>)
     requires place { place < PLACES }
@@ -26,12 +27,12 @@ pub(crate) fn put_out(front: &mut Front, place: u32, value: Logic, puts: &mut Ve
     ensures room { vec_len puts.new ≤ vec_len puts.old + 1 }
     ensures capacity { vec_capacity puts.new ≡ vec_capacity puts.old }
 {
-    if value != front.output {
-        puts.push_reserved(Put {
-            queue: front.queue,
-            word: Word::new(place, front.output, value),
-        });
-    }
+    let len = puts.len();
+    puts.push_reserved(Put {
+        queue: front.queue,
+        word: Word::new(place, front.output, value),
+    });
+    puts.truncate(len + usize::from(value != front.output));
     front.output = value;
     front.is_stale = false;
 }

@@ -34,7 +34,8 @@ pub(crate) fn show(fronts: &mut [Front], edges: &[u32], value: Logic)
     }
 }
 
-/// Lists an edge, unless its place is stale, and so has one in the list.
+/// Lists an edge, unless its place is stale, and so has one in the list. There is no branch, since whether it is can't be
+/// foreseen.
 #[inline]
 fn list(edge: u32, front: Front, stale: &mut Vec<u32>)
     requires { vec_len stale.old < vec_capacity stale.old }
@@ -42,9 +43,9 @@ fn list(edge: u32, front: Front, stale: &mut Vec<u32>)
     ensures room { vec_len stale.new ≤ vec_len stale.old + 1 }
     ensures capacity { vec_capacity stale.new ≡ vec_capacity stale.old }
 {
-    if !front.is_stale {
-        stale.push_reserved(edge);
-    }
+    let len = stale.len();
+    stale.push_reserved(edge);
+    stale.truncate(len + usize::from(!front.is_stale));
 }
 
 /// Shows a value along some edges, and lists one to each place that wasn't stale.
