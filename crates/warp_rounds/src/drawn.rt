@@ -1,5 +1,5 @@
-//! What a worker does for a draw: the block that was drawn takes a turn, and where that is short, so do those near it that have
-//! something to do.
+//! What a worker does for a draw: in a round's first lap the block that was drawn takes a turn, later on one that has something to
+//! do; and where the turn is short, so do those near it that have something to do.
 ghost use Rattle.std.specs.Prelude.{◌≡◌, ◌<◌, min, IfOk, IfErr, IfSome, length};
 ghost use Rattle.warp_rounds.specs.Inner.Work.{AreVisits, IsWorkFault};
 
