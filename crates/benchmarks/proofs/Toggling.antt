@@ -1,7 +1,7 @@
 -- One change more ends one list later.
 use Rattle.std.proofs.Common.{◌≡◌, ◌≢◌, ℕ, ◌+◌, ◌<◌, ◌≤◌, ◌⊎◌, inl, inr, List, [], ◌∷◌, ◌++◌, length, slice_set, refl, arith, get_or-set_same, get_or-set_other}
 use Rattle.gate_values.specs.declared.logic.Change.{Change}
-use Rattle.gate_vcd.specs.Waves.{wave_of, end_time}
+use Rattle.net_waves.specs.Waves.{wave_of, end_time}
 
 end_time-push : (from : ℕ) (cs : List Change) (c : Change) → end_time from (cs ++ c ∷ []) ≡ c.time + 1
 end_time-push from [] c = refl

@@ -3,7 +3,7 @@
 use crate::timer::{self, report};
 use anyhow::{Result, bail};
 use gate_values::{Change, Logic};
-use gate_vcd::{Waves, are_waves};
+use net_waves::{Waves, are_waves};
 use std::alloc::{AllocError, Global};
 use std::rt::Clock;
 

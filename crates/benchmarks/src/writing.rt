@@ -2,13 +2,15 @@
 
 ghost use Rattle.std.specs.Prelude.{◌≡◌, ℕ, ◌+◌, ◌<◌, ◌≤◌, length, IfOk, OnOk};
 ghost use Rattle.gate_netlist.specs.Circuit.{nets_of};
-ghost use Rattle.gate_vcd.specs.Waves.{wave_of, end_time};
+ghost use Rattle.net_waves.specs.Waves.{wave_of, end_time};
 
 use crate::circuits::{self, Given};
 use crate::timer::{self, report};
 use anyhow::Result;
+use byte_sinks::Grow;
 use gate_values::{Change, Logic};
-use gate_vcd::{Grow, Waves, write_vcd};
+use gate_vcd::write_vcd;
+use net_waves::Waves;
 use std::alloc::{AllocError, Global};
 use std::rt::Clock;
 

@@ -3,11 +3,11 @@ use Rattle.std.proofs.Common.{◌≡◌, ◌≢◌, ℕ, zero, suc, ◌+◌, ◌
 use Rattle.std.proofs.lemmas.List.{ext_get_or, get_or-map, get_or_past, length-map, length-replicate, map-append, map-set, set-get_or, take_more}
 use Rattle.gate_values.specs.declared.logic.Change.{Change}
 use Rattle.gate_vcd.specs.declared.fault.StimFault.{StimFault}
-use Rattle.gate_vcd.specs.declared.timeline.Stop.{Stop}
+use Rattle.net_waves.specs.declared.timeline.Stop.{Stop}
 use Rattle.gate_vcd.specs.Inner.Bundles.{change_by, stop_by, waiting_in, with_change, with_own, with_stop, with_stops, with_waiting}
 use Rattle.gate_vcd.specs.Inner.Settled.{settled}
-use Rattle.gate_vcd.specs.Waves.{lists_in}
-use Rattle.gate_vcd.proofs.Compared.{cases_eq, eq_false, eq_true}
+use Rattle.net_waves.specs.Waves.{lists_in}
+use Rattle.net_waves.proofs.Compared.{cases_eq, eq_false, eq_true}
 use Rattle.gate_vcd.proofs.Keeping.{one_more}
 
 either_way : {A : Type 0} (b : Bool) (x : A) → cond b x x ≡ x

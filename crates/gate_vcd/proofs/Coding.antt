@@ -1,7 +1,7 @@
 -- Laws of codes.
 use Rattle.std.proofs.Common.{◌≡◌, ℕ, zero, suc, ◌+◌, ◌-◌, ◌*◌, ◌/◌, ◌%◌, ◌<◌, ◌≤◌, inl, inr, Bool, true, false, cond, nat_lt, List, [], ◌∷◌, length, refl, ap, sym, ◌∙◌, arith}
 use Rattle.gate_vcd.specs.Codes.{code_within, code_of}
-use Rattle.gate_vcd.proofs.Compared.{lt_true, lt_false, cases_lt}
+use Rattle.net_waves.proofs.Compared.{lt_true, lt_false, cases_lt}
 
 -- how many nets have a code of at most so many bytes
 abbrev room : ℕ → ℕ

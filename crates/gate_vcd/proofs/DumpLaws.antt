@@ -10,7 +10,7 @@ use Rattle.gate_vcd.specs.declared.timescale.Unit.{Unit}
 use Rattle.gate_vcd.specs.declared.timescale.Unit.TheVariants as units
 use Rattle.gate_vcd.specs.Timescales.{unit_name}
 use Rattle.gate_vcd.specs.Codes.{code_of}
-use Rattle.gate_vcd.specs.Waves.{wave_of, wave_value}
+use Rattle.net_waves.specs.Waves.{wave_of, wave_value}
 use Rattle.gate_vcd.specs.Dump.{stamp, value_line, var_line, var_lines, timescale_line, scope_line, header, first_lines, has_change, some_change, change_lines, moment, moments, dump_text}
 use Rattle.gate_vcd.proofs.Coding.{length-code_of}
 use Rattle.gate_vcd.proofs.WaveValues.{latest-changes}

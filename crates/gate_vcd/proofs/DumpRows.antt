@@ -8,7 +8,7 @@ use Rattle.gate_values.specs.declared.logic.Change.{Change}
 use Rattle.gate_values.specs.Changes.{latest}
 use Rattle.gate_vcd.specs.Timescales.{default_timescale}
 use Rattle.gate_vcd.specs.Codes.{code_of}
-use Rattle.gate_vcd.specs.Waves.{wave_value}
+use Rattle.net_waves.specs.Waves.{wave_value}
 use Rattle.gate_vcd.specs.Dump.{dump_text, header, var_lines, first_lines, some_change, change_lines, moment, moments}
 
 at : ℕ → Logic → Change

@@ -21,7 +21,7 @@ use Rattle.gate_vcd.specs.Changes.{Source}
 use Rattle.gate_vcd.specs.Inner.Known.{flat}
 use Rattle.gate_vcd.specs.Shown.Known.{source_by, sources_by}
 use Rattle.gate_vcd.specs.Inner.Scalars.{AreScalars, is_net, scalar_if, source_at, without_index}
-use Rattle.gate_vcd.proofs.Compared.{eq_true}
+use Rattle.net_waves.proofs.Compared.{eq_true}
 use Rattle.gate_vcd.proofs.Keeping.{position-some, same_bytes}
 
 pub same_tests : (a b : Bool) → (a ≡ true → b ≡ true) → (b ≡ true → a ≡ true) → a ≡ b

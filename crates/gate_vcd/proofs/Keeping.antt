@@ -14,7 +14,7 @@ use Rattle.gate_values.specs.declared.logic.Change.{Change}
 use Rattle.gate_values.specs.Changes.{changes, latest}
 use Rattle.gate_vcd.specs.Changes.{Event, Source, changes_with, change_of, value_with, last_stamp}
 use Rattle.gate_vcd.specs.Inner.Items.{AreKept}
-use Rattle.gate_vcd.specs.Waves.{lists_in}
+use Rattle.net_waves.specs.Waves.{lists_in}
 use Rattle.gate_vcd.proofs.Links.{slice_get-within}
 use Rattle.gate_vcd.proofs.Settling.{AreUpTo}
 

@@ -2,11 +2,11 @@
 use Rattle.std.proofs.Common.{◌≡◌, ℕ, suc, ◌≤◌, ◌<◌, List, length, sym, subst}
 use Rattle.std.specs.List.{AllByRecursion}
 use Rattle.gate_values.specs.declared.logic.Change.{Change}
-use Rattle.gate_vcd.specs.Waves.{wave_of, wave_value, IsWave, IsUntil}
-use Rattle.gate_vcd.specs.declared.timeline.Stop.{Stop}
-use Rattle.gate_vcd.specs.Inner.Waves.{AreStopsOf}
-use Rattle.gate_vcd.specs.Inner.Keys.{AreKeys, stops_of_keys}
-use Rattle.gate_vcd.proofs.KeyLaws.{keys-rise}
+use Rattle.net_waves.specs.Waves.{wave_of, wave_value, IsWave, IsUntil}
+use Rattle.net_waves.specs.declared.timeline.Stop.{Stop}
+use Rattle.net_waves.specs.Stops.{AreStopsOf}
+use Rattle.net_waves.specs.Keys.{AreKeys, stops_of_keys}
+use Rattle.net_waves.proofs.KeyLaws.{keys-rise}
 use Rattle.gate_vcd.proofs.PackedWalk.{rising-same}
 use Rattle.gate_vcd.proofs.Stops.{all_stops, all_stops-rising, known_below}
 use Rattle.gate_vcd.proofs.WaveValues.{stops_are}

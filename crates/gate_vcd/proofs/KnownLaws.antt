@@ -17,7 +17,7 @@ use Rattle.gate_vcd.specs.declared.known.KnownCodes.{KnownCodes}
 use Rattle.gate_vcd.specs.declared.source.Source.{Source as Held}
 use Rattle.gate_vcd.specs.Inner.Known.{AreFallingNets, AreLinked, AreNumbers, IsLeast, IsLinked, IsNumber, Takes, flat, in_order, knows, last_below, sources_in}
 use Rattle.gate_vcd.specs.Shown.Known.{is_of, is_used, source}
-use Rattle.gate_vcd.proofs.Compared.{cases_eq}
+use Rattle.net_waves.proofs.Compared.{cases_eq}
 use Rattle.gate_vcd.proofs.Keeping.{same_bytes}
 use Rattle.gate_vcd.proofs.InputLaws.{any-more, both_true, one_code}
 use Rattle.gate_vcd.proofs.Links.{slice_get-front, slice_get-end, slice_get-is, slice_get-within, last_below-front}

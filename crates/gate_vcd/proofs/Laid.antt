@@ -7,8 +7,8 @@ use Rattle.gate_values.specs.declared.logic.Change.{Change}
 use Rattle.gate_values.specs.Changes.{latest}
 use Rattle.gate_vcd.specs.declared.timescale.Timescale.{Timescale}
 use Rattle.gate_vcd.specs.Changes.{last_stamp}
-use Rattle.gate_vcd.specs.Waves.{lists_in}
-use Rattle.gate_vcd.specs.Inner.Lists.{IsRising}
+use Rattle.net_waves.specs.Waves.{lists_in}
+use Rattle.net_waves.specs.Inner.Lists.{IsRising}
 use Rattle.gate_vcd.specs.Given.{AreItsChanges, changes_of}
 use Rattle.gate_vcd.specs.Inner.Held.{AreLaidOut}
 use Rattle.gate_vcd.specs.Shown.Held.{given_by}

@@ -13,7 +13,7 @@ use Rattle.gate_values.specs.declared.logic.Logic.{Logic}
 use Rattle.gate_values.specs.declared.logic.Logic.TheVariants.{X}
 use Rattle.gate_values.specs.declared.logic.Change.{Change}
 use Rattle.gate_values.specs.Changes.{latest}
-use Rattle.gate_vcd.specs.Inner.Lists.{IsRising}
+use Rattle.net_waves.specs.Inner.Lists.{IsRising}
 
 -- those that aren't later come first
 pub rising-partitioned : (cs : List Change) (t : ℕ) → IsRising cs → IsPartitionedBy (λ (c : Change). nat_le c.time t) cs

@@ -2,7 +2,7 @@
 use Rattle.std.proofs.Common.{◌≡◌, ℕ, zero, suc, ◌<◌, ◌≤◌, inl, inr, Bool, true, false, cond, List, [], ◌∷◌, ◌++◌, length, get_or, slice_get, Option, Some, None, refl, ap, sym, ◌∙◌, arith}
 use Rattle.std.specs.Option.{option_map_or}
 use Rattle.gate_vcd.specs.Inner.Known.{last_below}
-use Rattle.gate_vcd.proofs.Compared.{cases_eq}
+use Rattle.net_waves.proofs.Compared.{cases_eq}
 
 -- one more than a place, and 0 for none
 abbrev pub rank : Option ℕ → ℕ

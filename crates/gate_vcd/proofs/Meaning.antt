@@ -30,8 +30,8 @@ use Rattle.gate_vcd.specs.Vectors.{Bit, bit_of, place_in, vector_of}
 use Rattle.gate_vcd.specs.declared.known.KnownCodes.{KnownCodes}
 use Rattle.std.specs.Option.{option_or}
 use Rattle.gate_vcd.specs.Inputs.{bit_source, first_given, is_scalar_of, scalar_code, source_in, source_of, source_of_net, source_or_fault, sources_below}
-use Rattle.gate_vcd.specs.Waves.{lists_in}
-use Rattle.gate_vcd.specs.Inner.Lists.{IsRising}
+use Rattle.net_waves.specs.Waves.{lists_in}
+use Rattle.net_waves.specs.Inner.Lists.{IsRising}
 use Rattle.gate_vcd.specs.Given.{Given, AreItsChanges, Fits, changes_of, value_at}
 use Rattle.gate_vcd.specs.Inner.Held.{AreLaidOut}
 use Rattle.gate_vcd.specs.Shown.Held.{given_by}

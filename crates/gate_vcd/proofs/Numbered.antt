@@ -4,7 +4,7 @@ use Rattle.std.proofs.lemmas.Bool.Decides.{nat_tests}
 use Rattle.std.proofs.lemmas.Slice.Eq.{bytes_eq-Decides}
 use Rattle.std.specs.List.{list_any, position, position_or_len}
 use Rattle.std.specs.Str.{bytes_eq}
-use Rattle.gate_vcd.proofs.Compared.{lt_true}
+use Rattle.net_waves.proofs.Compared.{lt_true}
 use Rattle.gate_vcd.proofs.InputLaws.{any-more}
 use Rattle.gate_vcd.proofs.Keeping.{position-some, same_bytes}
 

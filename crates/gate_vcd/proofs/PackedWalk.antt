@@ -2,20 +2,20 @@
 use Rattle.std.proofs.Common.{◌≡◌, ℕ, zero, suc, ◌+◌, ◌<◌, ◌≤◌, inl, inr, Bool, true, false, cond, List, [], ◌∷◌, length, map, refl, ap, sym, ◌∙◌, subst, arith}
 use Rattle.std.specs.List.{AllByRecursion}
 use Rattle.gate_values.specs.declared.logic.Change.{Change}
-use Rattle.gate_vcd.specs.Sink.{Held}
-use Rattle.gate_vcd.specs.Waves.{wave_of, wave_value, IsWave, IsUntil}
-use Rattle.gate_vcd.specs.declared.timeline.Stop.{Stop}
-use Rattle.gate_vcd.specs.Inner.Lots.{Lot, Passes}
-use Rattle.gate_vcd.specs.Inner.Timeline.{AtMost, Before, IsRising, is_same, count}
-use Rattle.gate_vcd.specs.Inner.Waves.{AreStopsOf}
-use Rattle.gate_vcd.specs.Inner.Packed.{Packed, IsPacked, told, words_at, told_below, all_told, times}
+use Rattle.byte_sinks.specs.Sink.{Held}
+use Rattle.net_waves.specs.Waves.{wave_of, wave_value, IsWave, IsUntil}
+use Rattle.net_waves.specs.declared.timeline.Stop.{Stop}
+use Rattle.byte_sinks.specs.Lots.{Lot, Passes}
+use Rattle.net_waves.specs.Timeline.{AtMost, Before, IsRising, is_same, count}
+use Rattle.net_waves.specs.Stops.{AreStopsOf}
+use Rattle.net_waves.specs.Packed.{Packed, IsPacked, told, words_at, told_below, all_told, times}
 use Rattle.gate_vcd.specs.Inner.Walk.{walked, last_stop}
-use Rattle.gate_vcd.proofs.Compared.{cases_below}
-use Rattle.gate_vcd.proofs.Counting.{is_same-is, one-self, All-at}
-use Rattle.gate_vcd.proofs.TimelineLaws.{AtMost-refl}
-use Rattle.gate_vcd.proofs.Passing.{passes_then}
+use Rattle.net_waves.proofs.Compared.{cases_below}
+use Rattle.net_waves.proofs.Counting.{is_same-is, one-self, All-at}
+use Rattle.net_waves.proofs.TimelineLaws.{AtMost-refl}
+use Rattle.byte_sinks.proofs.Passing.{passes_then}
 use Rattle.gate_vcd.proofs.Walking.{walked-append, last_stop-append, All-parts}
-use Rattle.gate_vcd.proofs.MergeLaws.{head_is}
+use Rattle.net_waves.proofs.MergeLaws.{head_is}
 use Rattle.gate_vcd.proofs.Stops.{all_stops, all_stops-rising, known_below}
 use Rattle.gate_vcd.proofs.WaveValues.{stops_are}
 

@@ -13,7 +13,7 @@ use Rattle.gate_values.proofs.ChangeLists.{same_is}
 use Rattle.gate_vcd.specs.Changes.{Event, Source, changes_with, change_of, past_end, value_at_place}
 use Rattle.gate_vcd.specs.Inner.Items.{AreGiven, given_after, last_of, makes, reaches}
 use Rattle.gate_vcd.specs.Shown.Known.{is_of}
-use Rattle.gate_vcd.proofs.Compared.{cases_eq, le_true, lt_false}
+use Rattle.net_waves.proofs.Compared.{cases_eq, le_true, lt_false}
 use Rattle.gate_vcd.proofs.Keeping.{same_bytes}
 use Rattle.gate_vcd.proofs.Settling.{AreUpTo, latest-append}
 use Rattle.gate_vcd.proofs.Links.{last_below-passes, last_below-stands, slice_get-is}

@@ -5,10 +5,10 @@ use Rattle.std.proofs.lemmas.Cmp.{nat_cmp_total, tied_itself}
 use Rattle.std.specs.Ordering.{nat_cmp, is_gt, is_lt}
 use Rattle.std.specs.BTreeMap.{get, is_at}
 use Rattle.gate_vcd.specs.declared.runs.Kept.{Kept}
-use Rattle.gate_vcd.specs.Inner.Pairs.{by_pair as in_order}
+use Rattle.net_waves.specs.Inner.Pairs.{by_pair as in_order}
 use Rattle.gate_vcd.specs.Inner.Runs.{Starts, kept_at, is_in}
-use Rattle.gate_vcd.proofs.Compared.{eq_true, eq_false, le_true, le_false, lt_false, cases_eq, cases_lt, cases_three}
-use Rattle.gate_vcd.proofs.Paired.{at_place, at_other}
+use Rattle.net_waves.proofs.Compared.{eq_true, eq_false, le_true, le_false, lt_false, cases_eq, cases_lt, cases_three}
+use Rattle.net_waves.proofs.Paired.{at_place, at_other}
 
 -- ---- what stands at the last start
 

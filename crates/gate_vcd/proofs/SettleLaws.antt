@@ -13,7 +13,7 @@ use Rattle.gate_vcd.specs.Inner.Items.{AreHeld, AreSettled, IsTaken, Taken, make
 use Rattle.gate_vcd.specs.Inner.Settled.{settled}
 use Rattle.gate_vcd.specs.Inner.Known.{AreFalling, AreLinked, knows, last_below, sources_in}
 use Rattle.gate_vcd.specs.Shown.Known.{is_of, source}
-use Rattle.gate_vcd.proofs.Compared.{cases_eq, cases_lt, le_true, le_false}
+use Rattle.net_waves.proofs.Compared.{cases_eq, cases_lt, le_true, le_false}
 use Rattle.gate_vcd.proofs.Keeping.{same_bytes}
 use Rattle.gate_vcd.proofs.Reaching.{reaches-less}
 use Rattle.gate_vcd.proofs.Links.{rank, slice_get-within, slice_get-is, last_below-less, last_below-passes, last_below-stands, last_below-last}

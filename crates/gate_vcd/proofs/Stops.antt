@@ -1,5 +1,5 @@
 -- All changes of some nets up to a time, in the order of time and net; and what is written of them.
-use Rattle.std.proofs.Common.{◌≡◌, ◌≢◌, ℕ, zero, suc, ◌<◌, ◌≤◌, ◌⊎◌, inl, inr, Bool, true, false, cond, not, ◌||◌, ◌&&◌, nat_eq, Some, None, List, [], ◌∷◌, ◌++◌, refl, ap, sym, ◌∙◌, subst, arith, append_assoc}
+use Rattle.std.proofs.Common.{◌≡◌, ◌≢◌, ℕ, zero, suc, ◌<◌, ◌≤◌, inl, inr, Bool, true, false, cond, not, ◌||◌, ◌&&◌, nat_eq, Some, None, List, [], ◌∷◌, ◌++◌, refl, ap, sym, ◌∙◌, subst, arith, append_assoc}
 use Rattle.std.proofs.lemmas.List.{append-nil}
 use Rattle.std.proofs.lemmas.Bool.Decides.{nat_tests}
 use Rattle.std.specs.List.{AllByRecursion}
@@ -7,29 +7,14 @@ use Rattle.gate_values.specs.declared.logic.Logic.{Logic}
 use Rattle.gate_values.specs.Changes.{same, just_before}
 use Rattle.gate_values.proofs.ChangeLists.{change_option}
 use Rattle.gate_vcd.specs.Dump.{stamp, value_line, has_change, some_change, change_lines, moment, moments}
-use Rattle.gate_vcd.specs.declared.timeline.Stop.{Stop}
-use Rattle.gate_vcd.specs.Inner.Timeline.{Before, IsRising, count}
-use Rattle.gate_vcd.specs.Inner.Waves.{marked}
+use Rattle.net_waves.specs.declared.timeline.Stop.{Stop}
+use Rattle.net_waves.specs.Timeline.{IsRising, count}
+use Rattle.net_waves.specs.Stops.{marked}
 use Rattle.gate_vcd.specs.Inner.Walk.{walked, last_stop, tail_line}
-use Rattle.gate_vcd.proofs.Counting.{count-append}
+use Rattle.net_waves.proofs.Counting.{count-append}
+use Rattle.net_waves.proofs.Rising.{All-append, All-weaker, Earlier, rising-push}
 use Rattle.gate_vcd.proofs.Walking.{walked-append, last_stop-append}
-use Rattle.gate_vcd.proofs.Compared.{eq_true, eq_false, lt_true, lt_false, cases_eq, cases_below}
-
-pub All-append : {X : Type 0} (P : X → Type 0) (xs ys : List X) → AllByRecursion P xs → AllByRecursion P ys → AllByRecursion P (xs ++ ys)
-All-append P [] ys a b = b
-All-append P (x ∷ xs) ys a b = (a.0, All-append P xs ys a.1 b)
-
-pub All-weaker : {X : Type 0} (P Q : X → Type 0) (xs : List X) → ((x : X) → P x → Q x) → AllByRecursion P xs → AllByRecursion Q xs
-All-weaker P Q [] h a = tt
-All-weaker P Q (x ∷ xs) h a = (h x a.0, All-weaker P Q xs h a.1)
-
-pub rising-push : (xs : List Stop) (y : Stop) → IsRising xs → AllByRecursion (λ x. Before x y) xs → IsRising (xs ++ y ∷ [])
-rising-push [] y s a = (tt, tt)
-rising-push (x ∷ xs) y s a = (All-append (Before x) xs (y ∷ []) s.0 (a.0, tt), rising-push xs y s.1 a.1)
-
--- a stop that is earlier than net n at time t
-abbrev pub Earlier : ℕ → ℕ → Stop → Type 0
-Earlier t n s = (s.time < t) ⊎ ((s.time ≡ t) × (s.net < n))
+use Rattle.net_waves.proofs.Compared.{eq_true, eq_false, lt_true, lt_false, cases_eq, cases_below}
 
 -- `value n t` is the value of net n at time t
 module _ (value : ℕ → ℕ → Logic) where

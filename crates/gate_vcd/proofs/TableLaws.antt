@@ -6,7 +6,7 @@ use Rattle.std.proofs.lemmas.Slice.Eq.{bytes_eq-Decides}
 use Rattle.std.specs.Str.{bytes_eq}
 use Rattle.gate_vcd.specs.Declarations.{is_code}
 use Rattle.gate_vcd.specs.Inner.Table.{found_at, is_short, short_place, spelled}
-use Rattle.gate_vcd.proofs.Compared.{cases_eq}
+use Rattle.net_waves.proofs.Compared.{cases_eq}
 use Rattle.gate_vcd.proofs.Keeping.{same_bytes}
 
 both : (a b : Bool) → (a && b) ≡ true → (a ≡ true) × (b ≡ true)

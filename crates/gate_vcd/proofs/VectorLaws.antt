@@ -18,7 +18,7 @@ use Rattle.gate_vcd.specs.Inner.Runs.{is_in, kept_at}
 use Rattle.gate_vcd.specs.Inner.Scalars.{AreVectors, kept_source, source_from}
 use Rattle.gate_vcd.specs.Inputs.{first_given, source_in}
 use Rattle.gate_vcd.specs.Vectors.{Vector, Bit, is_between, vector_of}
-use Rattle.gate_vcd.proofs.Compared.{eq_true, eq_false}
+use Rattle.net_waves.proofs.Compared.{eq_true, eq_false}
 use Rattle.gate_vcd.proofs.Keeping.{same_bytes}
 use Rattle.gate_vcd.proofs.Numbered.{grown, grown-more, is_text, number, number-apart, number-known, number-new, number-other, number-own, number-within}
 

@@ -3,13 +3,13 @@ use Rattle.std.proofs.Common.{◌≡◌, ℕ, ◌<◌, List, [], ◌∷◌, ◌+
 use Rattle.std.proofs.lemmas.List.{append-nil}
 use Rattle.std.specs.List.{AllByRecursion}
 use Rattle.gate_values.specs.declared.logic.Logic.{Logic}
-use Rattle.gate_vcd.specs.Sink.{Held}
-use Rattle.gate_vcd.specs.Inner.Lots.{Lot, Passes}
+use Rattle.byte_sinks.specs.Sink.{Held}
+use Rattle.byte_sinks.specs.Lots.{Lot, Passes}
 use Rattle.gate_vcd.specs.Dump.{stamp, value_line}
 use Rattle.gate_vcd.specs.Inner.Walk.{stop_lines, walked, last_stop, IsWalked}
-use Rattle.gate_vcd.specs.declared.timeline.Stop.{Stop}
-use Rattle.gate_vcd.proofs.Passing.{passes_then, passes_none}
-use Rattle.gate_vcd.proofs.Compared.{eq_false}
+use Rattle.net_waves.specs.declared.timeline.Stop.{Stop}
+use Rattle.byte_sinks.proofs.Passing.{passes_then, passes_none}
+use Rattle.net_waves.proofs.Compared.{eq_false}
 
 -- a change at a later time
 pub stop_lines-later : (last t n : ℕ) (v : Logic) → (t ≡ 0 → ⊥) → (t ≡ last → ⊥) → stop_lines last t n v ≡ stamp t ++ value_line v n

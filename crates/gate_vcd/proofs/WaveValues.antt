@@ -6,13 +6,13 @@ use Rattle.gate_values.specs.declared.logic.Logic.TheVariants.{X}
 use Rattle.gate_values.specs.declared.logic.Change.{Change}
 use Rattle.gate_values.specs.Changes.{same, just_before, change_at, changes, latest, last_value, pair_at}
 use Rattle.gate_values.proofs.ChangeLists.{change_option, same_refl, same_is, last_value-changes}
-use Rattle.gate_vcd.specs.Waves.{wave_of, wave_value, end_time, Follows, IsWaveFrom, IsWave, IsUntil}
-use Rattle.gate_vcd.specs.declared.timeline.Stop.{Stop}
-use Rattle.gate_vcd.specs.Inner.Timeline.{count}
-use Rattle.gate_vcd.specs.Inner.Waves.{marked, AreStopsOf}
-use Rattle.gate_vcd.proofs.Waving.{pair_at-end, IsWaveFrom-push}
+use Rattle.net_waves.specs.Waves.{wave_of, wave_value, end_time, Follows, IsWaveFrom, IsWave, IsUntil}
+use Rattle.net_waves.specs.declared.timeline.Stop.{Stop}
+use Rattle.net_waves.specs.Timeline.{count}
+use Rattle.net_waves.specs.Stops.{marked, AreStopsOf}
+use Rattle.net_waves.proofs.Waving.{pair_at-end, IsWaveFrom-push}
 use Rattle.gate_vcd.proofs.Stops.{all_stops, all_stops-here, all_stops-above, all_stops-late}
-use Rattle.gate_vcd.proofs.Compared.{eq_true, eq_false, le_true, le_false, cases_lt, cases_three, cases_below}
+use Rattle.net_waves.proofs.Compared.{eq_true, eq_false, le_true, le_false, cases_lt, cases_three, cases_below}
 
 same_not : (v w : Logic) → v ≢ w → same v w ≡ false
 same_not v w h = go (same v w) refl

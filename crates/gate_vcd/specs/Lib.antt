@@ -1,9 +1,7 @@
 pub mod Faults
 pub mod Timescales
 pub mod Given
-pub mod Sink
 pub mod Codes
-pub mod Waves
 pub mod Dump
 pub mod Tokens
 pub mod Reading

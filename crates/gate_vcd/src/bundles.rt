@@ -6,11 +6,11 @@ ghost use Rattle.std.specs.Prelude.{◌≡◌, ◌<◌, ◌≤◌, ◌-◌, ◌/
 ghost use Rattle.gate_vcd.specs.Faults.{out_of_memory};
 ghost use Rattle.gate_vcd.specs.Inner.Bundles.{waiting_in, with_change, with_stop, with_stops};
 ghost use Rattle.gate_vcd.specs.Inner.Settled.{ends_at, settled, undone, value_after};
-ghost use Rattle.gate_vcd.specs.Waves.{lists_in};
+ghost use Rattle.net_waves.specs.Waves.{lists_in};
 
 use crate::fault::StimFault;
-use crate::timeline::Stop;
 use gate_values::{Change, Logic};
+use net_waves::Stop;
 use std::alloc::Global;
 use std::marker::Model;
 

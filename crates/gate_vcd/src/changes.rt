@@ -6,7 +6,7 @@ ghost use Rattle.gate_vcd.specs.Inner.Items.{AreHeld, AreSettled, AreTaken, IsTa
 ghost use Rattle.gate_vcd.specs.Inner.Settled.{settled};
 ghost use Rattle.gate_vcd.specs.Inner.Known.{IsLinked, knows, sources_in};
 ghost use Rattle.gate_vcd.specs.Shown.Known.{source};
-ghost use Rattle.gate_vcd.specs.Waves.{lists_in};
+ghost use Rattle.net_waves.specs.Waves.{lists_in};
 ghost use Rattle.gate_vcd.specs.Reading.{Fails};
 ghost use Rattle.gate_vcd.specs.Inner.Reading.{Reads};
 ghost use Rattle.gate_vcd.specs.Inner.Words.{bytes_of};

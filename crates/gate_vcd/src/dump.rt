@@ -3,34 +3,28 @@
 ghost use Rattle.std.specs.Prelude.{◌≡◌, ℕ, ◌+◌, ◌*◌, ◌<◌, ◌≤◌, ◌^◌, ◌++◌, ◌↔◌, List, false, length, map, take, IsTrue, IsErr, IfErr, OnOk};
 ghost use Rattle.std.specs.List.{AllByRecursion};
 ghost use Rattle.gate_values.specs.declared.logic.Change.{Change};
-ghost use Rattle.gate_vcd.specs.declared.timeline.Stop.{Stop};
+ghost use Rattle.net_waves.specs.declared.timeline.Stop.{Stop};
 ghost use Rattle.gate_netlist.specs.Circuit.{nets_of};
 ghost use Rattle.gate_values.specs.declared.logic.Logic.TheVariants.{X};
 ghost use Rattle.gate_values.specs.Changes.{latest};
-ghost use Rattle.gate_vcd.specs.Inner.Sink.{Writes};
-ghost use Rattle.gate_vcd.specs.Inner.Lots.{Passes};
-ghost use Rattle.gate_vcd.specs.Waves.{wave_of, wave_value, IsWave, IsUntil};
+ghost use Rattle.byte_sinks.specs.Sink.{Writes};
+ghost use Rattle.byte_sinks.specs.Lots.{Passes};
+ghost use Rattle.net_waves.specs.Waves.{wave_of, wave_value, IsWave, IsUntil};
 ghost use Rattle.gate_vcd.specs.Dump.{header, var_lines, first_lines, moments, dump_text, vcd_text};
-ghost use Rattle.gate_vcd.specs.Inner.ByTime.{stops_in};
-ghost use Rattle.gate_vcd.specs.Inner.Packed.{told, all_told};
-ghost use Rattle.gate_vcd.specs.Inner.Keys.{stops_of_keys};
-ghost use Rattle.gate_vcd.specs.Inner.Waves.{AreStopsOf};
+ghost use Rattle.net_waves.specs.ByTime.{stops_in};
+ghost use Rattle.net_waves.specs.Packed.{told, all_told};
+ghost use Rattle.net_waves.specs.Keys.{stops_of_keys};
+ghost use Rattle.net_waves.specs.Stops.{AreStopsOf};
 ghost use Rattle.gate_vcd.specs.Inner.Walk.{stop_lines, walked, last_stop, tail_line};
 
-use crate::by_time::ByTime;
 use crate::fault::WriteFault;
-use crate::keyed::{Keyed, stop_of};
 use crate::lines::{put_scope, put_stamp, put_timescale, put_value, put_var};
-use crate::lot::Lot;
-use crate::merging::next_chunk;
-use crate::packed::{Packed, stop_at};
-use crate::sink::Sink;
 use crate::stimulus::Stimulus;
-use crate::timeline::{Stop, Timeline};
 use crate::timescale::Timescale;
-use crate::waves::Waves;
+use byte_sinks::{Lot, Sink};
 use gate_netlist::Circuit;
 use gate_values::{Change, Logic};
+use net_waves::{ByTime, Keyed, Packed, Stop, Timeline, Waves, next_chunk, stop_at, stop_of};
 
 /// Writes the dump of the waves up to the horizon, which is at most 10^12, in units of the stimulus's timescale
 /// (IEEE 1364-2005, section 18): behind what the sink has taken, the timescale, the scope `top` with the code and

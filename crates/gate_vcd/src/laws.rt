@@ -4,7 +4,7 @@ ghost use Rattle.gate_values.specs.declared.logic.Change.{Change};
 ghost use Rattle.gate_values.specs.Changes.{changes};
 ghost use Rattle.gate_netlist.specs.Circuit.{Design};
 ghost use Rattle.gate_vcd.specs.declared.timescale.Timescale.{Timescale};
-ghost use Rattle.gate_vcd.specs.Waves.{wave_of, wave_value};
+ghost use Rattle.net_waves.specs.Waves.{wave_of, wave_value};
 ghost use Rattle.gate_vcd.specs.Dump.{dump_text};
 ghost use Rattle.gate_vcd.specs.Stimulus.{reading_of};
 ghost use Rattle.gate_vcd.specs.Refusals.{IsOfStimulus};

@@ -1,17 +1,15 @@
-//! Value change dumps (IEEE 1364-2005, section 18): the stimulus as read, waves, and the dump as written.
+//! Value change dumps (IEEE 1364-2005, section 18): the stimulus as read, and the dump as written.
 //!
 //! [`read_stimulus`] answers what a stimulus text gives the inputs of a circuit, or its first fault, with
-//! its place. [`Waves`] hold the changes of every net, and [`write_vcd`] writes them as the one text of a
-//! dump into a [`Sink`]. The definitions stand in `specs/`: `Tokens`, `Declarations`, `Changes`, `Vectors`,
-//! `Inputs` and `Stimulus` for what is read, `Codes`, `Waves` and `Dump` for what is written.
+//! its place. [`write_vcd`] writes the waves of a circuit, which are those of `net_waves`, as the one text of a
+//! dump into a `Sink` of `byte_sinks`. The definitions stand in `specs/`: `Tokens`, `Declarations`, `Changes`, `Vectors`,
+//! `Inputs` and `Stimulus` for what is read, `Codes` and `Dump` for what is written.
 //!
 //! Readers of dumps for other ends share the parts of this one: [`Words`], the commands of the declarations
 //! ([`Declared`], [`body_of`], [`declare`]), the vectors ([`vector_of`]), and the changes ([`read_sources`]).
 #![tactic(auto)]
 
-mod buckets;
 mod bundles;
-mod by_time;
 mod changes;
 mod codes;
 mod declarations;
@@ -21,31 +19,21 @@ mod fault;
 mod form;
 mod inputs;
 mod items;
-mod keyed;
 mod keyword;
 mod known;
 mod laws;
 mod lines;
-mod lot;
-mod merging;
 mod numbers;
-mod packed;
-mod packing;
-mod placing;
-mod put;
 mod reading;
 mod runs;
 mod scopes;
-mod sink;
 mod source;
 mod sources;
 mod stimulus;
 mod table;
-mod timeline;
 mod timescale;
 mod variable;
 mod vectors;
-mod waves;
 mod words;
 
 pub use codes::{code, code_laws};
@@ -57,12 +45,10 @@ pub use laws::{dump_laws, refusal_laws};
 pub use numbers::{is_numeral, number_up_to};
 pub use reading::read_stimulus;
 pub use scopes::Scopes;
-pub use sink::{Grow, Sink};
 pub use source::Source;
 pub use sources::{Followed, read_sources};
 pub use stimulus::Stimulus;
 pub use timescale::{Timescale, Unit};
 pub use variable::Variable;
 pub use vectors::{Vector, vector_of};
-pub use waves::{Waves, are_waves, is_wave};
 pub use words::{Word, Words};

@@ -2,13 +2,12 @@
 
 ghost use Rattle.std.specs.Prelude.{◌≡◌, ◌<◌, ◌≤◌, ◌∷◌, ◌++◌, [], take, drop};
 ghost use Rattle.gate_vcd.specs.Codes.{code_of};
-ghost use Rattle.gate_vcd.specs.Inner.Lots.{Passes};
+ghost use Rattle.byte_sinks.specs.Lots.{Passes};
 ghost use Rattle.gate_vcd.specs.Dump.{letter, stamp, value_line, var_line, timescale_line, scope_line};
 
 use crate::codes::code;
-use crate::lot::Lot;
-use crate::sink::Sink;
 use crate::timescale::Timescale;
+use byte_sinks::{Lot, Sink};
 use gate_values::Logic;
 use itoa::write_digits;
 

@@ -1,7 +1,7 @@
 ghost use Rattle.std.specs.Prelude.{◌≡◌, ◌<◌, ◌≤◌, ◌^◌, ℕ, None, Some, true, is_some, IfErr, IfNone, IfSome, OnOk, if◌then◌else◌};
 ghost use Rattle.std.specs.BTreeMap.{get};
 ghost use Rattle.gate_vcd.specs.Faults.{out_of_memory};
-ghost use Rattle.gate_vcd.specs.Inner.Pairs.{by_pair as in_order};
+ghost use Rattle.net_waves.specs.Inner.Pairs.{by_pair as in_order};
 ghost use Rattle.gate_vcd.specs.Inner.Runs.{is_in, kept_at};
 
 use crate::fault::StimFault;

@@ -2,7 +2,7 @@ ghost use Rattle.std.specs.Prelude.{◌≡◌, ◌≤◌, ◌↔◌, ℕ, IsTrue
 ghost use Rattle.std.specs.List.Sorted.{IsPartitionPoint};
 ghost use Rattle.gate_netlist.specs.Circuit.{is_input};
 ghost use Rattle.gate_vcd.specs.Given.{AreItsChanges, changes_of, value_at, Fits};
-ghost use Rattle.gate_vcd.specs.Inner.Lists.{IsRising};
+ghost use Rattle.net_waves.specs.Inner.Lists.{IsRising};
 
 use crate::inputs::is_input;
 use crate::timescale::Timescale;

@@ -1,10 +1,12 @@
 ghost use Rattle.std.specs.Prelude.{◌≡◌, ℕ, IfOk, length};
-ghost use Rattle.gate_vcd.specs.Waves.{wave_of, IsUntil};
+ghost use Rattle.net_waves.specs.Waves.{wave_of, IsUntil};
 
 use crate::rows::{circuit, stimulus};
+use byte_sinks::{Grow, Sink};
 use gate_netlist::Circuit;
 use gate_values::{Change, Logic};
-use gate_vcd::{Grow, Sink, Stimulus, Waves, WriteFault, are_waves, code, write_vcd};
+use gate_vcd::{Stimulus, WriteFault, code, write_vcd};
+use net_waves::{Waves, are_waves};
 use std::alloc::Global;
 use std::test::Fail;
 

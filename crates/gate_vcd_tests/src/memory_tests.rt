@@ -1,6 +1,7 @@
 use crate::dump_tests::{DUMP, write};
 use crate::rows::{Refusal, assert_refusals};
-use gate_vcd::{Grow, Sink, StimCause};
+use byte_sinks::{Grow, Sink};
+use gate_vcd::StimCause;
 use std::test::Fail;
 
 const FALLS: [Refusal; 1] = [Refusal {

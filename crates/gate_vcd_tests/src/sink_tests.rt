@@ -1,5 +1,6 @@
 use crate::dump_tests::{DUMP, write};
-use gate_vcd::{Sink, WriteFault};
+use byte_sinks::Sink;
+use gate_vcd::WriteFault;
 use std::alloc::Global;
 use std::process::Abort;
 use std::test::Fail;

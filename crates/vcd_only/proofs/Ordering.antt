@@ -4,12 +4,12 @@ use Rattle.std.specs.List.Sorted.{IsSortedByKey, IsPermutation}
 use Rattle.std.specs.Ordering.{is_lt}
 use Rattle.std.proofs.lemmas.List.{length-map, get_or-map}
 use Rattle.std.proofs.lemmas.List.Sorted.{IsPermutation-map}
-use Rattle.gate_vcd.specs.declared.timeline.Stop.{Stop}
-use Rattle.gate_vcd.specs.Inner.Pairs.{by_pair}
-use Rattle.gate_vcd.specs.Inner.Timeline.{AtMost, InOrder, IsRising, count}
-use Rattle.gate_vcd.proofs.Counting.{count-permuted, count-at, one-self}
-use Rattle.gate_vcd.proofs.MergeLaws.{head_is}
-use Rattle.gate_vcd.proofs.TimelineLaws.{sorted-InOrder}
+use Rattle.net_waves.specs.declared.timeline.Stop.{Stop}
+use Rattle.net_waves.specs.Inner.Pairs.{by_pair}
+use Rattle.net_waves.specs.Timeline.{AtMost, InOrder, IsRising, count}
+use Rattle.net_waves.proofs.Counting.{count-permuted, count-at, one-self}
+use Rattle.net_waves.proofs.MergeLaws.{head_is}
+use Rattle.net_waves.proofs.TimelineLaws.{sorted-InOrder}
 use Rattle.vcd_only.specs.declared.stops.Told.{Told}
 use Rattle.vcd_only.specs.Inner.Stops.{stop_of, stops_in}
 

@@ -2,7 +2,7 @@
 use Rattle.std.proofs.Common.{◌≡◌, ℕ, ◌+◌, ◌<◌, List, [], ◌∷◌, ◌++◌, Bool, get_or, refl, ap, sym, ◌∙◌, append_assoc, append-nil, add-one}
 use Rattle.std.specs.List.{AllByRecursion}
 use Rattle.gate_values.specs.declared.logic.Logic.{Logic}
-use Rattle.gate_vcd.specs.declared.timeline.Stop.{Stop}
+use Rattle.net_waves.specs.declared.timeline.Stop.{Stop}
 use Rattle.gate_vcd.specs.Dump.{var_line, value_line}
 use Rattle.gate_vcd.specs.Inner.Walk.{stop_lines, walked, last_stop}
 use Rattle.vcd_only.specs.Told.{if_told, told_vars, told_first}

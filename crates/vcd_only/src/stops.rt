@@ -1,15 +1,15 @@
 //! The changes of the nets that are told, by time.
 
 ghost use Rattle.std.specs.Prelude.{◌≡◌, ℕ, ◌<◌, ◌≤◌, ◌++◌, get_or, false, length, if◌then◌else◌, IfOk, OnOk, []};
-ghost use Rattle.gate_vcd.specs.declared.timeline.Stop.{Stop};
-ghost use Rattle.gate_vcd.specs.Waves.{wave_of, wave_value, IsUntil};
-ghost use Rattle.gate_vcd.specs.Inner.Timeline.{InOrder, count};
-ghost use Rattle.gate_vcd.specs.Inner.Waves.{stops_of, stops_below};
+ghost use Rattle.net_waves.specs.declared.timeline.Stop.{Stop};
+ghost use Rattle.net_waves.specs.Waves.{wave_of, wave_value, IsUntil};
+ghost use Rattle.net_waves.specs.Timeline.{InOrder, count};
+ghost use Rattle.net_waves.specs.Inner.Stops.{stops_of, stops_below};
 ghost use Rattle.vcd_only.specs.Told.{is_told};
 ghost use Rattle.vcd_only.specs.Inner.Stops.{stops_in, shown_wave, shown};
 
 use gate_values::{Change, Logic};
-use gate_vcd::Waves;
+use net_waves::Waves;
 use std::alloc::{AllocError, Global};
 
 /// A net that is told takes a value at a time.

@@ -5,10 +5,10 @@ ghost use Rattle.std.specs.List.{AllByRecursion};
 ghost use Rattle.gate_netlist.specs.Circuit.{nets_of};
 ghost use Rattle.gate_values.specs.declared.logic.Logic.TheVariants.{X};
 ghost use Rattle.gate_values.specs.Changes.{latest};
-ghost use Rattle.gate_vcd.specs.declared.timeline.Stop.{Stop};
+ghost use Rattle.net_waves.specs.declared.timeline.Stop.{Stop};
 ghost use Rattle.gate_vcd.specs.Dump.{var_line, value_line};
 ghost use Rattle.gate_vcd.specs.Inner.Walk.{stop_lines, walked, last_stop, tail_line};
-ghost use Rattle.gate_vcd.specs.Waves.{wave_of, wave_value, IsWave, IsUntil};
+ghost use Rattle.net_waves.specs.Waves.{wave_of, wave_value, IsWave, IsUntil};
 ghost use Rattle.vcd_only.specs.Inner.Stops.{stops_in};
 ghost use Rattle.vcd_only.specs.Told.{if_told, told_vars, told_header, told_first, told_text};
 
@@ -16,7 +16,8 @@ use crate::lines::{push_scope, push_stamp, push_text, push_timescale, push_value
 use crate::stops::{Told, is_told, stops_of};
 use gate_netlist::Circuit;
 use gate_values::{Change, Logic};
-use gate_vcd::{Timescale, Waves};
+use gate_vcd::Timescale;
+use net_waves::Waves;
 use std::alloc::{AllocError, Global};
 
 /// The dump of a circuit's waves up to the horizon in which the nets alone are told that `told` marks, in units of

@@ -6,7 +6,7 @@ use Rattle.std.specs.List.Sorted.{IsStrictlyIncreasing}
 use Rattle.std.proofs.lemmas.Bool.{cases_lt, true≢false}
 use Rattle.gate_values.specs.declared.logic.Change.{Change}
 use Rattle.gate_values.specs.Behaviour.{Outside}
-use Rattle.gate_vcd.specs.Waves.{lists_in, wave_of}
+use Rattle.net_waves.specs.Waves.{lists_in, wave_of}
 use Rattle.warp_part.specs.Portion.{Portion, is_driven, owns, slot_of, at_slot}
 use Rattle.warp_process.specs.View.{View, log_of}
 use Rattle.warp_process.specs.Inner.Step.{log_at}

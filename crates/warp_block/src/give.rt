@@ -1,7 +1,7 @@
 //! How a block's logs are given away.
 ghost use Rattle.std.specs.Prelude.{◌≡◌, ◌<◌, length, vec_len};
 ghost use Rattle.std.specs.List.{All};
-ghost use Rattle.gate_vcd.specs.Waves.{lists_in};
+ghost use Rattle.net_waves.specs.Waves.{lists_in};
 ghost use Rattle.warp_block.specs.Inner.Give.{AreGiven};
 
 use gate_values::Change;

@@ -10,7 +10,7 @@ use Rattle.gate_values.specs.declared.logic.Change.{Change}
 use Rattle.gate_values.specs.Changes.{same, pair_at, before_time}
 use Rattle.gate_netlist.specs.Cut.{owner_of}
 use Rattle.gate_vcd.specs.Given.{changes_of}
-use Rattle.gate_vcd.specs.Waves.{IsWaveFrom}
+use Rattle.net_waves.specs.Waves.{IsWaveFrom}
 use Rattle.warp_process.specs.declared.entry.Entry.{Entry}
 use Rattle.warp_process.specs.declared.message.Message.{Message}
 use Rattle.warp_process.specs.declared.message.Sign.{Sign}

@@ -1,7 +1,7 @@
 ghost use Rattle.std.specs.Prelude.{◌≡◌, ◌<◌, ◌≤◌, ◌↔◌, ℕ, IsTrue, IfOk, IfErr, OnOk, MatchOption, Ok, length, vec_len};
 ghost use Rattle.gate_netlist.specs.Circuit.{CutFits};
 ghost use Rattle.gate_vcd.specs.Given.{Fits};
-ghost use Rattle.gate_vcd.specs.Waves.{lists_in, wave_of, IsWave};
+ghost use Rattle.net_waves.specs.Waves.{lists_in, wave_of, IsWave};
 ghost use Rattle.warp_process.specs.Limits.{most_horizon};
 ghost use Rattle.warp_process.specs.View.{IsDone};
 ghost use Rattle.warp_process.specs.Lawful.{IsLawful};
@@ -18,7 +18,8 @@ use crate::fault::GatherFault;
 use findings::Finding;
 use gate_netlist::{Circuit, Cut};
 use gate_values::Change;
-use gate_vcd::{Stimulus, Waves};
+use gate_vcd::Stimulus;
+use net_waves::Waves;
 use std::alloc::Global;
 use std::thread::Threads;
 use warp_block::Block;

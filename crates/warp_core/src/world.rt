@@ -21,7 +21,8 @@ use crate::flight::{Soonest, least_of, soonest_from, soonest_of, soonest_without
 use crate::gathering::gather;
 use crate::turns::{Course, play_turns};
 use gate_netlist::{Circuit, Cut};
-use gate_vcd::{Stimulus, Waves};
+use gate_vcd::Stimulus;
+use net_waves::Waves;
 use std::alloc::{AllocError, Global};
 use std::marker::Model;
 use warp_block::{Block, Message};

@@ -2,7 +2,7 @@ ghost use Rattle.std.specs.Prelude.{◌<◌};
 
 use super::given::{Given, Texts};
 use Event::{Advance, Commit, Deliver};
-use gate_vcd::Waves;
+use net_waves::Waves;
 use std::alloc::Global;
 use std::test::Fail;
 use warp_core::{Event, PlayFault, World, drive};

@@ -2,7 +2,7 @@ use super::given::{BOTH_ONE, Given, IN_THREE, PAIR, Texts, other_net};
 use Logic::One;
 use Sign::{Minus, Plus};
 use gate_values::Logic;
-use gate_vcd::Waves;
+use net_waves::Waves;
 use std::alloc::Global;
 use std::test::Fail;
 use std::thread::Threads;

@@ -1,6 +1,6 @@
 use super::given::{Given, PAIR, other_net};
 use Event::{Advance, Commit, Deliver};
-use gate_vcd::Waves;
+use net_waves::Waves;
 use std::alloc::Global;
 use std::test::Fail;
 use warp_core::{Event, GatherFault, PlayFault, World};

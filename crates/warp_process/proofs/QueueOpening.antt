@@ -7,7 +7,7 @@ use Rattle.gate_values.specs.declared.logic.Logic.{Logic}
 use Rattle.gate_values.specs.declared.logic.Logic.TheVariants.{Zero, One, X, Z}
 use Rattle.gate_values.specs.declared.logic.Change.{Change}
 use Rattle.gate_values.specs.Changes.{before_time}
-use Rattle.gate_vcd.specs.Inner.Lists.{IsRising}
+use Rattle.net_waves.specs.Inner.Lists.{IsRising}
 use Rattle.warp_process.specs.declared.entry.Entry.{Entry}
 use Rattle.warp_process.specs.Entries.{Received, no_messages, one_message, IsQueue}
 use Rattle.warp_process.specs.Opening.{message_of}

@@ -2,7 +2,7 @@
 ghost use Rattle.std.specs.Prelude.{◌≡◌, ◌<◌, ◌++◌, ◌∷◌, [], IfOk, OnOk, length, get_or, map, if◌then◌else◌};
 ghost use Rattle.std.specs.List.{All, filter, list_any};
 ghost use Rattle.std.specs.List.Sorted.{IsPermutation, IsSortedByKey};
-ghost use Rattle.gate_vcd.specs.Inner.Pairs.{by_pair};
+ghost use Rattle.net_waves.specs.Inner.Pairs.{by_pair};
 ghost use Rattle.warp_sends.specs.Inner.Tellings.{word_of, has_readers, is_told, event_of, place_of};
 
 use std::alloc::{AllocError, Global};

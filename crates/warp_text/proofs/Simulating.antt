@@ -11,7 +11,7 @@ use Rattle.gate_vcd.specs.declared.timescale.Timescale.{Timescale}
 use Rattle.gate_vcd.specs.Given.{Given}
 use Rattle.gate_vcd.specs.Stimulus.{Reading, Means, signal}
 use Rattle.gate_vcd.specs.Dump.{dump_text, vcd_text}
-use Rattle.gate_vcd.specs.Waves.{wave_of, wave_value, IsUntil}
+use Rattle.net_waves.specs.Waves.{wave_of, wave_value, IsUntil}
 use Rattle.gate_vcd.proofs.DumpLaws.{dump_text-waves}
 use Rattle.gate_vcd.proofs.WaveValues.{changes-IsWave}
 use Rattle.warp_core.specs.Values.{given_by, value_under, AreCircuitWaves}

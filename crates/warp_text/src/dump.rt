@@ -5,8 +5,10 @@ ghost use Rattle.gate_vcd.specs.Dump.{vcd_text};
 ghost use Rattle.warp_process.specs.Limits.{most_horizon};
 ghost use Rattle.warp_core.specs.Values.{value_under, AreCircuitWaves};
 
+use byte_sinks::Grow;
 use gate_netlist::Circuit;
-use gate_vcd::{Grow, Stimulus, Waves, write_vcd_once};
+use gate_vcd::{Stimulus, write_vcd_once};
+use net_waves::Waves;
 use std::alloc::{AllocError, Global};
 
 /// The dump of a circuit's waves under a stimulus, up to the horizon. The waves' lists are given back before the text grows.

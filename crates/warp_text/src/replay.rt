@@ -15,7 +15,8 @@ use crate::fault::Fault;
 use crate::options::Options;
 use crate::simulate::{circuit_of, settled_cut};
 use gate_netlist::{Circuit, Cut};
-use gate_vcd::{Stimulus, Waves, read_stimulus};
+use gate_vcd::{Stimulus, read_stimulus};
+use net_waves::Waves;
 use std::alloc::Global;
 use warp_core::{Event, PlayFault, World, read_schedule};
 

@@ -3,7 +3,7 @@ ghost use Rattle.std.specs.Prelude.{◌≡◌, ◌++◌, ◌/◌, ◌%◌, IfOk,
 ghost use Rattle.warp_text.specs.StatLines.{sum_of, no_counts, both_counts, total_of, kept_of, stat_line, thousandths, thousandths_line, table_line, work_lines, counts_lines, block_lines, stats_lines};
 
 use gate_netlist::Cut;
-use gate_vcd::Waves;
+use net_waves::Waves;
 use std::alloc::{AllocError, Global};
 use warp_rounds::{Counts, RunCounts};
 

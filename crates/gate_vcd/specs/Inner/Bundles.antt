@@ -3,9 +3,9 @@ use Rattle.std.specs.Prelude.{ℕ, ◌+◌, ◌*◌, ◌/◌, ◌≤◌, nat_eq,
 use Rattle.std.specs.declared.alloc.Global.{Global}
 use Rattle.gate_values.specs.declared.logic.Change.{Change}
 use Rattle.gate_vcd.specs.declared.bundles.Bundles.TheInside.{Inside}
-use Rattle.gate_vcd.specs.declared.timeline.Stop.{Stop}
+use Rattle.net_waves.specs.declared.timeline.Stop.{Stop}
 use Rattle.gate_vcd.specs.Inner.Settled.{settled}
-use Rattle.gate_vcd.specs.Waves.{lists_in}
+use Rattle.net_waves.specs.Waves.{lists_in}
 
 -- what waits for the bundles
 abbrev pub waiting_in : List (Vec Stop Global) → List (List Stop)

@@ -5,7 +5,7 @@ use Rattle.std.specs.declared.alloc.Global.{Global}
 use Rattle.gate_values.specs.declared.logic.Change.{Change}
 use Rattle.gate_vcd.specs.declared.stimulus.Stimulus.TheInside.{Inside}
 use Rattle.gate_vcd.specs.Given.{AreItsChanges}
-use Rattle.gate_vcd.specs.Waves.{lists_in}
+use Rattle.net_waves.specs.Waves.{lists_in}
 
 -- each net that has a list refers to one, which is that of the changes of its values
 abbrev pub AreLaidOut : List (Vec Change Global) → List (Option ℕ) → Type 0

@@ -2,7 +2,7 @@
 use Rattle.std.specs.Prelude.{ℕ, zero, suc, Bool, ◌&&◌, nat_le, nat_eq, Option, None, unwrap_or}
 use Rattle.std.specs.BTreeMap.{BTreeMap, get}
 use Rattle.gate_vcd.specs.declared.runs.Kept.{Kept}
-use Rattle.gate_vcd.specs.Inner.Pairs.{by_pair as in_order}
+use Rattle.net_waves.specs.Inner.Pairs.{by_pair as in_order}
 
 -- by the numbers of bases and their bits, the vectors from there on
 abbrev pub Starts : Type 0

@@ -1,11 +1,11 @@
 -- The part of a dump after time 0, told by a list of changes in the order of time and net.
 use Rattle.std.specs.List.{AllByRecursion}
-use Rattle.gate_vcd.specs.Sink.{Held}
-use Rattle.gate_vcd.specs.Inner.Lots.{Lot, Passes}
+use Rattle.byte_sinks.specs.Sink.{Held}
+use Rattle.byte_sinks.specs.Lots.{Lot, Passes}
 use Rattle.std.specs.Prelude.{◌≡◌, ◌<◌, ℕ, ◌==◌, nat_lt, if◌then◌else◌, List, [], ◌∷◌, ◌++◌}
 use Rattle.gate_values.specs.declared.logic.Logic.{Logic}
 use Rattle.gate_vcd.specs.Dump.{stamp, value_line}
-use Rattle.gate_vcd.specs.declared.timeline.Stop.{Stop}
+use Rattle.net_waves.specs.declared.timeline.Stop.{Stop}
 
 -- What a change adds after one at the time `last`: nothing at time 0, whose values stand above; else its
 -- line, behind the line of its time where that is a new one.

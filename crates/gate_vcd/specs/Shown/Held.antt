@@ -5,7 +5,7 @@ use Rattle.gate_values.specs.declared.logic.Change.{Change}
 use Rattle.gate_vcd.specs.declared.stimulus.Stimulus.TheInside.{Inside}
 use Rattle.gate_vcd.specs.declared.timescale.Timescale.{Timescale}
 use Rattle.gate_vcd.specs.Given.{Given}
-use Rattle.gate_vcd.specs.Waves.{lists_in}
+use Rattle.net_waves.specs.Waves.{lists_in}
 
 -- Nets whose changes have one code share a list.
 abbrev pub given_by : Timescale → List (Vec Change Global) → List (Option ℕ) → Given

@@ -1,7 +1,7 @@
 -- Logs that move from their places to their nets' lists.
 use Rattle.std.specs.Prelude.{◌≡◌, ◌≢◌, ℕ, ◌<◌, IsTrue, List}
 use Rattle.gate_values.specs.declared.logic.Change.{Change}
-use Rattle.gate_vcd.specs.Waves.{wave_of}
+use Rattle.net_waves.specs.Waves.{wave_of}
 use Rattle.warp_part.specs.Portion.{Portion, is_driven}
 use Rattle.warp_process.specs.Inner.Step.{source_at, log_at}
 use Rattle.warp_process.specs.Shown.Step.{net_at}

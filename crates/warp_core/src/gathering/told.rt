@@ -3,8 +3,8 @@
 ghost use Rattle.std.specs.Prelude.{◌≡◌, ◌≤◌, ◌+◌, ◌↔◌, IsTrue, IfOk, MatchOption};
 ghost use Rattle.gate_values.specs.Changes.{before_time};
 ghost use Rattle.gate_vcd.specs.Given.{changes_of};
-ghost use Rattle.gate_vcd.specs.Inner.Lists.{IsRising};
-ghost use Rattle.gate_vcd.specs.Waves.{IsWave};
+ghost use Rattle.net_waves.specs.Inner.Lists.{IsRising};
+ghost use Rattle.net_waves.specs.Waves.{IsWave};
 ghost use Rattle.warp_process.specs.Limits.{most_horizon};
 ghost use Rattle.warp_process.specs.View.{log_of};
 ghost use Rattle.warp_process.specs.Heard.{IsToldOf};

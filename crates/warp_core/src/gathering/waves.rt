@@ -6,7 +6,7 @@ ghost use Rattle.gate_values.specs.Changes.{before_time};
 ghost use Rattle.gate_netlist.specs.Circuit.{nets_of, CutFits};
 ghost use Rattle.gate_netlist.specs.Cut.{owner_of};
 ghost use Rattle.gate_vcd.specs.Given.{changes_of};
-ghost use Rattle.gate_vcd.specs.Waves.{lists_in, wave_of, IsWave};
+ghost use Rattle.net_waves.specs.Waves.{lists_in, wave_of, IsWave};
 ghost use Rattle.warp_process.specs.Limits.{most_horizon};
 ghost use Rattle.warp_core.specs.Matched.{IsBlockOf, EachBlock, told_of};
 ghost use Rattle.warp_core.specs.Gather.{AreCounted};

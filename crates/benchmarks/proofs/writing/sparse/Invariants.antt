@@ -1,5 +1,5 @@
 use Rattle.std.proofs.Common.{◌≡◌, ℕ, ◌≤◌, length}
-use Rattle.gate_vcd.specs.Waves.{wave_of, end_time}
+use Rattle.net_waves.specs.Waves.{wave_of, end_time}
 use Rattle.benchmarks.proofs.writing.sparse.Given as goal
 
 abbrev pub invariant-loop-time : goal.invariant-loop-time

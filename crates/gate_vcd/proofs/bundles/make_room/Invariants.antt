@@ -1,5 +1,5 @@
 use Rattle.std.proofs.Common.{◌≡◌, length}
-use Rattle.gate_vcd.specs.Waves.{lists_in}
+use Rattle.net_waves.specs.Waves.{lists_in}
 use Rattle.gate_vcd.proofs.bundles.make_room.Given as goal
 
 abbrev pub invariant-loop-place : goal.invariant-loop-place

@@ -1,5 +1,5 @@
 use Rattle.std.proofs.Common.{◌≡◌, List, [], replicate}
-use Rattle.gate_vcd.specs.declared.timeline.Stop.{Stop}
+use Rattle.net_waves.specs.declared.timeline.Stop.{Stop}
 use Rattle.gate_vcd.specs.Inner.Bundles.{waiting_in}
 use Rattle.gate_vcd.proofs.bundles.none_waiting.Given as goal
 

@@ -1,6 +1,6 @@
 use Rattle.std.proofs.Common.{◌∙◌}
 use Rattle.gate_values.specs.declared.logic.Logic.TheVariants.{Zero}
-use Rattle.gate_vcd.specs.Waves.{lists_in}
+use Rattle.net_waves.specs.Waves.{lists_in}
 use Rattle.gate_vcd.proofs.Bundling.{with_stops-next}
 use Rattle.gate_vcd.proofs.bundles.settle_stops.Goals as goal
 

@@ -1,6 +1,6 @@
 use Rattle.std.proofs.Common.{◌≡◌, length, take}
 use Rattle.gate_vcd.specs.Inner.Bundles.{with_stops}
-use Rattle.gate_vcd.specs.Waves.{lists_in}
+use Rattle.net_waves.specs.Waves.{lists_in}
 use Rattle.gate_vcd.proofs.bundles.settle_stops.Given as goal
 
 -- the stops so far

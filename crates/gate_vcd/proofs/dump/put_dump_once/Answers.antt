@@ -1,8 +1,8 @@
 use Rattle.std.proofs.Common.{◌++◌, length, arith, length-append}
 use Rattle.std.specs.Prelude.{codes}
-use Rattle.gate_vcd.specs.Waves.{wave_value}
+use Rattle.net_waves.specs.Waves.{wave_value}
 use Rattle.gate_vcd.specs.Dump.{header, first_lines, moments, dump_text}
-use Rattle.gate_vcd.proofs.Passing.{passes_then, passes_whole}
+use Rattle.byte_sinks.proofs.Passing.{passes_then, passes_whole}
 use Rattle.gate_vcd.proofs.DumpLaws.{length-below}
 use Rattle.gate_vcd.proofs.dump.put_dump_once.Goals as goal
 

@@ -1,8 +1,8 @@
 use Rattle.std.proofs.Common.{◌≡◌, ◌∙◌, ap}
 use Rattle.gate_values.specs.declared.logic.Logic.TheVariants.{X}
 use Rattle.gate_values.specs.Changes.{latest}
-use Rattle.gate_vcd.specs.Waves.{wave_value}
-use Rattle.gate_vcd.proofs.Passing.{passes_then, passes_none}
+use Rattle.net_waves.specs.Waves.{wave_value}
+use Rattle.byte_sinks.proofs.Passing.{passes_then, passes_none}
 use Rattle.gate_vcd.proofs.DumpLaws.{first_lines-none, first_lines-next}
 use Rattle.gate_vcd.proofs.dump.put_first_values.Goals as goal
 

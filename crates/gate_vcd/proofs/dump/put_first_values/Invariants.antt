@@ -1,5 +1,5 @@
-use Rattle.gate_vcd.specs.Inner.Lots.{Passes}
-use Rattle.gate_vcd.specs.Waves.{wave_value}
+use Rattle.byte_sinks.specs.Lots.{Passes}
+use Rattle.net_waves.specs.Waves.{wave_value}
 use Rattle.gate_vcd.specs.Dump.{first_lines}
 use Rattle.gate_vcd.proofs.dump.put_first_values.Given as goal
 

@@ -1,6 +1,6 @@
 use Rattle.std.proofs.Common.{◌<◌, ◌^◌, length, arith}
 use Rattle.gate_vcd.specs.Dump.{header}
-use Rattle.gate_vcd.proofs.Passing.{passes_then}
+use Rattle.byte_sinks.proofs.Passing.{passes_then}
 use Rattle.gate_vcd.proofs.DumpLaws.{length-header}
 use Rattle.gate_vcd.proofs.dump.put_header.Goals as goal
 

@@ -1,8 +1,8 @@
 use Rattle.std.proofs.Common.{◌≡◌, suc, length}
-use Rattle.gate_vcd.specs.Waves.{wave_value}
-use Rattle.gate_vcd.specs.Inner.Keys.{stops_of_keys}
+use Rattle.net_waves.specs.Waves.{wave_value}
+use Rattle.net_waves.specs.Keys.{stops_of_keys}
 use Rattle.gate_vcd.specs.Inner.Walk.{last_stop}
-use Rattle.gate_vcd.proofs.Passing.{passes_then}
+use Rattle.byte_sinks.proofs.Passing.{passes_then}
 use Rattle.gate_vcd.proofs.Stops.{moments-walked, all_stops}
 use Rattle.gate_vcd.proofs.KeyWalk.{keys-all, keys-known}
 use Rattle.gate_vcd.proofs.dump.put_keyed.Goals as goal

@@ -1,7 +1,7 @@
 use Rattle.std.proofs.Common.{◌≡◌, ◌<◌, ◌+◌, ◌∷◌, length, get_or, drop, ap, refl, arith}
 use Rattle.std.proofs.lemmas.List.{drop_more}
-use Rattle.gate_vcd.specs.Inner.Lots.{Passes}
-use Rattle.gate_vcd.specs.Inner.Keys.{stop_of, stops_of_keys}
+use Rattle.byte_sinks.specs.Lots.{Passes}
+use Rattle.net_waves.specs.Keys.{stop_of, stops_of_keys}
 use Rattle.gate_vcd.specs.Inner.Walk.{stop_lines}
 use Rattle.gate_vcd.proofs.Walking.{walked_start, walked_step}
 use Rattle.gate_vcd.proofs.dump.put_keys.Goals as goal

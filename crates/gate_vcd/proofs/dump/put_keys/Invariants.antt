@@ -1,6 +1,6 @@
 use Rattle.std.proofs.Common.{drop}
 use Rattle.gate_vcd.specs.Inner.Walk.{IsWalked}
-use Rattle.gate_vcd.specs.Inner.Keys.{stops_of_keys}
+use Rattle.net_waves.specs.Keys.{stops_of_keys}
 use Rattle.gate_vcd.proofs.dump.put_keys.Given as goal
 
 -- the keys so far

@@ -1,10 +1,10 @@
 use Rattle.std.proofs.Common.{length, suc, arith, length-take}
-use Rattle.gate_vcd.specs.Waves.{wave_value}
-use Rattle.gate_vcd.specs.Inner.Merging.{lefts}
-use Rattle.gate_vcd.proofs.Passing.{passes_then}
+use Rattle.net_waves.specs.Waves.{wave_value}
+use Rattle.net_waves.specs.Merging.{lefts}
+use Rattle.byte_sinks.proofs.Passing.{passes_then}
 use Rattle.gate_vcd.proofs.Stops.{moments-walked, known_below, all_stops, all_stops-rising}
 use Rattle.gate_vcd.proofs.WaveValues.{stops_are}
-use Rattle.gate_vcd.proofs.MergeLaws.{merged_start, merged_known, merged_step, merged_smaller, merged_end}
+use Rattle.gate_vcd.proofs.MergedLaws.{merged_start, merged_known, merged_step, merged_smaller, merged_end}
 use Rattle.gate_vcd.proofs.dump.put_runs.Goals as goal
 
 pub slice_bounds-all-end : goal.slice_bounds-all-end

@@ -1,6 +1,8 @@
 use Rattle.std.proofs.Common.{suc, length}
-use Rattle.gate_vcd.specs.Waves.{wave_value}
-use Rattle.gate_vcd.specs.Inner.Merging.{lefts, flat, IsMerged}
+use Rattle.net_waves.specs.Waves.{wave_value}
+use Rattle.net_waves.specs.Merging.{lefts}
+use Rattle.net_waves.specs.Inner.Merging.{flat}
+use Rattle.gate_vcd.specs.Inner.Merged.{IsMerged}
 use Rattle.gate_vcd.proofs.Stops.{all_stops}
 use Rattle.gate_vcd.proofs.dump.put_runs.Given as goal
 

@@ -1,4 +1,4 @@
-use Rattle.gate_vcd.proofs.Passing.{passes_then}
+use Rattle.byte_sinks.proofs.Passing.{passes_then}
 use Rattle.gate_vcd.proofs.Walking.{stop_lines-later}
 use Rattle.gate_vcd.proofs.dump.put_stop.Goals as goal
 

@@ -1,7 +1,7 @@
 use Rattle.std.proofs.Common.{◌<◌, ◌+◌, length, get_or, drop, arith}
 use Rattle.std.proofs.lemmas.List.{drop_more}
 use Rattle.gate_values.specs.declared.logic.Logic.TheVariants.{Zero}
-use Rattle.gate_vcd.specs.declared.timeline.Stop.{Stop}
+use Rattle.net_waves.specs.declared.timeline.Stop.{Stop}
 use Rattle.gate_vcd.proofs.Walking.{walked_step}
 use Rattle.gate_vcd.proofs.dump.put_stops.Goals as goal
 

@@ -1,6 +1,6 @@
 use Rattle.std.proofs.Common.{drop, map}
 use Rattle.gate_vcd.specs.Inner.Walk.{IsWalked}
-use Rattle.gate_vcd.specs.Inner.Packed.{told}
+use Rattle.net_waves.specs.Packed.{told}
 use Rattle.gate_vcd.proofs.dump.put_told.Given as goal
 
 -- the words so far

@@ -1,6 +1,6 @@
 use Rattle.std.proofs.Common.{◌<◌, ◌^◌, length, arith, length-append}
 use Rattle.gate_vcd.specs.Dump.{var_lines, var_line}
-use Rattle.gate_vcd.proofs.Passing.{passes_then, passes_none}
+use Rattle.byte_sinks.proofs.Passing.{passes_then, passes_none}
 use Rattle.gate_vcd.proofs.DumpLaws.{var_lines-none, var_lines-next, length-var_line}
 use Rattle.gate_vcd.proofs.dump.put_vars.Goals as goal
 

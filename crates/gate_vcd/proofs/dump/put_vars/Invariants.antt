@@ -1,5 +1,5 @@
 use Rattle.std.proofs.Common.{◌*◌, ◌≤◌, ◌^◌, length}
-use Rattle.gate_vcd.specs.Inner.Lots.{Passes}
+use Rattle.byte_sinks.specs.Lots.{Passes}
 use Rattle.gate_vcd.specs.Dump.{var_lines}
 use Rattle.gate_vcd.proofs.dump.put_vars.Given as goal
 

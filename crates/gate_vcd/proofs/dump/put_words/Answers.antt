@@ -1,8 +1,8 @@
 use Rattle.std.proofs.Common.{◌≡◌, ◌<◌, suc, length, ap, ◌∙◌, add-one, refl, arith}
-use Rattle.gate_vcd.specs.Inner.Packed.{told_below, times}
+use Rattle.net_waves.specs.Packed.{told_below, times}
 use Rattle.gate_vcd.specs.Inner.Walk.{last_stop}
-use Rattle.gate_vcd.specs.Waves.{wave_value}
-use Rattle.gate_vcd.proofs.Passing.{passes_none, passes_then}
+use Rattle.net_waves.specs.Waves.{wave_value}
+use Rattle.byte_sinks.proofs.Passing.{passes_none, passes_then}
 use Rattle.gate_vcd.proofs.Stops.{moments-walked, all_stops}
 use Rattle.gate_vcd.proofs.PackedWalk.{told-all, told-known, told-more}
 use Rattle.gate_vcd.proofs.dump.put_words.Goals as goal

@@ -1,4 +1,4 @@
-use Rattle.gate_vcd.proofs.Passing.{passes_then}
+use Rattle.byte_sinks.proofs.Passing.{passes_then}
 use Rattle.gate_vcd.proofs.lines.put_scope.Goals as goal
 
 pub returns : goal.returns

@@ -2,7 +2,7 @@ use Rattle.std.proofs.Common.{◌≡◌, ℕ, List, [], ◌∷◌, ◌++◌, ap,
 use Rattle.std.specs.Prelude.{codes}
 use Rattle.gate_vcd.specs.Codes.{code_of}
 use Rattle.gate_vcd.specs.Dump.{var_line}
-use Rattle.gate_vcd.proofs.Passing.{passes_then, passes_as}
+use Rattle.byte_sinks.proofs.Passing.{passes_then, passes_as}
 use Rattle.gate_vcd.proofs.lines.put_var.Goals as goal
 
 -- the pieces of the line

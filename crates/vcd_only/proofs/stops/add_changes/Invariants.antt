@@ -1,5 +1,5 @@
 use Rattle.std.proofs.Common.{◌≡◌, ◌++◌, take}
-use Rattle.gate_vcd.specs.Inner.Waves.{stops_of}
+use Rattle.net_waves.specs.Inner.Stops.{stops_of}
 use Rattle.vcd_only.specs.Inner.Stops.{stops_in}
 use Rattle.vcd_only.proofs.stops.add_changes.Given as goal
 

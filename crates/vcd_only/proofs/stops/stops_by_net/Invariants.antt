@@ -1,5 +1,5 @@
 use Rattle.std.proofs.Common.{◌≡◌}
-use Rattle.gate_vcd.specs.Inner.Waves.{stops_below}
+use Rattle.net_waves.specs.Inner.Stops.{stops_below}
 use Rattle.vcd_only.specs.Inner.Stops.{stops_in, shown}
 use Rattle.vcd_only.proofs.stops.stops_by_net.Given as goal
 

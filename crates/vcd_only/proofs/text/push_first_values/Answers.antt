@@ -1,5 +1,5 @@
 use Rattle.std.proofs.Common.{◌++◌, ap, sym, ◌∙◌, append-nil}
-use Rattle.gate_vcd.specs.Waves.{wave_value}
+use Rattle.net_waves.specs.Waves.{wave_value}
 use Rattle.vcd_only.proofs.Appending.{put_then}
 use Rattle.vcd_only.proofs.Writing.{told_first-none, told_first-next}
 use Rattle.vcd_only.proofs.text.push_first_values.Goals as goal

@@ -1,5 +1,5 @@
 use Rattle.std.proofs.Common.{◌≡◌, ◌++◌}
-use Rattle.gate_vcd.specs.Waves.{wave_value}
+use Rattle.net_waves.specs.Waves.{wave_value}
 use Rattle.vcd_only.specs.Told.{told_first}
 use Rattle.vcd_only.proofs.text.push_first_values.Given as goal
 

@@ -2,8 +2,8 @@ use Rattle.std.proofs.Common.{[], sym, length, arith, subst, ◌++◌, List, ◌
 use Rattle.std.specs.List.{AllByRecursion}
 use Rattle.std.specs.Prelude.{codes}
 use Rattle.gate_vcd.specs.Dump.{moments}
-use Rattle.gate_vcd.specs.Waves.{wave_value}
-use Rattle.gate_vcd.specs.declared.timeline.Stop.{Stop}
+use Rattle.net_waves.specs.Waves.{wave_value}
+use Rattle.net_waves.specs.declared.timeline.Stop.{Stop}
 use Rattle.vcd_only.specs.Told.{told_text, told_header, told_first, hidden}
 use Rattle.vcd_only.specs.Inner.Stops.{stops_in}
 use Rattle.vcd_only.specs.declared.stops.Told.{Told}

@@ -1,7 +1,7 @@
 use Rattle.std.proofs.Common.{◌<◌, Vec, length, ap, sym, ◌∙◌, arith}
 use Rattle.std.specs.declared.alloc.Global.{Global}
 use Rattle.gate_values.specs.declared.logic.Change.{Change}
-use Rattle.gate_vcd.specs.Waves.{lists_in}
+use Rattle.net_waves.specs.Waves.{lists_in}
 use Rattle.warp_process.proofs.Rows.{row_at}
 use Rattle.warp_block.proofs.Giving.{put_other, given_more}
 use Rattle.warp_block.proofs.give.give.Goals as goal

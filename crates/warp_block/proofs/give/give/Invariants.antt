@@ -1,5 +1,5 @@
 use Rattle.std.proofs.Common.{◌≡◌, ℕ, ◌≤◌, vec_len}
-use Rattle.gate_vcd.specs.Waves.{lists_in}
+use Rattle.net_waves.specs.Waves.{lists_in}
 use Rattle.warp_block.specs.Inner.Give.{AreGiven}
 use Rattle.warp_process.specs.Inner.Step.{log_at}
 use Rattle.warp_block.proofs.give.give.Given as goal

@@ -1,6 +1,6 @@
 use Rattle.std.proofs.Common.{◌≡◌, ◌∙◌, inl, inr, List, refl, ap, sym, subst}
 use Rattle.gate_values.specs.declared.logic.Change.{Change}
-use Rattle.gate_vcd.proofs.Waving.{on_err}
+use Rattle.net_waves.proofs.Waving.{on_err}
 use Rattle.warp_stores.specs.Lists.{AreLonger}
 use Rattle.warp_journal.specs.Books.{Book}
 use Rattle.warp_engine.specs.Runs.{Run, makings}

@@ -4,7 +4,7 @@ use Rattle.std.proofs.lemmas.List.{get_or_default}
 use Rattle.gate_values.specs.declared.logic.Change.{Change}
 use Rattle.gate_values.specs.declared.logic.Logic.TheVariants.{Zero}
 use Rattle.gate_vcd.specs.Given.{changes_of}
-use Rattle.gate_vcd.specs.Inner.Lists.{IsRising}
+use Rattle.net_waves.specs.Inner.Lists.{IsRising}
 use Rattle.gate_vcd.proofs.Laid.{its_rising}
 use Rattle.warp_process.specs.declared.entry.Entry.{Entry}
 use Rattle.warp_process.specs.Entries.{Received, IsQueue, entry_in, no_messages, one_message}

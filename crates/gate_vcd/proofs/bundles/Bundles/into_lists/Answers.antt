@@ -1,7 +1,7 @@
 use Rattle.std.proofs.Common.{◌≡◌, sym, ◌∙◌, length, arith}
 use Rattle.std.proofs.lemmas.List.{nil_from_length}
 use Rattle.gate_vcd.specs.Inner.Bundles.{with_stops}
-use Rattle.gate_vcd.specs.Waves.{lists_in}
+use Rattle.net_waves.specs.Waves.{lists_in}
 use Rattle.gate_vcd.proofs.Bundling.{last-taken-in, none-left}
 use Rattle.gate_vcd.proofs.bundles.Bundles.into_lists.Goals as goal
 

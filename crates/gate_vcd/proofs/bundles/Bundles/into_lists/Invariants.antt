@@ -1,6 +1,6 @@
 use Rattle.std.proofs.Common.{◌≡◌, length}
 use Rattle.gate_vcd.specs.Inner.Bundles.{waiting_in, with_waiting}
-use Rattle.gate_vcd.specs.Waves.{lists_in}
+use Rattle.net_waves.specs.Waves.{lists_in}
 use Rattle.gate_vcd.proofs.bundles.Bundles.into_lists.Given as goal
 
 -- the lists are the same, with what still waits

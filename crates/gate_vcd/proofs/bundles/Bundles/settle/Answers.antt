@@ -1,7 +1,7 @@
 use Rattle.std.proofs.Common.{◌<◌, ◌/◌, ◌∙◌, List, length, ap, subst, sym, arith}
 use Rattle.gate_values.specs.declared.logic.Change.{Change}
 use Rattle.gate_vcd.specs.Inner.Bundles.{with_stops}
-use Rattle.gate_vcd.specs.Waves.{lists_in}
+use Rattle.net_waves.specs.Waves.{lists_in}
 use Rattle.gate_vcd.proofs.Bundling.{bundle-stands, listed-in, taken-in, waited-in}
 use Rattle.gate_vcd.proofs.bundles.Bundles.settle.Goals as goal
 

@@ -1,5 +1,5 @@
 use Rattle.std.proofs.Common.{get_or, []}
-use Rattle.gate_vcd.specs.Waves.{lists_in}
+use Rattle.net_waves.specs.Waves.{lists_in}
 use Rattle.gate_vcd.proofs.Latest.{some-mapped}
 use Rattle.gate_vcd.proofs.stimulus.Stimulus.fits.Goals as goal
 

@@ -1,6 +1,6 @@
 use Rattle.std.proofs.Common.{◌≡◌, List, length, ◌∙◌, subst}
 use Rattle.gate_values.specs.declared.logic.Change.{Change}
-use Rattle.gate_vcd.specs.Waves.{lists_in}
+use Rattle.net_waves.specs.Waves.{lists_in}
 use Rattle.warp_part.specs.Portion.{Portion}
 use Rattle.warp_block.specs.Inner.Give.{AreGiven}
 use Rattle.warp_block.specs.Shown.Block.{seen_by}

@@ -4,7 +4,7 @@ use Rattle.gate_values.specs.declared.logic.Change.{Change}
 use Rattle.gate_values.specs.Changes.{pair_at}
 use Rattle.warp_part.specs.Portion.{Portion, reads}
 use Rattle.warp_process.proofs.Agreeing.{same_pairs}
-use Rattle.gate_vcd.proofs.Waving.{wave_rises}
+use Rattle.net_waves.proofs.Waving.{wave_rises}
 use Rattle.warp_core.proofs.gathering.told.is_told_at.Goals as goal
 
 pub returns : goal.returns

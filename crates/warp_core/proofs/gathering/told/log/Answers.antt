@@ -1,5 +1,5 @@
 use Rattle.std.proofs.Common.{sym, subst}
-use Rattle.gate_vcd.specs.Waves.{IsWave}
+use Rattle.net_waves.specs.Waves.{IsWave}
 use Rattle.warp_core.proofs.Finished.{log_wave}
 use Rattle.warp_core.proofs.gathering.told.log.Goals as goal
 

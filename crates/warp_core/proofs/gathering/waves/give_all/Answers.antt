@@ -1,7 +1,7 @@
 use Rattle.std.proofs.Common.{◌<◌, ◌∙◌, sym, ap, All, vec_len}
 use Rattle.std.specs.Vec.Iter.{into_iter_items}
 use Rattle.std.proofs.lemmas.List.Elements.{All-rest}
-use Rattle.gate_vcd.specs.Waves.{lists_in, wave_of}
+use Rattle.net_waves.specs.Waves.{lists_in, wave_of}
 use Rattle.warp_process.specs.View.{Process}
 use Rattle.warp_core.specs.Inner.Gather.{after_block, after_blocks}
 use Rattle.warp_core.proofs.GivenLogs.{after_one, after_same}

@@ -1,6 +1,6 @@
 use Rattle.std.proofs.Common.{◌≡◌, ℕ, ◌<◌, vec_len, All}
 use Rattle.std.specs.Vec.Iter.{into_iter_items}
-use Rattle.gate_vcd.specs.Waves.{lists_in, wave_of}
+use Rattle.net_waves.specs.Waves.{lists_in, wave_of}
 use Rattle.warp_process.specs.View.{Process}
 use Rattle.warp_core.specs.Inner.Gather.{after_blocks}
 use Rattle.warp_core.proofs.gathering.waves.give_all.Given as goal

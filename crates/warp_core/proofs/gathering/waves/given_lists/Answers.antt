@@ -6,7 +6,7 @@ use Rattle.gate_values.specs.declared.logic.Change.{Change}
 use Rattle.gate_values.specs.Changes.{before_time}
 use Rattle.gate_netlist.specs.Cut.{owner_of}
 use Rattle.gate_vcd.specs.Given.{changes_of}
-use Rattle.gate_vcd.specs.Waves.{lists_in, wave_of}
+use Rattle.net_waves.specs.Waves.{lists_in, wave_of}
 use Rattle.warp_core.proofs.gathering.waves.given_lists.Goals as goal
 
 pub loop-net-preserved : goal.loop-net-preserved

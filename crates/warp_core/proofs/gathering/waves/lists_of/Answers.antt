@@ -3,7 +3,7 @@ use Rattle.std.specs.declared.alloc.Global.{Global}
 use Rattle.std.proofs.lemmas.List.{length-map}
 use Rattle.gate_values.specs.declared.logic.Change.{Change}
 use Rattle.gate_netlist.specs.Circuit.{nets_of}
-use Rattle.gate_vcd.specs.Waves.{lists_in}
+use Rattle.net_waves.specs.Waves.{lists_in}
 use Rattle.warp_core.proofs.GivenLogs.{blocks_within, all_told, all_waves}
 use Rattle.warp_core.proofs.gathering.waves.lists_of.Goals as goal
 

@@ -1,6 +1,0 @@
-use Rattle.std.proofs.Common.{arith}
-use Rattle.gate_vcd.proofs.Waving.{in_step-none}
-use Rattle.gate_vcd.proofs.waves.Waves.new.Goals as goal
-
-pub invariant_of-result : goal.invariant_of-result
-invariant_of-result c = in_step-none c.loop-net._net _ _ (omega arith) c.loop-net.invariant c.new-2.ensures

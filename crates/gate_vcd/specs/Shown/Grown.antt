@@ -1,6 +1,0 @@
--- What contracts see of a sink over a vector.
-use Rattle.gate_vcd.specs.Sink.{Held}
-use Rattle.gate_vcd.specs.declared.sink.Grow.TheInside.{Inside}
-
-abbrev pub held_by : Inside → Held
-held_by g = record { bytes = g.bytes.items; failed = g.failed }

@@ -1,0 +1,12 @@
+pub mod Rising
+pub mod Compared
+pub mod Paired
+pub mod Counting
+pub mod PlacingLaws
+pub mod TimelineLaws
+pub mod MergeLaws
+pub mod PackedLaws
+pub mod PackedParts
+pub mod KeyLaws
+pub mod Waving
+pub mod Following

@@ -1,0 +1,9 @@
+pub mod Waves
+pub mod Timeline
+pub mod Stops
+pub mod Packed
+pub mod Keys
+pub mod ByTime
+pub mod Merging
+pub mod Inner
+pub mod Shown
