@@ -49,7 +49,9 @@ fn put_in_order(
     requires { AreApart (words.old.items ++ outside.now) }
     ensures { OnOk result (words.new.items ≡ by_place (words.old.items ++ outside.now)) }
 {
-    words.extend_from_slice(outside)?;
+    if !outside.is_empty() {
+        words.extend_from_slice(outside)?;
+    }
     order.sort(words)
 }
 

@@ -1,5 +1,5 @@
 -- What the calls of a queue leave.
-use Rattle.std.proofs.Common.{◌≡◌, ℕ, ◌+◌, ◌-◌, ◌<◌, ◌≤◌, Some, Result, Ok, Err, List, [], ◌∷◌, ◌++◌, length, get_or, take, drop, map, refl, ap, sym, ◌∙◌, subst, arith, nat_lt, length-drop}
+use Rattle.std.proofs.Common.{◌≡◌, ℕ, ◌+◌, ◌-◌, ◌<◌, ◌≤◌, Some, Bool, true, false, Result, Ok, Err, List, [], ◌∷◌, ◌++◌, length, get_or, take, drop, map, refl, ap, sym, ◌∙◌, subst, arith, nat_lt, length-drop}
 use Rattle.std.specs.List.{between}
 use Rattle.std.specs.Result.{OnOk, OnErr}
 use Rattle.std.proofs.lemmas.List.Elements.{All-take, All-drop}
@@ -137,6 +137,11 @@ on_either (Err e) a b c d f g = g c d
 pub on_ok_both : {T E A B F : Type 0} (r : Result T E) → OnOk r A → OnOk r B → (A → B → F) → OnOk r F
 on_ok_both (Ok x) a b f = f a b
 on_ok_both (Err e) a b f = tt
+
+-- what holds of either answer
+pub on_answer : {A B C D F : Type 0} (b : Bool) → (b ≡ true → A) → (b ≡ true → B) → (b ≡ false → C) → (b ≡ false → D) → (A → B → F) → (C → D → F) → F
+on_answer true a b c d f g = f (a refl) (b refl)
+on_answer false a b c d f g = g (c refl) (d refl)
 
 -- the end is cut off behind the head, or ahead of it
 pub queue_cut : {T : Type 0} (ss : List Tally) (ws : List T) (dead read kept : Place) → IsQueue ss ws dead read → IsSpan ss dead kept → (read' : Place) → IsSpan ss dead read' → read'.stops ≤ kept.stops → IsQueue (take kept.stops ss) (take kept.words ws) dead read'

@@ -1,5 +1,5 @@
 //! A queue of words that come true a delay after the steps that made them.
-ghost use Rattle.std.specs.Prelude.{◌≡◌, ◌≤◌, ◌<◌, ◌++◌, ◌∷◌, [], OnOk, OnErr, is_none, false};
+ghost use Rattle.std.specs.Prelude.{◌≡◌, ◌≤◌, ◌<◌, ◌++◌, ◌∷◌, [], OnOk, OnErr, is_none, true, false};
 ghost use Rattle.warp_stores.specs.Dated.{first_time, last_time, standing};
 ghost use Rattle.warp_stores.specs.Delays.{empty_after, due_of, with_made, due_by, read_by, back_from, made_since, told_since, cut_since, IsForgotten};
 
@@ -62,6 +62,17 @@ impl DelayQueue {
         self.words.last_time()
     }
 
+    /// Puts a word that a step made, where the last word ahead is of that step and memory is at hand, and tells whether it did.
+    pub(crate) fn join(&mut self, step: u64, word: Word) -> bool
+        requires order { last_time (standing self.old.line) ≤ step }
+        ensures joined { result ≡ true → self.new ≡ with_made step (word ∷ []) self.old }
+        ensures due { is_none (first_time self.old.line.ahead) ≡ false → result ≡ true → due_of self.new ≡ due_of self.old }
+        ensures stays { result ≡ false → self.new ≡ self.old }
+    {
+        self.words.law();
+        self.words.join(step, word)
+    }
+
     /// Puts a word that a step made. An error is a refused growth; then all stays.
     pub(crate) fn put(&mut self, step: u64, word: Word) -> Result<(), AllocError>
         requires time { step < TIMES }
@@ -86,22 +97,16 @@ impl DelayQueue {
         self.words.append_all(step, words)
     }
 
-    /// The words ahead that come true by a time.
-    pub(crate) fn due_by(&self, time: u64) -> &[Word]
+    /// Reads the words ahead that come true by a time, and puts them behind a list. An error is a refused growth; then all
+    /// stays.
+    pub(crate) fn take_by(&mut self, time: u64, out: &mut Vec<Word>) -> Result<(), AllocError>
         requires { time < NEVER }
-        ensures { result.now ≡ due_by time self.now }
-    {
-        self.words
-            .ahead_before((time + 1).saturating_sub(self.delay as u64))
-    }
-
-    /// Reads the words ahead that come true by a time.
-    pub(crate) fn read_by(&mut self, time: u64)
-        requires { time < NEVER }
-        ensures { self.new ≡ read_by time self.old }
+        ensures read { OnOk result (self.new ≡ read_by time self.old) }
+        ensures out { OnOk result (out.new.items ≡ out.old.items ++ due_by time self.old) }
+        ensures err { OnErr result (self.new ≡ self.old) }
     {
         let step = (time + 1).saturating_sub(self.delay as u64);
-        self.words.read_before(step);
+        self.words.take_before(step, out)
     }
 
     /// Puts back the words that were read and come true at a time or later.

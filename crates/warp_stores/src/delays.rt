@@ -8,7 +8,6 @@ ghost use Rattle.warp_stores.specs.Inner.Reading.{AreSomeRead};
 use crate::batch::Batch;
 use crate::delay_queue::DelayQueue;
 use crate::least::{Least, NEVER};
-use crate::place::push_some;
 use crate::stop::TIMES;
 use crate::word::{PLACES, Word};
 use std::alloc::{AllocError, Global};
@@ -68,6 +67,24 @@ impl Delays {
 
     /// Puts a word that a step made into a queue. An error is a refused growth; then all stays.
     pub fn put(&mut self, queue: usize, step: u64, word: Word) -> Result<(), AllocError>
+        requires queue { queue < length self.old }
+        requires time { step < TIMES }
+        requires order { last_time (standing (queue_at self.old queue).line) ≤ step }
+        ensures ok { OnOk result (self.new ≡ slice_set self.old queue (with_made step (word ∷ []) (queue_at self.old queue))) }
+        ensures err { OnErr result (self.new ≡ self.old) }
+    {
+        let line = &mut self.queues[queue];
+        if line.is_read() {
+            return self.put_first(queue, step, word);
+        }
+        if line.join(step, word) {
+            return Ok(());
+        }
+        self.put_first(queue, step, word)
+    }
+
+    /// The same, also where it is the first word ahead, or the first of its step.
+    fn put_first(&mut self, queue: usize, step: u64, word: Word) -> Result<(), AllocError>
         requires queue { queue < length self.old }
         requires time { step < TIMES }
         requires order { last_time (standing (queue_at self.old queue).line) ≤ step }
@@ -213,8 +230,7 @@ fn take_due(
     let mut place = due.first(time);
     while place < queues.len() {
         let queue = &mut queues[place];
-        push_some(out, queue.due_by(time))?;
-        queue.read_by(time);
+        queue.take_by(time, out)?;
         due.set(place, queue.due());
         place = due.first(time);
     }

@@ -1,8 +1,9 @@
 //! Places between stops.
-ghost use Rattle.std.specs.Prelude.{◌≡◌, ◌<◌, ◌≤◌, ◌+◌, ◌-◌, ◌^◌, ◌++◌, ◌∷◌, [], IsOk, OnOk, OnErr, length, vec_len, vec_capacity, drop};
+ghost use Rattle.std.specs.Prelude.{◌≡◌, ◌<◌, ◌≤◌, ◌+◌, ◌-◌, ◌^◌, ◌++◌, ◌∷◌, [], IsOk, OnOk, OnErr, true, false, length, vec_len, vec_capacity, drop};
 ghost use Rattle.std.specs.List.{between};
-ghost use Rattle.warp_stores.specs.Inner.Stops.{total, Climbs, IsSpan, IsParted, HaveOneMore, HaveMore};
+ghost use Rattle.warp_stores.specs.Inner.Stops.{total, Climbs, IsSpan, IsParted, IsJoined, HaveOneMore, HaveMore};
 ghost use Rattle.warp_stores.specs.Shown.Stops.{end_of, told};
+ghost use Rattle.warp_stores.specs.Shown.StopBits.{Tally};
 ghost use Rattle.warp_stores.specs.Dated.{at, later};
 
 use crate::batch::Batch;
@@ -108,6 +109,34 @@ pub(crate) fn count_one(stops: &mut Vec<Stop>, fixed: usize, time: u64) -> Resul
     Ok(())
 }
 
+/// Counts one word more in the last stop, where that is at the time, has room and isn't among the first few, and appends it, if
+/// there is room; tells whether it did.
+#[inline]
+pub(crate) fn join<T: Copy>(
+    stops: &mut Vec<Stop>,
+    words: &mut Vec<T>,
+    fixed: usize,
+    time: u64,
+    word: T,
+) -> bool
+    ensures joined { result ≡ true → (last : Tally) × IsJoined fixed time stops.old.items stops.new.items last }
+    ensures words { result ≡ true → words.new.items ≡ words.old.items ++ word ∷ [] }
+    ensures stops_stay { result ≡ false → stops.new.items ≡ stops.old.items }
+    ensures words_stay { result ≡ false → words.new.items ≡ words.old.items }
+{
+    let len = stops.len();
+    if len <= fixed || words.len() == words.capacity() {
+        return false;
+    }
+    let last = stops[len - 1];
+    if last.time() != time || !last.has_room() {
+        return false;
+    }
+    stops[len - 1] = last.one_more();
+    words.push_reserved(word);
+    true
+}
+
 /// Counts one word more, and appends it.
 pub(crate) fn append<T>(
     stops: &mut Vec<Stop>,
@@ -180,9 +209,31 @@ where
     ensures stops_err { OnErr result (stops.new.items ≡ stops.old.items) }
     ensures words_err { OnErr result (words.new.items ≡ words.old.items) }
 {
+    if let [word] = more {
+        return append_alone(stops, words, time, *word);
+    }
     words.reserve(more.len())?;
     count_all(stops, time, more.len())?;
-    push_some(words, more)?;
+    words.extend_from_slice(more)?;
+    Ok(())
+}
+
+/// Counts one word more in a stop of its own, and appends it.
+fn append_alone<T: Copy>(
+    stops: &mut Vec<Stop>,
+    words: &mut Vec<T>,
+    time: u64,
+    word: T,
+) -> Result<(), AllocError>
+    requires { time < TIMES }
+    ensures stops { OnOk result (HaveMore time 1 stops.old.items stops.new.items) }
+    ensures words { OnOk result (words.new.items ≡ words.old.items ++ word ∷ []) }
+    ensures stops_err { OnErr result (stops.new.items ≡ stops.old.items) }
+    ensures words_err { OnErr result (words.new.items ≡ words.old.items) }
+{
+    words.reserve(1)?;
+    stops.push(Stop::new(time, 1))?;
+    words.push_reserved(word);
     Ok(())
 }
 

@@ -1,10 +1,11 @@
 //! Words in the order in which they came, and a head that reads them.
-ghost use Rattle.std.specs.Prelude.{◌≡◌, ◌≤◌, ◌<◌, ◌+◌, ◌++◌, ◌∷◌, [], OnOk, OnErr, IfSome, length, nat_lt};
+ghost use Rattle.std.specs.Prelude.{◌≡◌, ◌≤◌, ◌<◌, ◌+◌, ◌++◌, ◌∷◌, [], OnOk, OnErr, IfSome, length, nat_lt, true, false};
 ghost use Rattle.warp_stores.specs.Dated.{at, before, since, undated, first_time, last_time, later, standing, Rises};
 
 use crate::batch::Batch;
 use crate::place::{
-    Place, append, append_all, drop_front, end_of, first_since, last_before, part, tell,
+    Place, append, append_all, drop_front, end_of, first_since, join, last_before, part, push_some,
+    tell,
 };
 use crate::stop::{Stop, TIMES};
 use std::alloc::{AllocError, Global};
@@ -72,6 +73,21 @@ impl<T: Copy> Queue<T> {
         )
     }
 
+    /// Appends a word at a time, where the last one ahead is at that time and memory is at hand, and tells whether it did.
+    pub(crate) fn join(&mut self, time: u64, word: T) -> bool
+        requires { last_time (standing self.old) ≤ time }
+        ensures joined { result ≡ true → self.new ≡ record self.old { ahead = self.old.ahead ++ (time, word) ∷ [] } }
+        ensures stays { result ≡ false → self.new ≡ self.old }
+    {
+        join(
+            &mut self.stops,
+            &mut self.words,
+            self.read.stops,
+            time,
+            word,
+        )
+    }
+
     /// Appends the words of a time. An error is a refused growth; then all stays.
     pub fn append_all(&mut self, time: u64, words: &[T]) -> Result<(), AllocError>
         requires time { time < TIMES }
@@ -103,24 +119,23 @@ impl<T: Copy> Queue<T> {
         self.stops[self.stops.len() - 1].time()
     }
 
-    /// The words ahead that are before a time.
-    pub fn ahead_before(&self, time: u64) -> &[T]
-        ensures { result.now ≡ undated (before time self.now.ahead) }
-    {
-        let end = end_of(&self.stops, &self.words);
-        let to = first_since(self.stops.as_slice(), self.read, end, time);
-        part(self.words.as_slice(), self.read.words, to.words)
-    }
-
-    /// Reads the words ahead that are before a time.
-    pub fn read_before(&mut self, time: u64)
-        ensures dead { self.new.dead ≡ self.old.dead }
-        ensures read { self.new.read ≡ self.old.read ++ before time self.old.ahead }
-        ensures ahead { self.new.ahead ≡ since time self.old.ahead }
+    /// Reads the words ahead that are before a time, and puts them behind a list. An error is a refused growth; then all
+    /// stays.
+    pub fn take_before(&mut self, time: u64, out: &mut Vec<T>) -> Result<(), AllocError>
+        ensures dead { OnOk result (self.new.dead ≡ self.old.dead) }
+        ensures read { OnOk result (self.new.read ≡ self.old.read ++ before time self.old.ahead) }
+        ensures ahead { OnOk result (self.new.ahead ≡ since time self.old.ahead) }
+        ensures out { OnOk result (out.new.items ≡ out.old.items ++ undated (before time self.old.ahead)) }
+        ensures err { OnErr result (self.new ≡ self.old) }
     {
         let end = end_of(&self.stops, &self.words);
         let read = first_since(self.stops.as_slice(), self.read, end, time);
+        push_some(
+            out,
+            part(self.words.as_slice(), self.read.words, read.words),
+        )?;
         self.read = read;
+        Ok(())
     }
 
     /// Puts back the words that were read and aren't before a time.
