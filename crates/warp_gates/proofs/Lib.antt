@@ -10,6 +10,7 @@ pub mod Telling
 pub mod Evaluating
 pub mod Reached
 pub mod Loading
+pub mod Passing
 pub mod Steps
 pub mod Undoing
 pub mod Listing

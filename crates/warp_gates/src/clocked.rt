@@ -1,5 +1,5 @@
 //! Which flip-flops each place clocks.
-ghost use Rattle.std.specs.Prelude.{◌≡◌, ℕ, ◌<◌, ◌≤◌, [], min, length, get_or};
+ghost use Rattle.std.specs.Prelude.{◌≡◌, ℕ, ◌<◌, ◌≤◌, [], true, min, length, get_or};
 ghost use Rattle.std.specs.List.{All};
 ghost use Rattle.warp_gates.specs.Inner.Told.{all_edges};
 
@@ -49,11 +49,28 @@ impl Clocked {
         self.rows.get(place)
     }
 
+    /// Whether each word is of a place that doesn't stand between those that clock flip-flops. There is no branch, so that
+    /// many words are looked at at once.
+    pub(crate) fn passes(&self, words: &[Word]) -> bool
+        requires { All (λ word. word.place < length self.now) words.now }
+        ensures { result ≡ true → All (λ word. get_or self.now word.place [] ≡ []) words.now }
+    {
+        let mut passes = true;
+        for word in words {
+            let place = word.place();
+            passes &= (place < self.from) | (place >= self.to);
+        }
+        passes
+    }
+
     /// How many flip-flops the places of some words clock; the greatest number if they are more.
     pub(crate) fn room_for(&self, words: &[Word]) -> usize
         requires { All (λ word. word.place < length self.now) words.now }
         ensures { result ≡ min (length (all_edges self.now words.now)) usize.MAX }
     {
+        if self.passes(words) {
+            return 0;
+        }
         let mut room: usize = 0;
         for word in words {
             room = room.saturating_add(self.get(word.place()).len());

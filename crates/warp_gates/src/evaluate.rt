@@ -14,6 +14,7 @@ use crate::put::Put;
 use crate::wide::wide_output;
 use crate::wiring::Wiring;
 use gate_values::Logic;
+use std::mem::swap;
 use warp_stores::{PLACES, Word};
 
 /// Puts out a value: where it is another than the last one, the change goes to the place's queue. There is no branch, since
@@ -110,7 +111,11 @@ pub(crate) fn evaluate(
     ensures room { vec_len puts.new ≤ vec_len puts.old + length edges.now }
     ensures capacity { vec_capacity puts.new ≡ vec_capacity puts.old }
 {
+    // the list is the function's own meanwhile, so that its length can stay in a register
+    let mut list = Vec::new(*puts.allocator());
+    swap(&mut list, puts);
     for edge in edges {
-        evaluate_edge(fronts, *edge, values, outputs, wiring, puts);
+        evaluate_edge(fronts, *edge, values, outputs, wiring, &mut list);
     }
+    swap(&mut list, puts);
 }

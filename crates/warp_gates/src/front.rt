@@ -8,6 +8,7 @@ ghost use Rattle.warp_gates.specs.Inner.Told.{AreListed, all_edges};
 use crate::pins::{PINS, Pins};
 use gate_values::{Kind, Logic};
 use number_groups::Groups;
+use std::mem::swap;
 use warp_stores::Word;
 
 /// How many edges a gate can have: one a pin, and one for all inputs of a gate that has more.
@@ -83,12 +84,16 @@ pub(crate) fn show_all(
     ensures touched { AreTouched readers.now words.now fronts.old fronts.new }
     ensures listed { AreListed (all_edges readers.now words.now) fronts.new stale.new.items }
 {
-    stale.clear();
+    // the list is the function's own meanwhile, so that its length can stay in a register
+    let mut list = Vec::new(*stale.allocator());
+    swap(&mut list, stale);
+    list.clear();
     for word in words {
         let place = word.place();
         values[place as usize] = word.after();
-        show_and_list(fronts, readers.get(place), word.after(), stale);
+        show_and_list(fronts, readers.get(place), word.after(), &mut list);
     }
+    swap(&mut list, stale);
 }
 
 /// Words are taken back from the values of their places, the last of them first, and what is put back is shown to who

@@ -8,8 +8,8 @@ use Rattle.warp_gates.proofs.evaluate.evaluate.Given as goal
 abbrev pub invariant-loop-edge : goal.invariant-loop-edge
 invariant-loop-edge l = record {
   fronts : AreFronts l.wiring l.values l.fronts;
-  refreshed : AreRefreshed (take l.edge-index l.edges) l.initial.fronts l.fronts;
-  evaluating : (old : List Front) (before : List Put) → AreEvaluating l.wiring l.values old l.initial.fronts before l.initial.puts.items → AreEvaluating l.wiring l.values old l.fronts before l.puts.items;
-  room : vec_len l.puts ≤ vec_len l.initial.puts + l.edge-index;
-  capacity : vec_capacity l.puts ≡ vec_capacity l.initial.puts;
+  refreshed : AreRefreshed (take l.edge-index l.edges) l.fn.fronts l.fronts;
+  evaluating : (old : List Front) (before : List Put) → AreEvaluating l.wiring l.values old l.fn.fronts before l.fn.puts.items → AreEvaluating l.wiring l.values old l.fronts before l.list.items;
+  room : vec_len l.list ≤ vec_len l.fn.puts + l.edge-index;
+  capacity : vec_capacity l.list ≡ vec_capacity l.fn.puts;
 }

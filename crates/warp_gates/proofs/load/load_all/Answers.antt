@@ -9,7 +9,12 @@ use Rattle.warp_gates.specs.Inner.Loading.{AreLoaded, StillPutOut}
 use Rattle.warp_gates.proofs.Telling.{told_none}
 use Rattle.warp_gates.proofs.Evaluating.{all_edges-more, all_edges-within}
 use Rattle.warp_gates.proofs.Loading.{loaded_none, loaded_call, still_put_out, are_flops, flops_within, not_before}
+use Rattle.warp_gates.proofs.Passing.{loaded_still}
 use Rattle.warp_gates.proofs.load.load_all.Goals as goal
+
+pub returns-then-passes-clause-loaded : goal.returns-then-passes-clause-loaded
+returns-then-passes-clause-loaded c =
+    loaded_still c.args.wiring.now c.args.clocked.now c.args.values.now c.args.words.now c.args.fronts.now c.requires.clocked (c.passes.ensures c.if-passes.true) c.requires.settled.each
 
 pub loop-word-init : goal.loop-word-init
 loop-word-init c = record {
