@@ -8,5 +8,6 @@ pub mod MergeLaws
 pub mod PackedLaws
 pub mod PackedParts
 pub mod KeyLaws
+pub mod Appending
 pub mod Waving
 pub mod Following

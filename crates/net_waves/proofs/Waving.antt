@@ -139,7 +139,7 @@ count-apart net [] s h = refl
 count-apart net (c ∷ cs) s h = omega (arith, one-apart net c s h, count-apart net cs s h)
 
 -- a wave has a stop once where it has a change
-count-here : (net from : ℕ) (before : Logic) (cs : List Change) (s : Stop) → IsWaveFrom from before cs → s.net ≡ net → count s (stops_of net cs) ≡ marked s.value (pair_at cs s.time)
+pub count-here : (net from : ℕ) (before : Logic) (cs : List Change) (s : Stop) → IsWaveFrom from before cs → s.net ≡ net → count s (stops_of net cs) ≡ marked s.value (pair_at cs s.time)
 count-here net from before [] s w h = refl
 count-here net from before (c ∷ cs) s w h =
     let rest = count-here net (c.time + 1) c.value cs s w.2 h in
@@ -171,12 +171,16 @@ module _ (lists : List (List Change)) (waves : (n : ℕ) → IsWave (wave_of lis
     | inr past ↦ (rw (get_or_past lists s.net [] past) (count-above (length lists) past))
   ]
 
+-- stops that stand as often as those of all changes of waves are theirs
+pub are_stops-of : (lists : List (List Change)) (stops : List Stop) → ((n : ℕ) → IsWave (wave_of lists n)) → ((s : Stop) → count s stops ≡ count s (stops_below lists (length lists))) → AreStopsOf lists stops
+are_stops-of lists stops waves same s = same s ∙ count-all lists waves s
+
 -- waves and the stops of all their changes
 pub in_step-of : (lists : List (List Change)) (stops : List Stop) → length lists < 2 ^ 32 → ((n : ℕ) → IsWave (wave_of lists n)) → ((s : Stop) → count s stops ≡ count s (stops_below lists (length lists))) → IsInStep lists stops
 in_step-of lists stops few waves same = record {
   few = few;
   waves = waves;
-  in_step = λ s. same s ∙ count-all lists waves s;
+  in_step = are_stops-of lists stops waves same;
 }
 
 pub on_err : {T E P : Type 0} (r : Result T E) → P → OnErr r P

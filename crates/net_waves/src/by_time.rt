@@ -1,11 +1,11 @@
 //! All changes by time: in a word each where times are dense, else in a key each, and in runs where neither can be, as also once
 //! a change is pushed.
 
-ghost use Rattle.std.specs.Prelude.{◌≡◌, ◌≤◌, ◌+◌, ℕ, [], IfOk, OnOk, OnErr, length};
+ghost use Rattle.std.specs.Prelude.{◌≡◌, ◌≤◌, ◌+◌, ◌++◌, ℕ, [], true, false, IfOk, OnOk, OnErr, length, map};
 ghost use Rattle.net_waves.specs.declared.timeline.Stop.{Stop};
 ghost use Rattle.net_waves.specs.Waves.{lists_in, wave_of};
 ghost use Rattle.net_waves.specs.Inner.Lists.{IsRising};
-ghost use Rattle.net_waves.specs.Timeline.{count, one};
+ghost use Rattle.net_waves.specs.Timeline.{count, one, stop_by};
 ghost use Rattle.net_waves.specs.Inner.Stops.{stops_below};
 ghost use Rattle.net_waves.specs.ByTime.{stops_in};
 
@@ -13,7 +13,7 @@ use crate::keyed::{Keyed, do_rise};
 use crate::packed::Packed;
 use crate::packing::{pack, pack_by};
 use crate::placing::keys_by_time;
-use crate::timeline::{Stop, Timeline};
+use crate::timeline::{NetMove, Stop, Timeline};
 use gate_values::Change;
 use std::alloc::{AllocError, Global};
 use std::thread::Threads;
@@ -43,6 +43,20 @@ impl ByTime {
         ensures { stops_in result ≡ [] }
     {
         ByTime::Runs(Timeline::new(alloc))
+    }
+
+    /// No change, in words: what is appended goes into a word each.
+    pub fn in_words(alloc: Global) -> ByTime
+        ensures { stops_in result ≡ [] }
+    {
+        ByTime::Words(Packed::empty(alloc))
+    }
+
+    /// No change, in keys: what is appended goes into a key each.
+    pub fn in_keys(alloc: Global) -> ByTime
+        ensures { stops_in result ≡ [] }
+    {
+        ByTime::Keys(Keyed::empty(alloc))
     }
 
     /// The changes in a list for each net. An error is a refused growth.
@@ -89,5 +103,21 @@ impl ByTime {
         timeline.push(stop)?;
         *self = ByTime::Runs(timeline);
         Ok(())
+    }
+
+    /// Appends the changes of a time that is later than that of all others, by nets that rise. Tells whether it did: not where the
+    /// time isn't later (in keys they may also be of the last time, and of greater nets), where nets don't rise, where a net or the
+    /// time has no word or no key, where words would be too many, and never in runs. Where it did not, and where an error tells
+    /// of a refused growth, there are the same changes.
+    pub fn append_all(&mut self, time: u64, moves: &[NetMove]) -> Result<bool, AllocError>
+        ensures appended { IfOk result (λ done. done ≡ true → stops_in self.new ≡ stops_in self.old ++ map (stop_by time) moves.now) }
+        ensures stays { IfOk result (λ done. done ≡ false → stops_in self.new ≡ stops_in self.old) }
+        ensures err { OnErr result (stops_in self.new ≡ stops_in self.old) }
+    {
+        match self {
+            ByTime::Words(packed) => packed.append_all(time, moves),
+            ByTime::Keys(keyed) => keyed.append_all(time, moves),
+            ByTime::Runs(_) => Ok(false),
+        }
     }
 }

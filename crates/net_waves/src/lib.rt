@@ -22,5 +22,5 @@ pub use by_time::ByTime;
 pub use keyed::{Keyed, stop_of};
 pub use merging::next_chunk;
 pub use packed::{Packed, stop_at};
-pub use timeline::{Stop, Timeline};
+pub use timeline::{NetMove, Stop, Timeline, stops_by_time};
 pub use waves::{Waves, are_waves, is_wave};

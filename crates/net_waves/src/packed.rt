@@ -1,13 +1,25 @@
 //! All changes by time in a word each, where times are dense: 4 bytes a change, and 4 a time.
 
-ghost use Rattle.std.specs.Prelude.{◌≡◌, ◌≤◌, ◌<◌, ◌+◌, ◌/◌, ◌++◌, length, drop, take, map, IfOk, OnOk};
+ghost use Rattle.std.specs.Prelude.{◌≡◌, ◌≤◌, ◌<◌, ◌+◌, ◌-◌, ◌/◌, ◌++◌, [], true, false, get_or, length, drop, take, map, vec_len, vec_capacity, IsTrue, IfOk, OnOk, OnErr};
+ghost use Rattle.std.specs.List.{AllByRecursion};
+ghost use Rattle.net_waves.specs.declared.timeline.Stop.{Stop};
+ghost use Rattle.net_waves.specs.Timeline.{stop_by};
 ghost use Rattle.net_waves.specs.Packed.{AreBounds, IsPacked, value_of, told, words_at, all_told, times};
-ghost use Rattle.net_waves.specs.Inner.Packed.{bits_of, word_of};
+ghost use Rattle.net_waves.specs.Inner.Packed.{bits_of, word_of, word_by, NetsRise, EndAt, IsOpen};
 
-use crate::timeline::Stop;
+use crate::timeline::{NetMove, Stop};
 use gate_values::Logic;
-use std::alloc::AllocError;
+use std::alloc::{AllocError, Global};
 use std::marker::Model;
+
+/// No change is appended at this time, or later: each time costs a bound, whether there is a change at it or not.
+const TIMES: u64 = 1_048_576;
+
+/// A net of this number, or a greater one, has no word.
+const NETS: u32 = 1_073_741_823;
+
+/// No more words than so many come by appending: a bound could not tell where they end.
+const MOST_WORDS: usize = 4_294_967_295;
 
 /// For each time where its words begin, and at last where those of the last time end; and the words, each of a net and
 /// the value that it takes.
@@ -103,7 +115,44 @@ fn add_told(stops: &mut Vec<Stop>, time: u64, words: &[u32]) -> Result<(), Alloc
     Ok(())
 }
 
+/// Whether the last of bounds is this end, if there are bounds.
+fn do_end_at(bounds: &[u32], end: usize) -> bool
+    ensures { IsTrue result → EndAt bounds.now end }
+{
+    match bounds {
+        [] => true,
+        [.., last] => *last as usize == end,
+    }
+}
+
+/// Pushes the words of moves, if each net has a word and they rise. Tells whether it did; else words are as they were.
+fn push_all(words: &mut Vec<u32>, moves: &[NetMove]) -> bool
+    requires room { vec_len words.old + length moves.now ≤ vec_capacity words.old }
+    ensures pushed { IsTrue result → words.new.items ≡ words.old.items ++ map word_by moves.now }
+    ensures rising { IsTrue result → NetsRise 0 1073741823 (map word_by moves.now) }
+    ensures stays { result ≡ false → words.new.items ≡ words.old.items }
+{
+    let start = words.len();
+    let mut from: u32 = 0;
+    for entry in moves {
+        if entry.net < from || entry.net >= NETS {
+            words.truncate(start);
+            return false;
+        }
+        from = entry.net + 1;
+        words.push_reserved(word(entry.net, entry.value));
+    }
+    true
+}
+
 impl Packed {
+    /// No word, and no time.
+    pub(crate) fn empty(alloc: Global) -> Packed
+        ensures { all_told result ≡ [] }
+    {
+        Packed::new(Vec::new(alloc), Vec::new(alloc))
+    }
+
     /// Words between bounds.
     pub(crate) fn new(bounds: Vec<u32>, words: Vec<u32>) -> Packed
         requires { IsPacked (record { bounds = bounds.items; words = words.items }) }
@@ -144,5 +193,64 @@ impl Packed {
             add_told(&mut stops, time as u64, self.words(time))?;
         }
         Ok(stops)
+    }
+
+    /// Whether so many words more may stand behind all words.
+    fn is_open(&self, more: usize) -> bool
+        ensures { IsTrue result → IsOpen self.now more }
+    {
+        let end = self.words.len();
+        if end > MOST_WORDS || more > MOST_WORDS - end {
+            return false;
+        }
+        do_end_at(self.bounds.as_slice(), end)
+    }
+
+    /// Has so many times, more than before, and the memory for so many words more. An error is a refused growth; either way the
+    /// same is told.
+    fn grow_to(&mut self, many: usize, more: usize) -> Result<(), AllocError>
+        requires open { IsOpen self.old more }
+        requires later { times self.old < many }
+        requires few { many ≤ 1048576 }
+        ensures told { all_told self.new ≡ all_told self.old }
+        ensures open { OnOk result (IsOpen self.new more) }
+        ensures times { OnOk result (times self.new ≡ many) }
+    {
+        self.words.reserve(more)?;
+        let end = self.words.len() as u32;
+        self.bounds.resize(many + 1, end)
+    }
+
+    /// Appends words at the last time, which has none, if each net has a word and they rise. Tells whether it did. An error is a
+    /// refused growth.
+    fn push_words(&mut self, moves: &[NetMove]) -> Result<bool, AllocError>
+        requires open { IsOpen self.old (length moves.now) }
+        requires some { 0 < times self.old }
+        requires early { AllByRecursion (λ (s : Stop). s.time < times self.old - 1) (all_told self.old) }
+        ensures appended { IfOk result (λ done. done ≡ true → all_told self.new ≡ all_told self.old ++ map (stop_by (times self.old - 1)) moves.now) }
+        ensures stays { IfOk result (λ done. done ≡ false → all_told self.new ≡ all_told self.old) }
+        ensures err { OnErr result (all_told self.new ≡ all_told self.old) }
+    {
+        self.words.reserve(moves.len())?;
+        if !push_all(&mut self.words, moves) {
+            return Ok(false);
+        }
+        let last = self.bounds.len() - 1;
+        self.bounds[last] = self.words.len() as u32;
+        Ok(true)
+    }
+
+    /// Appends the changes of a time that is later than that of all others, by nets that rise. Tells whether it did. An error is
+    /// a refused growth.
+    pub(crate) fn append_all(&mut self, time: u64, moves: &[NetMove]) -> Result<bool, AllocError>
+        ensures appended { IfOk result (λ done. done ≡ true → all_told self.new ≡ all_told self.old ++ map (stop_by time) moves.now) }
+        ensures stays { IfOk result (λ done. done ≡ false → all_told self.new ≡ all_told self.old) }
+        ensures err { OnErr result (all_told self.new ≡ all_told self.old) }
+    {
+        if time >= TIMES || time < self.times() as u64 || !self.is_open(moves.len()) {
+            return Ok(false);
+        }
+        self.grow_to(time as usize + 1, moves.len())?;
+        self.push_words(moves)
     }
 }

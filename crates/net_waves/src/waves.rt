@@ -120,6 +120,16 @@ impl Waves {
         Ok(Waves { lists, by_time })
     }
 
+    /// Waves of changes, a list for each net, and the same changes by time.
+    pub fn with(lists: Vec<Vec<Change>>, by_time: ByTime) -> Waves
+        requires few { length lists.items ≤ 4294967295 }
+        requires waves { (n : ℕ) → IsWave (wave_of (lists_in lists.items) n) }
+        requires in_step { AreStopsOf (lists_in lists.items) (stops_in by_time) }
+        ensures { result ≡ lists_in lists.items }
+    {
+        Waves { lists, by_time }
+    }
+
     /// What is true of all waves.
     pub fn law(&self)
         ensures { (n : ℕ) → IsWave (wave_of self.now n) }
