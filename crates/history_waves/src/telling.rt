@@ -1,0 +1,124 @@
+//! From a history to all changes by time.
+
+ghost use Rattle.std.specs.Prelude.{◌≡◌, ◌≤◌, ◌++◌, [], ℕ, List, Option, true, IfOk, IfSome, length};
+ghost use Rattle.net_waves.specs.ByTime.{stops_in};
+ghost use Rattle.warp_stores.specs.Words.{Move};
+ghost use Rattle.warp_stores.specs.Dated.{Dated, at};
+ghost use Rattle.history_waves.specs.Histories.{AreBoth};
+ghost use Rattle.history_waves.specs.Inner.Pending.{AreUpTo};
+
+use crate::merging::{list_given, list_time};
+use net_waves::{ByTime, NetMove, Stop};
+use std::alloc::{AllocError, Global};
+use warp_stores::{Queue, Steps, Word};
+
+/// Up to a lesser horizon changes stand in words, else in keys.
+const FAR: u64 = 32_768;
+
+/// All changes by time, up to a horizon: those that are given, which stand in the order of time, and those of own nets that a history
+/// tells, whose net stands at the place of each word; none where they don't come one behind the other. An error is a refused growth.
+pub fn by_time_of(
+    alloc: Global,
+    horizon: u64,
+    own: &[Option<u32>],
+    history: Steps<Word>,
+    given: &[Stop],
+) -> Result<Option<ByTime>, AllocError>
+    ensures { IfOk result (λ all. IfSome all (λ by_time. AreBoth own.now given.now history (stops_in by_time))) }
+{
+    let mut by_time = if horizon < FAR {
+        ByTime::in_words(alloc)
+    } else {
+        ByTime::in_keys(alloc)
+    };
+    let mut queue = history.into_queue();
+    let mut moves = Vec::new(alloc);
+    if tell_all(alloc, own, &mut queue, given, &mut moves, &mut by_time)? {
+        return Ok(Some(by_time));
+    }
+    Ok(None)
+}
+
+/// Appends the given changes and those of own nets that a queue tells, by time, and tells whether each came behind the one before. An
+/// error is a refused growth. The moves are a place to work in.
+fn tell_all(
+    alloc: Global,
+    own: &[Option<u32>],
+    queue: &mut Queue<Word>,
+    given: &[Stop],
+    moves: &mut Vec<NetMove>,
+    by_time: &mut ByTime,
+) -> Result<bool, AllocError>
+    requires read { queue.old.read ≡ [] }
+    requires none { stops_in by_time.old ≡ [] }
+    ensures { IfOk result (λ done. done ≡ true → AreBoth own.now given.now queue.old.ahead (stops_in by_time.new)) }
+{
+    let mut words = Vec::new(alloc);
+    let mut told = 0;
+    while let Some(time) = queue.head() {
+        queue.law();
+        let Some(before) = tell_given(given, told, time, moves, by_time)? else {
+            return Ok(false);
+        };
+        words.clear();
+        queue.take_before(time + 1, &mut words)?;
+        let Some(next) = tell_time(own, time, words.as_slice(), given, before, moves, by_time)?
+        else {
+            return Ok(false);
+        };
+        told = next;
+    }
+    match tell_given(given, told, u64::MAX, moves, by_time)? {
+        Some(all) => Ok(all == given.len()),
+        None => Ok(false),
+    }
+}
+
+/// Appends the given changes before a time, from a number on; answers how many are appended by then, none where one doesn't come behind
+/// the one before. An error is a refused growth. The moves are a place to work in.
+fn tell_given(
+    given: &[Stop],
+    from: usize,
+    until: u64,
+    moves: &mut Vec<NetMove>,
+    by_time: &mut ByTime,
+) -> Result<Option<usize>, AllocError>
+    requires { from ≤ length given.now }
+    ensures { IfOk result (λ next. IfSome next (λ next. (next ≤ length given.now) × ((own : List (Option ℕ)) (words : List (Dated Move)) → AreUpTo own given.now from words (stops_in by_time.old)
+        → AreUpTo own given.now next words (stops_in by_time.new)))) }
+{
+    let mut next = from;
+    while next < given.len() && given[next].time < until {
+        let time = given[next].time;
+        moves.clear();
+        let more = list_given(given, next, time, u32::MAX, moves)?;
+        if more == next || !by_time.append_all(time, moves.as_slice())? {
+            return Ok(None);
+        }
+        next = more;
+    }
+    Ok(Some(next))
+}
+
+/// Appends the changes of a time: those of own nets that words tell, and the given ones, from a number on; answers how many of these are
+/// appended by then, none where they don't come behind the others. An error is a refused growth. The moves are a place to work in.
+fn tell_time(
+    own: &[Option<u32>],
+    time: u64,
+    words: &[Word],
+    given: &[Stop],
+    from: usize,
+    moves: &mut Vec<NetMove>,
+    by_time: &mut ByTime,
+) -> Result<Option<usize>, AllocError>
+    requires { from ≤ length given.now }
+    ensures { IfOk result (λ next. IfSome next (λ next. (next ≤ length given.now) × ((before : List (Dated Move)) → AreUpTo own.now given.now from before (stops_in by_time.old)
+        → AreUpTo own.now given.now next (before ++ at time words.now) (stops_in by_time.new)))) }
+{
+    moves.clear();
+    let next = list_time(own, time, words, given, from, moves)?;
+    if by_time.append_all(time, moves.as_slice())? {
+        return Ok(Some(next));
+    }
+    Ok(None)
+}
