@@ -1,5 +1,5 @@
 -- Lists of event times (`Times`), what a block at rest shows (`Resting`), steps of a turn (`Stepping`) and its end (`Finishing`), what is received
--- (`Admitting`, `Returning`), what a commit leaves (`Keeping`), a new block (`Opening`), a look (`Looking`), and logs that are given away (`Giving`).
+-- (`Admitting`, `Returning`), what a commit leaves (`Keeping`), a new block (`Opening`), a look (`Looking`), logs that are given away (`Giving`), and a history that tells them (`Outplayed`).
 pub mod Times
 pub mod Resting
 pub mod Stepping
@@ -9,4 +9,5 @@ pub mod Admitting
 pub mod Keeping
 pub mod Looking
 pub mod Giving
+pub mod Outplayed
 pub mod Opening

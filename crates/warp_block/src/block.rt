@@ -14,7 +14,9 @@ ghost use Rattle.warp_process.specs.Heard.{IsToldOf};
 ghost use Rattle.warp_process.specs.Advance.{IsAdvanced, IsAfterEvent};
 ghost use Rattle.warp_process.specs.Commit.{IsCommittable, IsCommitted, IsCommitRefusal, IsUnsettledBelow, IsFirstUnsettled};
 ghost use Rattle.warp_process.specs.Sends.{SendsOnce};
+ghost use Rattle.warp_block.specs.Histories.{TellLogs};
 
+use crate::ending::{play_out, told_history};
 use crate::give::give;
 use crate::look::Look;
 use crate::play::advance;
@@ -29,7 +31,7 @@ use warp_engine::Engine;
 use warp_part::Part;
 use warp_process::{BlockFault, Entry, Heard, Message};
 use warp_sends::tell_first;
-use warp_stores::{Batch, Word};
+use warp_stores::{Batch, Steps, Word};
 
 /// A logical process: what it has received, whether something happens at time 0 by what its flip-flops begin with, the engine
 /// that plays it, and the event times since its oldest saved state. The batch and the words are places to work in.
@@ -317,6 +319,32 @@ impl Block {
         let Block { heard, engine, .. } = self;
         let part = heard.into_part();
         give(&part, engine.into_lists().into_vec(), lists);
+    }
+
+    /// Gives the logs away, as [`Block::give_logs`] does, and answers the block's part and its history up to the horizon: of each own net
+    /// what its log says, in the order of time. There is no answer where something is left to do, or where memory is wanted for what
+    /// nobody reads.
+    pub fn give_history(self, lists: &mut Vec<Vec<Change>>) -> Option<(Part, Steps<Word>)>
+        requires places { All (λ net. net < vec_len lists.old) self.seen.part.nets }
+        ensures len { vec_len lists.new ≡ vec_len lists.old }
+        ensures own { (n : ℕ) → IsTrue (owns self.seen.part n) → wave_of (lists_in lists.new.items) n ≡ log_of self.seen n }
+        ensures others { (n : ℕ) → owns self.seen.part n ≡ false → wave_of (lists_in lists.new.items) n ≡ wave_of (lists_in lists.old.items) n }
+        ensures part { IfSome result (λ told. told.0 ≡ self.seen.part) }
+        ensures history { IfSome result (λ told. TellLogs self.seen told.1) }
+    {
+        let Block {
+            heard,
+            begins,
+            mut engine,
+            times,
+            mut batch,
+            mut words,
+        } = self;
+        let told = play_out(&heard, begins, &mut engine, &times, &mut words, &mut batch);
+        let part = heard.into_part();
+        let (logs, history) = engine.into_parts();
+        give(&part, logs.into_vec(), lists);
+        told_history(told, part, history)
     }
 
     /// The entry of a net at a time; empty for a net that the block doesn't read, and for an own one.

@@ -16,6 +16,7 @@
 #![tactic(auto)]
 
 mod block;
+mod ending;
 mod give;
 mod look;
 mod play;

@@ -1,6 +1,7 @@
 -- How an engine begins (`Opening`), what is made from a step on (`Making`), how calls keep what is true of a run (`Running`), what it shows of a moment
--- (`Saving`), and when a place that is read moves next (`Nexting`).
+-- (`Saving`), what came true beside the lists (`Recalling`), and when a place that is read moves next (`Nexting`).
 mod Running
+pub mod Recalling
 pub mod Making
 pub mod Opening
 pub mod Saving

@@ -13,7 +13,7 @@ use std::alloc::{AllocError, Global};
 use std::marker::Model;
 use warp_gates::Wiring;
 use warp_journal::Journal;
-use warp_stores::{Batch, Lists, PLACES, TIMES, Word};
+use warp_stores::{Batch, Lists, PLACES, Steps, TIMES, Word};
 
 /// Places that are played up to a mark, with the list of each one's changes up to a horizon.
 #[derive(Debug, Drop)]
@@ -139,6 +139,15 @@ impl Engine {
         ensures { result ≡ self.lists }
     {
         self.lists
+    }
+
+    /// Gives away the lists, and all that came true.
+    pub fn into_parts(self) -> (Lists, Steps<Word>)
+        ensures lists { result.0 ≡ self.lists }
+        ensures history { result.1 ≡ self.book.history }
+    {
+        let Engine { journal, lists, .. } = self;
+        (lists, journal.into_history())
     }
 
     /// Plays a time, and all before it: at the time itself these words are brought from outside. What is made isn't told yet.

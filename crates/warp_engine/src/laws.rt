@@ -1,10 +1,11 @@
 //! Laws of what has run.
-ghost use Rattle.std.specs.Prelude.{◌≡◌, ◌<◌, ◌≤◌, ◌+◌, ◌++◌, ℕ, List, length};
+ghost use Rattle.std.specs.Prelude.{◌≡◌, ◌<◌, ◌≤◌, ◌+◌, ◌++◌, ℕ, suc, List, [], length, get_or};
 ghost use Rattle.gate_values.specs.declared.logic.Logic.{Logic};
 ghost use Rattle.gate_values.specs.declared.logic.Logic.TheVariants.{X};
 ghost use Rattle.gate_values.specs.Behaviour.{Source, before, source_delay};
 ghost use Rattle.warp_stores.specs.declared.least.TheConstants.{NEVER};
 ghost use Rattle.warp_stores.specs.Delays.{least_due};
+ghost use Rattle.warp_stores.specs.Lists.{changes_at};
 ghost use Rattle.warp_gates.specs.Cells.{Cell, AreGates, value_at};
 ghost use Rattle.place_moves.specs.Journals.{IsPlayed};
 ghost use Rattle.warp_journal.specs.Books.{Book, journal_of};
@@ -41,6 +42,13 @@ pub fn moves_next()
     ensures moves { (source : ℕ → Source) (given : ℕ → ℕ → Logic) (floor : ℕ) (book : Book) → IsPlayed source given floor (journal_of book) → AreParted source book
         → least_due book.queues.read < NEVER → (place : ℕ) × IsUsed book.gates.cells place × (0 < source_delay (source place)) × (least_due book.queues.read < book.mark + source_delay (source place)) × (IsStill source given place (least_due book.queues.read) → ⊥) }
     ensures ahead { (source : ℕ → Source) (given : ℕ → ℕ → Logic) (floor : ℕ) (book : Book) → IsPlayed source given floor (journal_of book) → book.mark ≤ NEVER → book.mark ≤ least_due book.queues.read }
+{}
+
+/// Where all up to the horizon is played, and nothing that was made is untold, what came true of a place that a gate or a flip-flop sets
+/// is its list.
+pub fn history_tells_lists()
+    ensures { (source : ℕ → Source) (given : ℕ → ℕ → Logic) (floor : ℕ) (run : Run) → IsRun source given floor run → run.book.mark ≡ suc run.horizon → makings run.told run ≡ []
+        → (place : ℕ) → 0 < source_delay (source place) → changes_at place run.book.history ≡ get_or run.lists place [] }
 {}
 
 /// What is made from a step on comes true later, a delay after the step that made it, at places that are there.

@@ -16,4 +16,4 @@ mod engine;
 mod laws;
 
 pub use engine::{Engine, first_words};
-pub use laws::{has_opened, makings_are_later, moves_next, shows_moments};
+pub use laws::{has_opened, history_tells_lists, makings_are_later, moves_next, shows_moments};

@@ -165,6 +165,13 @@ impl Journal {
         self.queues.forget_below(time);
     }
 
+    /// Gives away all that came true.
+    pub fn into_history(self) -> Steps<Word>
+        ensures { result ≡ self.history }
+    {
+        self.history
+    }
+
     /// The least time at which something comes true.
     fn due(&self) -> u64
         ensures { result ≡ least_due (all_of self.now.queues) }
