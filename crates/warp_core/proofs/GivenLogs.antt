@@ -1,6 +1,6 @@
 -- What the lists hold after all blocks have given their logs.
-use Rattle.std.proofs.Common.{◌≡◌, ◌≢◌, ℕ, zero, suc, ◌+◌, ◌<◌, ◌≤◌, true, false, cond, IfSome, IsTrue, Option, Some, None, List, [], ◌∷◌, length, inl, inr, refl, ap, sym, ◌∙◌, subst, arith, All}
-use Rattle.std.proofs.lemmas.Bool.{cases_Bool, cases_lt, cond-true, cond-false, ne_eqb}
+use Rattle.std.proofs.Common.{◌≡◌, ◌≢◌, ℕ, zero, suc, ◌+◌, ◌-◌, ◌<◌, ◌≤◌, true, false, cond, IfSome, IsTrue, Option, Some, None, List, [], ◌∷◌, length, get_or, inl, inr, refl, ap, sym, ◌∙◌, subst, arith, All}
+use Rattle.std.proofs.lemmas.Bool.{cases_Bool, cases_lt, cond-true, cond-false, ne_eqb, true≢false}
 use Rattle.std.proofs.lemmas.List.{get_or_default, get_or_past}
 use Rattle.gate_values.specs.declared.logic.Change.{Change}
 use Rattle.gate_values.specs.Changes.{before_time}
@@ -27,6 +27,16 @@ after_one v old new own others n = elim (cases_Bool (owns v.part n)) [
   | inl is ↦ own n is ∙ sym (cond-true (owns v.part n) (log_of v n) (old n) is)
   | inr other ↦ others n other ∙ sym (cond-false (owns v.part n) (log_of v n) (old n) other)
 ]
+
+-- what all of some blocks are is the one that was taken from behind, where there was one
+pub all_one : (P : Process → Type 0) (ps : List Process) (p : Process) (n : ℕ) → All P ps → n ≡ 1 → n ≡ length ps → Some p ≡ Some (get_or ps (n - 1) p) → P p
+all_one P ps p n all one same is =
+    let first : n - 1 ≡ 0 = omega (arith, one) in
+    let here : get_or ps 0 p ≡ p = ap (λ (i : ℕ). get_or ps i p) (sym first) ∙ sym (some_is p (get_or ps (n - 1) p) is) in
+    subst P here (all 0 p (omega (arith, one, same)))
+  where
+    some_is : (a b : Process) → Some a ≡ Some b → a ≡ b
+    some_is a b e = cc
 
 -- the same lists before, the same lists after
 pub after_same : (ps : List Process) (f g : ℕ → List Change) → ((n : ℕ) → f n ≡ g n) → (n : ℕ) → after_blocks ps f n ≡ after_blocks ps g n
@@ -69,6 +79,15 @@ module _ (d : Design) (cut : Ownership) (g : Given) (horizon : ℕ) (blocks : Li
           let l = owner_within n b e in
           after_own blocks lists n b (omega (arith, l, count)) (ap (λ (p : Portion). owns p n) (parts b l).part ∙ owner_owns d cut fits b n e)
           (λ c k apart. other_block n c k (ap (is_owner c) e ∙ ne_eqb b c (λ same. apart (sym same))))
+
+  -- lists that say nothing of a net that has an owner say nothing of a block's own nets
+  pub none_given : (lists : List (List Change)) → length lists ≡ nets_of d → ((n : ℕ) → n < nets_of d → owner_of cut n ≢ None → wave_of lists n ≡ [])
+      → All (λ (p : Process). (n : ℕ) → owns p.seen.part n ≡ true → wave_of lists n ≡ []) blocks
+  none_given lists same none b q l n own = elim (cases_lt n (nets_of d)) [
+    | inr past ↦ get_or_past lists n [] (omega (arith, same, past))
+    | inl within ↦ none n within (λ free.
+        true≢false (sym (subst (λ (p : Process). owns p.seen.part n ≡ true) (get_or_default blocks b q no_process l) own) ∙ other_block n b l (ap (is_owner b) free)))
+  ]
 
   -- the nets of each block are the circuit's
   pub blocks_within : All (λ (p : Process). All (λ n. n < nets_of d) p.seen.part.nets) blocks

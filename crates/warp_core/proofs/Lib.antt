@@ -6,6 +6,7 @@ pub mod Matching
 pub mod Entries
 pub mod Sweeping
 pub mod GivenLogs
+pub mod Histories
 pub mod Hearing
 pub mod Acting
 pub mod Acted

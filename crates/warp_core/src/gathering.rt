@@ -1,7 +1,9 @@
-ghost use Rattle.std.specs.Prelude.{◌≡◌, ◌<◌, ◌≤◌, ◌↔◌, ℕ, IsTrue, IfOk, IfErr, OnOk, MatchOption, Ok, length, vec_len};
+ghost use Rattle.std.specs.Prelude.{◌≡◌, ◌<◌, ◌≤◌, ◌↔◌, ℕ, IsTrue, IfOk, IfErr, IfSome, OnOk, MatchOption, Ok, length, vec_len};
 ghost use Rattle.gate_netlist.specs.Circuit.{CutFits};
 ghost use Rattle.gate_vcd.specs.Given.{Fits};
 ghost use Rattle.net_waves.specs.Waves.{lists_in, wave_of, IsWave};
+ghost use Rattle.net_waves.specs.Stops.{AreStopsOf};
+ghost use Rattle.net_waves.specs.ByTime.{stops_in};
 ghost use Rattle.warp_process.specs.Limits.{most_horizon};
 ghost use Rattle.warp_process.specs.View.{IsDone};
 ghost use Rattle.warp_process.specs.Lawful.{IsLawful};
@@ -17,12 +19,12 @@ mod waves;
 use crate::fault::GatherFault;
 use findings::Finding;
 use gate_netlist::{Circuit, Cut};
-use gate_values::Change;
 use gate_vcd::Stimulus;
 use net_waves::Waves;
 use std::alloc::Global;
 use std::thread::Threads;
 use warp_block::Block;
+use waves::Gathered;
 
 /// The waves of a circuit under a stimulus, from the blocks of a cut, in order. The cut and the stimulus fit the
 /// circuit; the horizon is at most [`MOST_HORIZON`](warp_block::MOST_HORIZON). Times are in the stimulus's timescale.
@@ -46,9 +48,13 @@ pub fn gather(
         return Err(GatherFault::WrongCount);
     }
     let found = findings::find(alloc, circuit, cut, stimulus, horizon, blocks.as_slice())?;
-    let lists = gathered(alloc, circuit, cut, stimulus, horizon, blocks, found)?;
-    let waves = Waves::of(alloc, lists)?;
-    Ok(waves)
+    let Gathered { lists, by_time } = gathered(
+        alloc, circuit, cut, stimulus, horizon, blocks, found,
+    )?;
+    match by_time {
+        Some(by_time) => Ok(Waves::with(lists, by_time)),
+        None => Ok(Waves::of(alloc, lists)?),
+    }
 }
 
 /// The waves of a circuit, as [`gather`] answers them, where up to `workers` threads, at least one, look at the blocks side by side,
@@ -74,12 +80,16 @@ pub fn gather_by<R: Threads + Sync>(
     }
     let shown = blocks.as_slice();
     let found = findings::find_by(rt, alloc, workers, circuit, cut, stimulus, horizon, shown)?;
-    let lists = gathered(alloc, circuit, cut, stimulus, horizon, blocks, found)?;
-    let waves = Waves::of_by(rt, alloc, workers, lists)?;
-    Ok(waves)
+    let Gathered { lists, by_time } = gathered(
+        alloc, circuit, cut, stimulus, horizon, blocks, found,
+    )?;
+    match by_time {
+        Some(by_time) => Ok(Waves::with(lists, by_time)),
+        None => Ok(Waves::of_by(rt, alloc, workers, lists)?),
+    }
 }
 
-/// A list of changes for each net, from blocks of which all is found.
+/// A list of changes for each net, from blocks of which all is found, and those changes by time where they are had so.
 fn gathered(
     alloc: Global,
     circuit: &Circuit,
@@ -88,23 +98,24 @@ fn gathered(
     horizon: u64,
     blocks: Vec<Block>,
     found: Vec<Finding>,
-) -> Result<Vec<Vec<Change>>, GatherFault>
+) -> Result<Gathered, GatherFault>
     requires cut { CutFits circuit.now cut.now }
     requires stimulus { Fits stimulus.now circuit.now }
     requires horizon { horizon ≤ most_horizon }
     requires count { AreCounted cut.now blocks.items }
     requires found { AreFound circuit.now cut.now stimulus.now horizon blocks.items found.items }
-    ensures few { IfOk result (λ lists. vec_len lists ≤ 1000000) }
-    ensures waves { IfOk result (λ lists. (n : ℕ) → IsWave (wave_of (lists_in lists.items) n)) }
-    ensures gathered { IfOk result (λ lists. IsGathered circuit.now cut.now stimulus.now horizon blocks.items (Ok (lists_in lists.items))) }
+    ensures few { IfOk result (λ all. vec_len all.lists ≤ 1000000) }
+    ensures waves { IfOk result (λ all. (n : ℕ) → IsWave (wave_of (lists_in all.lists.items) n)) }
+    ensures gathered { IfOk result (λ all. IsGathered circuit.now cut.now stimulus.now horizon blocks.items (Ok (lists_in all.lists.items))) }
+    ensures by_time { IfOk result (λ all. IfSome all.by_time (λ by_time. AreStopsOf (lists_in all.lists.items) (stops_in by_time))) }
     ensures fault { IfErr result (IsFault circuit.now cut.now stimulus.now horizon blocks.items) }
 {
     check(cut, blocks.as_slice(), found.as_slice())?;
     cut.law();
     stimulus.law();
     laws(blocks.as_slice());
-    let lists = waves::lists_of(alloc, circuit, cut, stimulus, horizon, blocks)?;
-    Ok(lists)
+    let all = waves::lists_of(alloc, circuit, cut, stimulus, horizon, blocks)?;
+    Ok(all)
 }
 
 /// Whether blocks of which all is found are matched; if they aren't, why.

@@ -1,25 +1,40 @@
-//! Waves from the logs of blocks. Each log moves into its place; no change of it is copied.
+//! Waves from the logs of blocks. Each log moves into its place; no change of it is copied. The history of a block that has the whole
+//! circuit gives the changes by time; those of several blocks are put in order by who asks for the lists.
 
-ghost use Rattle.std.specs.Prelude.{◌≡◌, ◌<◌, ◌≤◌, ◌+◌, ℕ, None, IfOk, length, vec_len};
+ghost use Rattle.std.specs.Prelude.{◌≡◌, ◌≢◌, ◌<◌, ◌≤◌, ◌+◌, ℕ, true, [], None, IfOk, IfSome, length, vec_len};
 ghost use Rattle.std.specs.List.{All};
 ghost use Rattle.gate_values.specs.Changes.{before_time};
 ghost use Rattle.gate_netlist.specs.Circuit.{nets_of, CutFits};
 ghost use Rattle.gate_netlist.specs.Cut.{owner_of};
 ghost use Rattle.gate_vcd.specs.Given.{changes_of};
 ghost use Rattle.net_waves.specs.Waves.{lists_in, wave_of, IsWave};
+ghost use Rattle.net_waves.specs.Stops.{AreStopsOf};
+ghost use Rattle.net_waves.specs.ByTime.{stops_in};
+ghost use Rattle.warp_part.specs.Portion.{owns};
 ghost use Rattle.warp_process.specs.Limits.{most_horizon};
 ghost use Rattle.warp_core.specs.Matched.{IsBlockOf, EachBlock, told_of};
 ghost use Rattle.warp_core.specs.Gather.{AreCounted};
-ghost use Rattle.warp_core.specs.Inner.Gather.{after_blocks};
+ghost use Rattle.warp_core.specs.Inner.Gather.{after_block, after_blocks};
+ghost use Rattle.warp_core.specs.Inner.Histories.{AreOwn};
 
 use super::told::given_until;
 use gate_netlist::{Circuit, Cut};
 use gate_values::Change;
 use gate_vcd::Stimulus;
+use history_waves::by_time_of;
+use net_waves::{ByTime, stops_by_time};
 use std::alloc::{AllocError, Global};
 use warp_block::Block;
+use warp_part::Part;
 
-/// What the owners of all nets, and the stimulus, say of them: a list for each net.
+/// A list of changes for each net, and all those changes by time where a history tells them so.
+#[derive(Drop)]
+pub(super) struct Gathered {
+    pub(super) lists: Vec<Vec<Change>>,
+    pub(super) by_time: Option<ByTime>,
+}
+
+/// What the owners of all nets, and the stimulus, say of them.
 pub(super) fn lists_of(
     alloc: Global,
     circuit: &Circuit,
@@ -27,21 +42,22 @@ pub(super) fn lists_of(
     stimulus: &Stimulus,
     horizon: u64,
     blocks: Vec<Block>,
-) -> Result<Vec<Vec<Change>>, AllocError>
+) -> Result<Gathered, AllocError>
     requires cut { CutFits circuit.now cut.now }
     requires count { AreCounted cut.now blocks.items }
     requires parts { EachBlock cut.now blocks.items (IsBlockOf circuit.now cut.now horizon) }
     requires horizon { horizon ≤ most_horizon }
     requires told { (n : ℕ) → IsWave (told_of cut.now stimulus.now horizon blocks.items n) }
-    ensures nets { IfOk result (λ lists. length (lists_in lists.items) ≡ nets_of circuit.now) }
-    ensures few { IfOk result (λ lists. vec_len lists ≤ 1000000) }
-    ensures told { IfOk result (λ lists. (n : ℕ) → n < nets_of circuit.now → wave_of (lists_in lists.items) n ≡ told_of cut.now stimulus.now horizon blocks.items n) }
-    ensures waves { IfOk result (λ lists. (n : ℕ) → IsWave (wave_of (lists_in lists.items) n)) }
+    ensures nets { IfOk result (λ all. length (lists_in all.lists.items) ≡ nets_of circuit.now) }
+    ensures few { IfOk result (λ all. vec_len all.lists ≤ 1000000) }
+    ensures told { IfOk result (λ all. (n : ℕ) → n < nets_of circuit.now → wave_of (lists_in all.lists.items) n ≡ told_of cut.now stimulus.now horizon blocks.items n) }
+    ensures waves { IfOk result (λ all. (n : ℕ) → IsWave (wave_of (lists_in all.lists.items) n)) }
+    ensures by_time { IfOk result (λ all. IfSome all.by_time (λ by_time. AreStopsOf (lists_in all.lists.items) (stops_in by_time))) }
 {
-    let mut lists = given_lists(alloc, circuit.nets(), cut, stimulus, horizon)?;
+    let lists = given_lists(alloc, circuit.nets(), cut, stimulus, horizon)?;
     cut.law();
-    give_all(blocks, &mut lists);
-    Ok(lists)
+    let all = gather_logs(alloc, horizon, blocks, lists)?;
+    Ok(all)
 }
 
 /// A list for each net: of an input the stimulus's changes up to the horizon, else none.
@@ -55,6 +71,8 @@ fn given_lists(
     requires { horizon ≤ most_horizon }
     ensures nets { IfOk result (λ lists. vec_len lists ≡ nets) }
     ensures given { IfOk result (λ lists. (n : ℕ) → n < nets → owner_of cut.now n ≡ None → wave_of (lists_in lists.items) n ≡ before_time (horizon + 1) (changes_of stimulus.now n)) }
+    ensures none { IfOk result (λ lists. (n : ℕ) → n < nets → owner_of cut.now n ≢ None → wave_of (lists_in lists.items) n ≡ []) }
+    ensures waves { IfOk result (λ lists. (n : ℕ) → IsWave (wave_of (lists_in lists.items) n)) }
 {
     let mut lists = Vec::with_capacity(alloc, nets as usize)?;
     for net in 0..nets {
@@ -73,12 +91,92 @@ fn given_list(
     net: u32,
 ) -> Result<Vec<Change>, AllocError>
     requires { horizon ≤ most_horizon }
-    ensures { IfOk result (λ list. owner_of cut.now net ≡ None → list.items ≡ before_time (horizon + 1) (changes_of stimulus.now net)) }
+    ensures given { IfOk result (λ list. owner_of cut.now net ≡ None → list.items ≡ before_time (horizon + 1) (changes_of stimulus.now net)) }
+    ensures none { IfOk result (λ list. owner_of cut.now net ≢ None → list.items ≡ []) }
+    ensures wave { IfOk result (λ list. IsWave list.items) }
 {
     match cut.owner(net) {
         None => Vec::from_slice(alloc, given_until(stimulus, horizon, net)),
         Some(_) => Ok(Vec::new(alloc)),
     }
+}
+
+/// What blocks and the lists say of all nets, where no list says anything of a net that a block owns.
+fn gather_logs(
+    alloc: Global,
+    horizon: u64,
+    blocks: Vec<Block>,
+    lists: Vec<Vec<Change>>,
+) -> Result<Gathered, AllocError>
+    requires places { All (λ p. All (λ net. net < vec_len lists) p.seen.part.nets) blocks.items }
+    requires few { vec_len lists ≤ 1000000 }
+    requires waves { (n : ℕ) → IsWave (wave_of (lists_in lists.items) n) }
+    requires none { All (λ p. (n : ℕ) → owns p.seen.part n ≡ true → wave_of (lists_in lists.items) n ≡ []) blocks.items }
+    ensures len { IfOk result (λ all. vec_len all.lists ≡ vec_len lists) }
+    ensures given { IfOk result (λ all. (n : ℕ) → wave_of (lists_in all.lists.items) n ≡ after_blocks blocks.items (wave_of (lists_in lists.items)) n) }
+    ensures by_time { IfOk result (λ all. IfSome all.by_time (λ by_time. AreStopsOf (lists_in all.lists.items) (stops_in by_time))) }
+{
+    let mut blocks = blocks;
+    let mut lists = lists;
+    if blocks.len() == 1 {
+        if let Some(block) = blocks.pop() {
+            let all = give_one(alloc, horizon, block, lists)?;
+            return Ok(all);
+        }
+    }
+    give_all(blocks, &mut lists);
+    Ok(Gathered {
+        lists,
+        by_time: None,
+    })
+}
+
+/// What a block and the lists say of all nets, where no list says anything of a net that the block owns: its logs move, and its history
+/// tells the changes by time.
+fn give_one(
+    alloc: Global,
+    horizon: u64,
+    block: Block,
+    lists: Vec<Vec<Change>>,
+) -> Result<Gathered, AllocError>
+    requires places { All (λ net. net < vec_len lists) block.seen.part.nets }
+    requires few { vec_len lists ≤ 1000000 }
+    requires waves { (n : ℕ) → IsWave (wave_of (lists_in lists.items) n) }
+    requires none { (n : ℕ) → owns block.seen.part n ≡ true → wave_of (lists_in lists.items) n ≡ [] }
+    ensures len { IfOk result (λ all. vec_len all.lists ≡ vec_len lists) }
+    ensures given { IfOk result (λ all. (n : ℕ) → wave_of (lists_in all.lists.items) n ≡ after_block block.seen (wave_of (lists_in lists.items)) n) }
+    ensures by_time { IfOk result (λ all. IfSome all.by_time (λ by_time. AreStopsOf (lists_in all.lists.items) (stops_in by_time))) }
+{
+    let mut lists = lists;
+    let given = stops_by_time(alloc, lists.as_slice())?;
+    block.law();
+    let Some((part, history)) = block.give_history(&mut lists) else {
+        return Ok(Gathered {
+            lists,
+            by_time: None,
+        });
+    };
+    part.law();
+    let own = own_nets(alloc, &part)?;
+    let by_time = by_time_of(alloc, horizon, own.as_slice(), history, given.as_slice())?;
+    Ok(Gathered { lists, by_time })
+}
+
+/// The net of each place of a part that the part owns.
+fn own_nets(alloc: Global, part: &Part) -> Result<Vec<Option<u32>>, AllocError>
+    ensures { IfOk result (λ own. AreOwn part.now own.items) }
+{
+    part.law();
+    let mut own = Vec::with_capacity(alloc, part.len())?;
+    for place in 0..part.len() {
+        let net = if part.is_own(place) {
+            Some(part.net(place))
+        } else {
+            None
+        };
+        own.push(net)?;
+    }
+    Ok(own)
 }
 
 /// Gives away the logs of blocks, in order.

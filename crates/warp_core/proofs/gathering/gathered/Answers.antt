@@ -38,7 +38,7 @@ returns-clause-gathered c =
     let lawful : EachBlock cut blocks (λ _ v. IsLawful v) = λ b l. each b (omega (arith, l, matched.count)) in (
       matched,
       record {
-        nets = c.in_ok-lists.ensures.nets;
-        waves = λ n l. c.in_ok-lists.ensures.told n l ∙ matched_changes d cut g c.args.horizon blocks c.requires.cut c.law.ensures c.law-2.ensures c.requires.horizon lawful matched n l;
+        nets = c.in_ok-all.ensures.nets;
+        waves = λ n l. c.in_ok-all.ensures.told n l ∙ matched_changes d cut g c.args.horizon blocks c.requires.cut c.law.ensures c.law-2.ensures c.requires.horizon lawful matched n l;
       },
     )
