@@ -7,4 +7,4 @@
 mod merging;
 mod telling;
 
-pub use telling::by_time_of;
+pub use telling::{FAR, by_time_of};

@@ -1,5 +1,5 @@
 //! Waves from the logs of blocks. Each log moves into its place; no change of it is copied. The history of a block that has the whole
-//! circuit gives the changes by time; those of several blocks are put in order by who asks for the lists.
+//! circuit gives the changes by time, up to a horizon that isn't far; else they are put in order by who asks for the lists.
 
 ghost use Rattle.std.specs.Prelude.{◌≡◌, ◌≢◌, ◌<◌, ◌≤◌, ◌+◌, ℕ, true, [], None, IfOk, IfSome, length, vec_len};
 ghost use Rattle.std.specs.List.{All};
@@ -21,7 +21,7 @@ use super::told::given_until;
 use gate_netlist::{Circuit, Cut};
 use gate_values::Change;
 use gate_vcd::Stimulus;
-use history_waves::by_time_of;
+use history_waves::{FAR, by_time_of};
 use net_waves::{ByTime, stops_by_time};
 use std::alloc::{AllocError, Global};
 use warp_block::Block;
@@ -118,9 +118,9 @@ fn gather_logs(
 {
     let mut blocks = blocks;
     let mut lists = lists;
-    if blocks.len() == 1 {
+    if horizon < FAR && blocks.len() == 1 {
         if let Some(block) = blocks.pop() {
-            let all = give_one(alloc, horizon, block, lists)?;
+            let all = give_one(alloc, block, lists)?;
             return Ok(all);
         }
     }
@@ -133,12 +133,7 @@ fn gather_logs(
 
 /// What a block and the lists say of all nets, where no list says anything of a net that the block owns: its logs move, and its history
 /// tells the changes by time.
-fn give_one(
-    alloc: Global,
-    horizon: u64,
-    block: Block,
-    lists: Vec<Vec<Change>>,
-) -> Result<Gathered, AllocError>
+fn give_one(alloc: Global, block: Block, lists: Vec<Vec<Change>>) -> Result<Gathered, AllocError>
     requires places { All (λ net. net < vec_len lists) block.seen.part.nets }
     requires few { vec_len lists ≤ 1000000 }
     requires waves { (n : ℕ) → IsWave (wave_of (lists_in lists.items) n) }
@@ -158,7 +153,7 @@ fn give_one(
     };
     part.law();
     let own = own_nets(alloc, &part)?;
-    let by_time = by_time_of(alloc, horizon, own.as_slice(), history, given.as_slice())?;
+    let by_time = by_time_of(alloc, own.as_slice(), history, given.as_slice())?;
     Ok(Gathered { lists, by_time })
 }
 
