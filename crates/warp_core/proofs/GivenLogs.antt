@@ -38,6 +38,18 @@ all_one P ps p n all one same is =
     some_is : (a b : Process) → Some a ≡ Some b → a ≡ b
     some_is a b e = cc
 
+-- what the only block gives, which was taken from behind, is what all give
+pub after_only : (ps : List Process) (p : Process) (n : ℕ) → n ≡ 1 → n ≡ length ps → Some p ≡ Some (get_or ps (n - 1) p) → (lists : ℕ → List Change) (m : ℕ) → after_block p.seen lists m ≡ after_blocks ps lists m
+after_only [] p n one same is lists m = absurd (omega (arith, one, same))
+after_only (q ∷ r ∷ ps) p n one same is lists m = absurd (omega (arith, one, same))
+after_only (q ∷ []) p n one same is lists m =
+    let first : n - 1 ≡ 0 = omega (arith, one) in
+    let here : q ≡ p = ap (λ (i : ℕ). get_or (q ∷ []) i p) (sym first) ∙ sym (some_is p (get_or (q ∷ []) (n - 1) p) is) in
+    ap (λ (r : Process). after_block r.seen lists m) (sym here)
+  where
+    some_is : (a b : Process) → Some a ≡ Some b → a ≡ b
+    some_is a b e = cc
+
 -- the same lists before, the same lists after
 pub after_same : (ps : List Process) (f g : ℕ → List Change) → ((n : ℕ) → f n ≡ g n) → (n : ℕ) → after_blocks ps f n ≡ after_blocks ps g n
 after_same [] f g e n = e n

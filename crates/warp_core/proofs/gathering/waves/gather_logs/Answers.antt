@@ -1,8 +1,8 @@
-use Rattle.std.proofs.Common.{◌≡◌, ◌<◌, ℕ, true, [], vec_len, All, arith}
+use Rattle.std.proofs.Common.{◌≡◌, ◌∙◌, ◌<◌, ℕ, true, [], vec_len, All, arith}
 use Rattle.net_waves.specs.Waves.{lists_in, wave_of}
 use Rattle.warp_part.specs.Portion.{owns}
 use Rattle.warp_process.specs.View.{Process}
-use Rattle.warp_core.proofs.GivenLogs.{all_one}
+use Rattle.warp_core.proofs.GivenLogs.{all_one, after_only}
 use Rattle.warp_core.proofs.gathering.waves.gather_logs.Goals as goal
 
 pub give_one-requires-clause-places : goal.give_one-requires-clause-places
@@ -16,3 +16,9 @@ give_one-requires-clause-none c =
     let one : vec_len c.args.blocks ≡ 1 = omega (arith, c.if-len-eq1.true, c.len.ensures) in
     all_one (λ (p : Process). (n : ℕ) → owns p.seen.part n ≡ true → wave_of (lists_in c.args.lists.items) n ≡ []) c.args.blocks.items c.in-Some.block (vec_len c.args.blocks) c.requires.none one c.args.blocks.ok.0
     (c.in-Some.ensures.value c.in-Some.block (omega (arith, one)))
+
+pub returns-in-Some-clause-given : goal.returns-in-Some-clause-given
+returns-in-Some-clause-given c = λ n.
+    let one : vec_len c.args.blocks ≡ 1 = omega (arith, c.if-len-eq1.true, c.len.ensures) in
+    c.in_ok-all.ensures.given n
+    ∙ after_only c.args.blocks.items c.in-Some.block (vec_len c.args.blocks) one c.args.blocks.ok.0 (c.in-Some.ensures.value c.in-Some.block (omega (arith, one))) (wave_of (lists_in c.args.lists.items)) n
