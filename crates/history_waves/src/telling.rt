@@ -17,8 +17,8 @@ use warp_stores::{Queue, Steps, Word};
 pub const FAR: u64 = 32_768;
 
 /// All changes by time: those that are given, which stand in the order of time, and those of own nets that a history tells, whose net
-/// stands at the place of each word; none where they don't come one behind the other, or one comes at [`FAR`] or later. An error is a
-/// refused growth.
+/// stands at the place of each word; none where they don't come one behind the other, or `ByTime::append_all` has no word for one. An
+/// error is a refused growth.
 pub fn by_time_of(
     alloc: Global,
     own: &[Option<u32>],
