@@ -1,8 +1,9 @@
 //! The dump of waves, as one text.
 
-ghost use Rattle.std.specs.Prelude.{◌≡◌, ℕ, ◌+◌, ◌*◌, ◌<◌, ◌≤◌, ◌^◌, ◌++◌, ◌↔◌, List, false, length, map, take, IsTrue, IsErr, IfErr, OnOk};
+ghost use Rattle.std.specs.Prelude.{◌≡◌, ℕ, ◌+◌, ◌*◌, ◌<◌, ◌≤◌, ◌^◌, ◌++◌, ◌↔◌, List, false, length, map, take, get_or, codes, IsTrue, IsErr, IfErr, OnOk};
 ghost use Rattle.std.specs.List.{AllByRecursion};
 ghost use Rattle.gate_values.specs.declared.logic.Change.{Change};
+ghost use Rattle.gate_values.specs.declared.logic.Logic.{Logic};
 ghost use Rattle.net_waves.specs.declared.timeline.Stop.{Stop};
 ghost use Rattle.gate_netlist.specs.Circuit.{nets_of};
 ghost use Rattle.gate_values.specs.declared.logic.Logic.TheVariants.{X};
@@ -87,6 +88,74 @@ pub fn write_vcd_once<S: Sink>(
     Ok(())
 }
 
+/// Writes the dump of changes that are had by time alone, and of the value of each net at time 0, as [`write_vcd`] writes that of waves, in
+/// the scope `top`.
+pub fn write_changes<S: Sink>(
+    sink: &mut S,
+    circuit: &Circuit,
+    stimulus: &Stimulus,
+    firsts: &[Logic],
+    by_time: &ByTime,
+    horizon: u64,
+) -> Result<(), WriteFault>
+    ghost lists: { List (List Change) }
+    requires sound { (S.held sink.old).failed ≡ false }
+    requires nets { length lists ≡ nets_of circuit.now }
+    requires waves { (n : ℕ) → IsWave (wave_of lists n) }
+    requires until { (n : ℕ) → IsUntil horizon (wave_of lists n) }
+    requires firsts { (length firsts.now ≡ length lists) × ((n : ℕ) → n < length lists → get_or firsts.now n X ≡ wave_value lists n 0) }
+    requires stops { AreStopsOf lists (stops_in by_time.now) }
+    requires near { horizon ≤ 10 ^ 12 }
+    ensures whole { let text = vcd_text (codes "top") circuit.now stimulus.now (wave_value lists) horizon in
+        OnOk result ((S.held sink.new).bytes ≡ (S.held sink.old).bytes ++ text) }
+    ensures part { let text = vcd_text (codes "top") circuit.now stimulus.now (wave_value lists) horizon in
+        IfErr result (λ e. (S.held sink.new).bytes ≡ (S.held sink.old).bytes ++ take e.written text) }
+    ensures within { let text = vcd_text (codes "top") circuit.now stimulus.now (wave_value lists) horizon in
+        IfErr result (λ e. e.written ≤ length text) }
+    ensures fault { IsErr result ↔ IsTrue (S.held sink.new).failed }
+{
+    let written = put_changes(
+        sink,
+        circuit,
+        stimulus.timescale(),
+        firsts,
+        by_time,
+        horizon,
+    );
+    if sink.failed() {
+        return Err(WriteFault { written });
+    }
+    Ok(())
+}
+
+/// Puts the whole text of changes that are had by time alone, and counts what the sink took of it.
+fn put_changes<S: Sink>(
+    sink: &mut S,
+    circuit: &Circuit,
+    scale: Timescale,
+    firsts: &[Logic],
+    by_time: &ByTime,
+    horizon: u64,
+) -> u128
+    ghost lists: { List (List Change) }
+    requires nets { length lists ≡ nets_of circuit.now }
+    requires waves { (n : ℕ) → IsWave (wave_of lists n) }
+    requires until { (n : ℕ) → IsUntil horizon (wave_of lists n) }
+    requires firsts { (length firsts.now ≡ length lists) × ((n : ℕ) → n < length lists → get_or firsts.now n X ≡ wave_value lists n 0) }
+    requires stops { AreStopsOf lists (stops_in by_time.now) }
+    requires near { horizon ≤ 10 ^ 12 }
+    ensures text { Writes (S.held sink.old) (S.held sink.new) 0 (dump_text (codes "top") circuit.now.names scale (wave_value lists) horizon) result }
+    ensures countable { length (dump_text (codes "top") circuit.now.names scale (wave_value lists) horizon) < 2 ^ 128 }
+{
+    circuit.law();
+    let mut lot = Lot::new();
+    put_header(sink, &mut lot, "top", circuit, scale);
+    put_values(sink, &mut lot, firsts);
+    lot.put_text(sink, "$end\n");
+    put_by_time(sink, &mut lot, by_time, horizon);
+    lot.finish(sink)
+}
+
 /// Puts the whole text, and counts what the sink took of it.
 fn put_dump<S: Sink>(
     sink: &mut S,
@@ -163,6 +232,18 @@ fn put_first_values<S: Sink>(sink: &mut S, lot: &mut Lot, waves: &Waves, nets: u
     waves.law();
     for net in 0..nets {
         put_value(sink, lot, first_value(waves.changes(net)), net);
+    }
+}
+
+/// Puts the value of each net at 0, which is given.
+fn put_values<S: Sink>(sink: &mut S, lot: &mut Lot, firsts: &[Logic])
+    ghost value: { ℕ → ℕ → Logic }
+    requires few { length firsts.now ≤ 1000000 }
+    requires firsts { (n : ℕ) → n < length firsts.now → get_or firsts.now n X ≡ value n 0 }
+    ensures { Passes (S.held sink.old) (S.held sink.new) lot.old (first_lines value (length firsts.now)) lot.new }
+{
+    for net in 0..firsts.len() {
+        put_value(sink, lot, firsts[net], net as u32);
     }
 }
 

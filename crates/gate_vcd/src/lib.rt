@@ -38,7 +38,7 @@ mod words;
 
 pub use codes::{code, code_laws};
 pub use declarations::{Declared, body_of, declare, ends_declarations, scope_name};
-pub use dump::{write_vcd, write_vcd_once};
+pub use dump::{write_changes, write_vcd, write_vcd_once};
 pub use fault::{StimCause, StimFault, WriteFault};
 pub use keyword::{Keyword, keyword_of, opens_command};
 pub use laws::{dump_laws, refusal_laws};

@@ -12,22 +12,26 @@ use net_waves::{ByTime, NetMove, Stop};
 use std::alloc::{AllocError, Global};
 use warp_stores::{Queue, Steps, Word};
 
-/// From this horizon on changes by time can be too far apart for words of four bytes, and a history beside them takes more memory than to
-/// put whole lists in order, and as long.
+/// Up to a lesser horizon changes stand in words of four bytes each, else in keys of eight.
 pub const FAR: u64 = 32_768;
 
-/// All changes by time: those that are given, which stand in the order of time, and those of own nets that a history tells, whose net
-/// stands at the place of each word; none where they don't come one behind the other, or `ByTime::append_all` has no word for one. An
+/// All changes by time, up to a horizon: those that are given, which stand in the order of time, and those of own nets that a history
+/// tells, whose net stands at the place of each word; none where they don't come one behind the other, or one has no word or key. An
 /// error is a refused growth.
 pub fn by_time_of(
     alloc: Global,
+    horizon: u64,
     own: &[Option<u32>],
     history: Steps<Word>,
     given: &[Stop],
 ) -> Result<Option<ByTime>, AllocError>
     ensures { IfOk result (λ all. IfSome all (λ by_time. AreBoth own.now given.now history (stops_in by_time))) }
 {
-    let mut by_time = ByTime::in_words(alloc);
+    let mut by_time = if horizon < FAR {
+        ByTime::in_words(alloc)
+    } else {
+        ByTime::in_keys(alloc)
+    };
     let mut queue = history.into_queue();
     let mut moves = Vec::new(alloc);
     if tell_all(alloc, own, &mut queue, given, &mut moves, &mut by_time)? {

@@ -1,6 +1,7 @@
--- What is told once words of a later time stand behind all others.
+-- What is told once words or keys of a later time stand behind all others.
 use Rattle.std.proofs.Common.{◌≡◌, ℕ, zero, suc, ◌+◌, ◌-◌, ◌/◌, ◌<◌, ◌≤◌, inl, inr, Bool, true, false, cond, List, [], ◌∷◌, ◌++◌, length, get_or, take, map, refl, ap, ap₂, sym, ◌∙◌, subst, arith, append_assoc, replicate}
 use Rattle.std.proofs.Math.ListN.{set, length-set}
+use Rattle.std.specs.Prelude.{IsTrue}
 use Rattle.std.specs.List.{AllByRecursion}
 use Rattle.std.proofs.lemmas.List.{append-nil, map-append, take_all, drop_all, take-append-le, drop-append-le, get_or_append_left, get_or-set_same, get_or-set_other, length-append}
 use Rattle.std.proofs.Math.Seq.{get_or-append_seam}
@@ -9,8 +10,11 @@ use Rattle.net_waves.specs.declared.timeline.NetMove.{NetMove}
 use Rattle.net_waves.specs.Timeline.{Before, IsRising, stop_by}
 use Rattle.net_waves.specs.Packed.{Packed, told, words_at, told_below, all_told, times, AreBounds, IsPacked}
 use Rattle.net_waves.specs.Inner.Packed.{EndAt, IsOpen, NetsRise, word_by}
+use Rattle.net_waves.specs.Keys.{KeysRise, AreKeys, stop_of, stops_of_keys}
+use Rattle.net_waves.specs.Inner.Keys.{key_by, HaveKeys}
 use Rattle.net_waves.proofs.Compared.{cases_lt}
 use Rattle.net_waves.proofs.PackedLaws.{told-word}
+use Rattle.net_waves.proofs.KeyLaws.{stop-key}
 use Rattle.net_waves.proofs.Rising.{All-append, All-weaker, Earlier, rising-push}
 
 -- ---- what is told of earlier times
@@ -229,3 +233,34 @@ module _ (p : Packed) (words : List ℕ) (moves : List NetMove) (at end : ℕ) w
   pub pushed : (q : Packed) → p ≡ q → at ≡ length p.bounds - 1 → end ≡ length words → words ≡ p.words ++ map word_by moves → NetsRise 0 1073741823 (map word_by moves) → IsPacked p → IsOpen q (length moves) → 0 < times q → Early q → IsPacked lengthened × (all_told lengthened ≡ all_told q ++ told-last q)
   pushed q e at_last ends more rise packed opened some early =
       subst (λ (r : Packed). IsOpen r (length moves) → 0 < times r → Early r → IsPacked lengthened × (all_told lengthened ≡ all_told r ++ told-last r)) e (pushed-here at_last ends more rise packed) opened some early
+
+-- ---- keys more
+
+pub keys-behind : (from : ℕ) (keys more : List ℕ) → 0 < length keys → KeysRise from keys → KeysRise (get_or keys (length keys - 1) 0 / 4 + 1) more → KeysRise from (keys ++ more)
+keys-behind from [] more some rise h = absurd (omega arith)
+keys-behind from (k ∷ []) more some rise h = (rise.0, h)
+keys-behind from (k ∷ j ∷ ks) more some rise h =
+    let first : suc (length ks) - 1 ≡ length ks = omega arith in
+    let second : suc (suc (length ks)) - 1 ≡ suc (length ks) = omega arith in
+    (rise.0, keys-behind (k / 4 + 1) (j ∷ ks) more (omega arith) rise.1 (rw first (rw second at h)))
+
+keys-of-moves : (time from : ℕ) (ms : List NetMove) → HaveKeys time from ms → KeysRise from (map (key_by time) ms)
+keys-of-moves time from [] have = tt
+keys-of-moves time from (m ∷ ms) have = (have.1, keys-of-moves time (key_by time m / 4 + 1) ms have.2)
+
+stops-of-moves : (time from : ℕ) (ms : List NetMove) → HaveKeys time from ms → stops_of_keys (map (key_by time) ms) ≡ map (stop_by time) ms
+stops-of-moves time from [] have = refl
+stops-of-moves time from (m ∷ ms) have = ap₂ (λ (s : Stop) (ss : List Stop). s ∷ ss) (stop-key (stop_by time m) have.0) (stops-of-moves time (key_by time m / 4 + 1) ms have.2)
+
+-- keys that were reserved for, read as a slice, and then pushed to, or not
+module _ (b : Bool) (old reserved slice new : List ℕ) (time first : ℕ) (ms : List NetMove) where
+  pub keys-kept : AreKeys old → reserved ≡ old → slice ≡ reserved → ((more : List ℕ) → KeysRise first more → AreKeys (slice ++ more)) → (IsTrue b → new ≡ reserved ++ map (key_by time) ms) → (IsTrue b → HaveKeys time first ms) → (b ≡ false → new ≡ reserved) → AreKeys new
+  keys-kept are same read behind pushed have stays = by b refl
+    where
+      by : (c : Bool) → b ≡ c → AreKeys new
+      by true e = rw (pushed e, sym read) (behind (map (key_by time) ms) (keys-of-moves time first ms (have e)))
+      by false e = rw (stays e, same) are
+
+  pub keys-told : reserved ≡ old → (IsTrue b → new ≡ reserved ++ map (key_by time) ms) → (IsTrue b → HaveKeys time first ms) → b ≡ true → stops_of_keys new ≡ stops_of_keys old ++ map (stop_by time) ms
+  keys-told same pushed have e =
+      rw (pushed e, same) (map-append stop_of old (map (key_by time) ms) ∙ ap (λ (ss : List Stop). stops_of_keys old ++ ss) (stops-of-moves time first ms (have e)))

@@ -11,3 +11,4 @@ pub mod KeyLaws
 pub mod Appending
 pub mod Waving
 pub mod Following
+pub mod Firsts

@@ -52,6 +52,13 @@ impl ByTime {
         ByTime::Words(Packed::empty(alloc))
     }
 
+    /// No change, in keys: what is appended goes into a key each.
+    pub fn in_keys(alloc: Global) -> ByTime
+        ensures { stops_in result ≡ [] }
+    {
+        ByTime::Keys(Keyed::empty(alloc))
+    }
+
     /// The changes in a list for each net. An error is a refused growth.
     pub(crate) fn of(alloc: Global, lists: &[Vec<Change>]) -> Result<ByTime, AllocError>
         requires few { length lists.now ≤ 4294967295 }
@@ -99,8 +106,9 @@ impl ByTime {
     }
 
     /// Appends the changes of a time that is later than that of all others, by nets that rise. Tells whether it did: not where the
-    /// time isn't later, where nets don't rise, where a net or the time has no word, where words would be too many, and never in keys
-    /// or in runs. Where it did not, and where an error tells of a refused growth, there are the same changes.
+    /// time isn't later (in keys they may also be of the last time, and of greater nets), where nets don't rise, where a net or the
+    /// time has no word or no key, where words would be too many, and never in runs. Where it did not, and where an error tells
+    /// of a refused growth, there are the same changes.
     pub fn append_all(&mut self, time: u64, moves: &[NetMove]) -> Result<bool, AllocError>
         ensures appended { IfOk result (λ done. done ≡ true → stops_in self.new ≡ stops_in self.old ++ map (stop_by time) moves.now) }
         ensures stays { IfOk result (λ done. done ≡ false → stops_in self.new ≡ stops_in self.old) }
@@ -108,7 +116,8 @@ impl ByTime {
     {
         match self {
             ByTime::Words(packed) => packed.append_all(time, moves),
-            ByTime::Keys(_) | ByTime::Runs(_) => Ok(false),
+            ByTime::Keys(keyed) => keyed.append_all(time, moves),
+            ByTime::Runs(_) => Ok(false),
         }
     }
 }

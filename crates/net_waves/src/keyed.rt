@@ -1,12 +1,13 @@
 //! All changes by time in a key each: 8 bytes a change, of times below [`KEY_TIMES`] and nets below [`KEY_NETS`].
 
-ghost use Rattle.std.specs.Prelude.{◌≡◌, ◌<◌, ◌↔◌, IfOk, IsTrue};
-ghost use Rattle.net_waves.specs.Keys.{AreKeys, stop_of, stops_of_keys};
-ghost use Rattle.net_waves.specs.Inner.Keys.{key_of};
+ghost use Rattle.std.specs.Prelude.{◌≡◌, ◌<◌, ◌≤◌, ◌+◌, ◌↔◌, ◌++◌, ℕ, List, [], true, false, map, length, vec_len, vec_capacity, IfOk, OnErr, IsTrue};
+ghost use Rattle.net_waves.specs.Keys.{AreKeys, KeysRise, stop_of, stops_of_keys};
+ghost use Rattle.net_waves.specs.Timeline.{stop_by};
+ghost use Rattle.net_waves.specs.Inner.Keys.{key_of, key_by, HaveKeys};
 
 use crate::packed::{stop_at, word};
-use crate::timeline::Stop;
-use std::alloc::AllocError;
+use crate::timeline::{NetMove, Stop};
+use std::alloc::{AllocError, Global};
 use std::marker::Model;
 
 /// A stop has no key at this time, or later.
@@ -66,7 +67,53 @@ pub fn do_rise(keys: &[u64]) -> bool
     true
 }
 
+/// From where on keys may stand behind these: the last one's time and net, and one more.
+fn next_place(keys: &[u64]) -> u64
+    requires { AreKeys keys.now }
+    ensures { (more : List ℕ) → KeysRise result more → AreKeys (keys.now ++ more) }
+{
+    match keys {
+        [] => 0,
+        [.., last] => *last / 4 + 1,
+    }
+}
+
+/// Pushes the keys of moves at a time, if each has a key and they rise, from a place on. Tells whether it did; else keys are as
+/// they were.
+fn push_all(keys: &mut Vec<u64>, first: u64, time: u64, moves: &[NetMove]) -> bool
+    requires time { time < KEY_TIMES }
+    requires room { vec_len keys.old + length moves.now ≤ vec_capacity keys.old }
+    ensures pushed { IsTrue result → keys.new.items ≡ keys.old.items ++ map (key_by time) moves.now }
+    ensures rising { IsTrue result → HaveKeys time first moves.now }
+    ensures stays { result ≡ false → keys.new.items ≡ keys.old.items }
+{
+    let start = keys.len();
+    let base = time * WORDS;
+    let mut from = first;
+    for entry in moves {
+        if entry.net as usize >= KEY_NETS {
+            keys.truncate(start);
+            return false;
+        }
+        let key = base + u64::from(word(entry.net, entry.value));
+        if key / 4 < from {
+            keys.truncate(start);
+            return false;
+        }
+        from = key / 4 + 1;
+        keys.push_reserved(key);
+    }
+    true
+}
+
 impl Keyed {
+    /// No key.
+    pub(crate) fn empty(alloc: Global) -> Keyed
+        ensures { result ≡ [] }
+    {
+        Keyed::new(Vec::new(alloc))
+    }
+
     /// Keys that rise.
     pub(crate) fn new(keys: Vec<u64>) -> Keyed
         requires { AreKeys keys.items }
@@ -99,5 +146,20 @@ impl Keyed {
             stops.push(stop_of(*key))?;
         }
         Ok(stops)
+    }
+
+    /// Appends the changes of a time that is later than that of all others, or the last one where nets go on to rise, by nets that
+    /// rise. Tells whether it did. An error is a refused growth.
+    pub(crate) fn append_all(&mut self, time: u64, moves: &[NetMove]) -> Result<bool, AllocError>
+        ensures appended { IfOk result (λ done. done ≡ true → stops_of_keys self.new ≡ stops_of_keys self.old ++ map (stop_by time) moves.now) }
+        ensures stays { IfOk result (λ done. done ≡ false → stops_of_keys self.new ≡ stops_of_keys self.old) }
+        ensures err { OnErr result (stops_of_keys self.new ≡ stops_of_keys self.old) }
+    {
+        if time >= KEY_TIMES {
+            return Ok(false);
+        }
+        self.keys.reserve(moves.len())?;
+        let first = next_place(self.keys.as_slice());
+        Ok(push_all(&mut self.keys, first, time, moves))
     }
 }

@@ -10,6 +10,7 @@
 
 mod buckets;
 mod by_time;
+mod first;
 mod keyed;
 mod merging;
 mod packed;

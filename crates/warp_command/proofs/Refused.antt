@@ -1,5 +1,7 @@
 -- What holds of a fault holds of what is told of it.
-use Rattle.std.proofs.Common.{◌≡◌, sym, subst, ℕ, List, Option, Bool, Err}
+use Rattle.std.proofs.Common.{◌≡◌, refl, sym, subst, ℕ, List, Option, Some, None, Vec, Bool, Err}
+use Rattle.std.specs.Borrow.{Bor}
+use Rattle.std.specs.declared.alloc.Global.{Global}
 use Rattle.warp_text.specs.Answer.{IsAnswer, IsCounted}
 use Rattle.warp_text.specs.Only.{IsToldAnswer}
 use Rattle.warp_text.specs.declared.fault.Fault.{Fault}
@@ -10,9 +12,11 @@ use Rattle.compare_answer.specs.Answer.{IsText}
 use Rattle.std.specs.Prelude.{Result, Ok, IfOk, IfErr}
 use Rattle.warp_text.specs.Stats.{AreCountsOf}
 use Rattle.warp_text.specs.declared.simulate.Simulated.{Simulated}
+use Rattle.warp_text.specs.declared.stats.Stats.{Stats}
 use Rattle.warp_command.specs.declared.reply.Answer.{Answer}
+use Rattle.warp_command.specs.declared.reply.Kept.{Kept}
 use Rattle.warp_command.specs.declared.request.Run.{Run}
-use Rattle.warp_command.specs.Replies.{IsAnswerOf, IsKept, IsSimulated, IsCompared, IsNotCompared, IsRefusal, IsUncounted}
+use Rattle.warp_command.specs.Replies.{IsAnswerOf, IsKept, IsKeptOf, IsSimulated, IsCompared, IsNotCompared, IsRefusal, IsUncounted}
 use Rattle.warp_command.specs.declared.request.Only.{Only}
 use Rattle.warp_command.specs.declared.request.Only.TheVariants as only
 use Rattle.warp_command.specs.declared.failure.Failure.{Failure}
@@ -73,12 +77,24 @@ memory_answers only.All names bench settings stimulus until = tt
 memory_answers only.Outputs names bench settings stimulus until = tt
 memory_answers (only.Named name) names bench settings stimulus until = tt
 
+-- what is counted of a run is kept where a line names a file for it
+kept_of : (name : Option (Bor (List ℕ))) (bench settings : List ℕ) (until : ℕ) (stats : Stats) (kept : Option Kept) → AreCountsOf bench settings until stats
+    → IsKept name stats kept → IsKeptOf name bench settings until kept
+kept_of None bench settings until stats kept counts is = is
+kept_of (Some name) bench settings until stats kept counts is = (stats, counts, is)
+
+-- a run of which nothing is kept is answered
+pub plain_of : (run : Run) (names bench settings stimulus : List ℕ) (text : Vec ℕ Global) → run.only ≡ only.All → run.stats ≡ None
+    → IsAnswer bench settings stimulus run.options.until (Ok text) → IsSimulated run names bench settings stimulus (Ok (record { text = text; kept = None }))
+plain_of run names bench settings stimulus text all none is =
+    (subst (λ o. IsAnswerOf o names bench settings stimulus run.options.until (Ok text)) (sym all) is, subst (λ name. IsKeptOf name bench settings run.options.until None) (sym none) refl)
+
 -- a run that went well is answered, or memory is wanting
 pub simulated_of : (run : Run) (names bench settings stimulus : List ℕ) (simulated : Simulated) (answer : Result Answer Failure)
     → IsAnswerOf run.only names bench settings stimulus run.options.until (Ok simulated.dump) → AreCountsOf bench settings run.options.until simulated.stats
     → IfOk answer (λ given. given.text ≡ simulated.dump) → IfOk answer (λ given. IsKept run.stats simulated.stats given.kept)
     → IfErr answer (λ failure. failure ≡ failures.Fault faults.Memory) → IsSimulated run names bench settings stimulus answer
-simulated_of run names bench settings stimulus simulated (Ok answer) dump counts text kept fault =
-    (subst (λ shown. IsAnswerOf run.only names bench settings stimulus run.options.until (Ok shown)) (sym text) dump, (simulated.stats, counts, kept))
+simulated_of run names bench settings stimulus simulated (Ok given) dump counts text kept fault =
+    (subst (λ shown. IsAnswerOf run.only names bench settings stimulus run.options.until (Ok shown)) (sym text) dump, kept_of run.stats bench settings run.options.until simulated.stats given.kept counts kept)
 simulated_of run names bench settings stimulus simulated (Err failure) dump counts text kept fault =
     subst (λ told. IsSimulated run names bench settings stimulus (Err told)) (sym fault) (memory_answers run.only names bench settings stimulus run.options.until)

@@ -116,11 +116,15 @@ IsKept None stats kept = kept ≡ None
 IsKept (Some name) stats None = ⊥
 IsKept (Some name) stats (Some kept) = (kept.name.now ≡ name.now) × (kept.text.items ≡ stats_lines stats)
 
--- the dump, and what is counted of a run that made it
+-- what is kept is what is counted of a run that made the dump; nothing is where a line names no file for it
+abbrev pub IsKeptOf : Option (Bor (List ℕ)) → (bench settings : List ℕ) (until : ℕ) → Option Kept → Type 0
+IsKeptOf None bench settings until kept = kept ≡ None
+IsKeptOf (Some name) bench settings until kept = (stats : Stats) × AreCountsOf bench settings until stats × IsKept (Some name) stats kept
+
+-- the dump, and what is kept beside it
 abbrev pub IsSimulated : Run → (names bench settings stimulus : List ℕ) → Result Answer Failure → Type 0
 IsSimulated run names bench settings stimulus (Ok answer) =
-    IsAnswerOf run.only names bench settings stimulus run.options.until (Ok answer.text)
-    × ((stats : Stats) × AreCountsOf bench settings run.options.until stats × IsKept run.stats stats answer.kept)
+    IsAnswerOf run.only names bench settings stimulus run.options.until (Ok answer.text) × IsKeptOf run.stats bench settings run.options.until answer.kept
 IsSimulated run names bench settings stimulus (Err failure) =
     IsRefusal run.explains (λ fault. IsAnswerOf run.only names bench settings stimulus run.options.until (Err fault)) failure
 

@@ -1,8 +1,9 @@
 //! What a request is answered.
-ghost use Rattle.std.specs.Prelude.{◌≡◌, ◌≤◌, None, IfOk, IfErr, codes, true, false, option_map};
+ghost use Rattle.std.specs.Prelude.{◌≡◌, ◌≤◌, None, IfOk, IfErr, IsTrue, codes, true, false, option_map};
 ghost use Rattle.warp_text.specs.Stats.{dumped, AreCountsOf};
 ghost use Rattle.warp_text.specs.declared.fault.Fault.TheVariants as faults;
 ghost use Rattle.warp_command.specs.declared.failure.Failure.TheVariants as failures;
+ghost use Rattle.warp_command.specs.declared.request.Only.TheVariants as told;
 ghost use Rattle.vcd_compare.specs.Times.{Moves};
 ghost use Rattle.warp_command.specs.Replies.{
   Fetches,
@@ -49,7 +50,7 @@ use warp_explain::Compared;
 use warp_rounds::{NoGate, Watch};
 use warp_text::{
     Fault, Options, Simulated, Stats, count_text, counts_of_texts, nets_of_texts, replay_text,
-    replay_told, simulate_told_watched, simulate_watched, stats_text,
+    replay_told, simulate_plain, simulate_told_watched, simulate_watched, stats_text,
 };
 
 /// What a request is answered: a text to show, and where there is one, a text to keep behind that.
@@ -206,6 +207,34 @@ fn answer_of<'a>(
     }
 }
 
+/// Whether all nets are told of a run, nothing is counted, and it is watched by nobody.
+fn is_plain(run: &Run<'_>) -> bool
+    ensures { IsTrue result → (run.now.only ≡ told.All) × (run.now.stats ≡ None) }
+{
+    matches!(run.only, Only::All) && run.stats.is_none() && !run.progress
+}
+
+/// What is answered to a run of which all nets are told and nothing is kept.
+#[tactic(auto, using(crate::proofs::Refused::refusal_of))]
+fn plain<'a, R: Threads + Wait + Sync>(
+    rt: &R,
+    alloc: Global,
+    given: &Given<'_>,
+    run: &Run<'a>,
+) -> Result<Answer<'a>, Failure<'a>>
+    requires all { run.now.only ≡ told.All }
+    requires kept { run.now.stats ≡ None }
+    ensures { IsSimulated run.now given.now.only.text.now given.now.bench.text.now given.now.settings.text.now given.now.stimulus.text.now result }
+{
+    let bench = given.bench.text;
+    let settings = given.settings.text;
+    let stimulus = given.stimulus.text;
+    match simulate_plain(rt, alloc, bench, settings, stimulus, &run.options) {
+        Ok(text) => Ok(Answer { text, kept: None }),
+        Err(fault) => Err(refused(alloc, run.explains, given, fault)),
+    }
+}
+
 fn simulated<'a, R: Threads + Wait + Sync, T: Texts>(
     rt: &R,
     alloc: Global,
@@ -215,6 +244,9 @@ fn simulated<'a, R: Threads + Wait + Sync, T: Texts>(
 ) -> Result<Answer<'a>, Failure<'a>>
     ensures { IsSimulated run.now given.now.only.text.now given.now.bench.text.now given.now.settings.text.now given.now.stimulus.text.now result }
 {
+    if is_plain(run) {
+        return plain(rt, alloc, given, run);
+    }
     match watched(rt, alloc, given, run, texts) {
         Ok(simulated) => answer_of(alloc, run.stats, simulated),
         Err(fault) => Err(refused(alloc, run.explains, given, fault)),

@@ -23,7 +23,7 @@ use Rattle.warp_part.specs.Portion.{Portion, IsPortion, slot_of, at_slot, is_dri
 use Rattle.warp_part.proofs.Slots.{slot_is, slot_at}
 use Rattle.warp_process.specs.View.{View, log_of}
 use Rattle.warp_block.specs.Histories.{TellLogs}
-use Rattle.warp_core.specs.Inner.Histories.{AreOwn}
+use Rattle.warp_core.specs.OwnNets.{AreOwn}
 
 one_other : (s x : Stop) → s.net ≢ x.net → one s x ≡ 0
 one_other s x h = rw (eq_false s.net x.net h) (go (nat_eq s.time x.time))

@@ -3,7 +3,6 @@ pub mod Drive
 pub mod Findings
 pub mod Gather
 pub mod HeldWorld
-pub mod Histories
 pub mod Kept
 pub mod Opened
 pub mod Order

@@ -1,6 +1,7 @@
 pub mod Values
 pub mod Matched
 pub mod Gather
+pub mod OwnNets
 pub mod World
 pub mod Play
 pub mod Played

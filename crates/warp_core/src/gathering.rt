@@ -25,6 +25,7 @@ use std::alloc::Global;
 use std::thread::Threads;
 use warp_block::Block;
 use waves::Gathered;
+pub use waves::{given_lists, own_nets};
 
 /// The waves of a circuit under a stimulus, from the blocks of a cut, in order. The cut and the stimulus fit the
 /// circuit; the horizon is at most [`MOST_HORIZON`](warp_block::MOST_HORIZON). Times are in the stimulus's timescale.

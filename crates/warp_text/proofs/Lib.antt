@@ -1,4 +1,5 @@
 pub mod Settling
 pub mod Simulating
+pub mod Alone
 pub mod Replaying
 pub mod Telling

@@ -3,3 +3,4 @@ pub mod Answer
 pub mod FaultLines
 pub mod Replay
 pub mod Only
+pub mod Firsts

@@ -1,15 +1,22 @@
 //! From waves to a dump.
 
-ghost use Rattle.std.specs.Prelude.{◌≡◌, ◌≤◌, IfOk, codes};
+ghost use Rattle.std.specs.Prelude.{◌≡◌, ◌≤◌, ◌++◌, false, IfOk, IfSome, OnOk, codes};
+ghost use Rattle.net_waves.specs.ByTime.{stops_in};
+ghost use Rattle.net_waves.specs.Stops.{AreStopsOf};
+ghost use Rattle.gate_vcd.specs.Given.{Fits};
 ghost use Rattle.gate_vcd.specs.Dump.{vcd_text};
 ghost use Rattle.warp_process.specs.Limits.{most_horizon};
 ghost use Rattle.warp_core.specs.Values.{value_under, AreCircuitWaves};
+ghost use Rattle.warp_alone.specs.Alone.{circuit_waves};
+ghost use Rattle.warp_text.specs.Inner.Firsts.{AreFirstsOf};
 
-use byte_sinks::Grow;
+use byte_sinks::{Grow, Sink};
 use gate_netlist::Circuit;
-use gate_vcd::{Stimulus, write_vcd_once};
-use net_waves::Waves;
+use gate_values::Logic;
+use gate_vcd::{Stimulus, WriteFault, write_changes, write_vcd_once};
+use net_waves::{ByTime, Waves};
 use std::alloc::{AllocError, Global};
+use warp_alone::changes_alone;
 
 /// The dump of a circuit's waves under a stimulus, up to the horizon. The waves' lists are given back before the text grows.
 pub fn dump_of(
@@ -26,6 +33,49 @@ pub fn dump_of(
     let mut sink = Grow::new(alloc);
     match write_vcd_once(&mut sink, "top", circuit, stimulus, waves, horizon) {
         Ok(()) => Ok(sink.into_vec()),
+        Err(_) => Err(AllocError),
+    }
+}
+
+/// Writes the dump of a circuit's changes, which are had by time, with each net's value at time 0.
+fn write_alone<S: Sink>(
+    sink: &mut S,
+    circuit: &Circuit,
+    stimulus: &Stimulus,
+    firsts: &[Logic],
+    by_time: &ByTime,
+    horizon: u64,
+) -> Result<(), WriteFault>
+    requires sound { (S.held sink.old).failed ≡ false }
+    requires near { horizon ≤ most_horizon }
+    requires firsts { AreFirstsOf (circuit_waves circuit.now stimulus.now horizon) firsts.now }
+    requires stops { AreStopsOf (circuit_waves circuit.now stimulus.now horizon) (stops_in by_time.now) }
+    ensures { let text = vcd_text (codes "top") circuit.now stimulus.now (value_under circuit.now stimulus.now) horizon in
+        OnOk result ((S.held sink.new).bytes ≡ (S.held sink.old).bytes ++ text) }
+{
+    write_changes(sink, circuit, stimulus, firsts, by_time, horizon)
+}
+
+/// The dump of a circuit that is played alone under a stimulus, up to the horizon; none where its changes can't be had by time as they
+/// come. An error is a refused growth.
+pub fn alone_dump(
+    alloc: Global,
+    circuit: &Circuit,
+    stimulus: &Stimulus,
+    horizon: u64,
+) -> Result<Option<Vec<u8>>, AllocError>
+    requires fits { Fits stimulus.now circuit.now }
+    requires near { horizon ≤ most_horizon }
+    ensures { IfOk result (λ dump. IfSome dump (λ dump. dump.items ≡ vcd_text (codes "top") circuit.now stimulus.now (value_under circuit.now stimulus.now) horizon)) }
+{
+    let Some(by_time) = changes_alone(alloc, circuit, stimulus, horizon)? else {
+        return Ok(None);
+    };
+    let firsts = by_time.first_values(alloc, circuit.nets())?;
+    let firsts = firsts.as_slice();
+    let mut sink = Grow::new(alloc);
+    match write_alone(&mut sink, circuit, stimulus, firsts, &by_time, horizon) {
+        Ok(()) => Ok(Some(sink.into_vec())),
         Err(_) => Err(AllocError),
     }
 }

@@ -11,7 +11,7 @@ ghost use Rattle.warp_text.specs.Answer.{IsAnswer, IsCounted, IsListed};
 ghost use Rattle.warp_text.specs.Stats.{dumped, Accounts, IsAccountOf, AreCountsOf};
 ghost use Rattle.warp_text.specs.Inner.Answer.{IsCircuitAnswer, IsDumped};
 
-use crate::dump::dump_of;
+use crate::dump::{alone_dump, dump_of};
 use crate::fault::Fault;
 use crate::nets::nets_text;
 use crate::options::Options;
@@ -22,7 +22,7 @@ use net_waves::Waves;
 use std::alloc::Global;
 use std::sync::Wait;
 use std::thread::{Threads, join};
-use warp_rounds::{Gate, NoWatch, RunFault, Watch, run_watched};
+use warp_rounds::{Gate, NoGate, NoWatch, RunFault, Watch, run_watched};
 
 /// A settings text of so many bytes is worth a thread beside the one that reads the bench.
 const LONG: usize = 1 << 16;
@@ -196,6 +196,51 @@ pub fn simulate_text<G: Gate + Sync, R: Threads + Wait + Sync>(
         &mut NoWatch,
     );
     dump_alone(answer)
+}
+
+/// Answers what [`simulate_text`] does, where no gate is to see the blocks. A circuit for which neither the options nor its settings ask
+/// for blocks is played alone, as a whole, with no block's lists nor rollbacks.
+#[tactic(auto, unfolding(crate::specs::Answer::IsAnswer))]
+pub fn simulate_plain<R: Threads + Wait + Sync>(
+    rt: &R,
+    alloc: Global,
+    bench: &[u8],
+    settings: &[u8],
+    stimulus: &[u8],
+    options: &Options,
+) -> Result<Vec<u8>, Fault>
+    ensures { IsAnswer bench.now settings.now stimulus.now options.now.until result }
+{
+    let circuit = circuit_by(rt, alloc, bench, settings)?;
+    plain_dump(rt, alloc, &circuit, stimulus, options)
+}
+
+/// The dump of a circuit's nets under a stimulus text, where no gate is to see the blocks.
+fn plain_dump<R: Threads + Wait + Sync>(
+    rt: &R,
+    alloc: Global,
+    circuit: &Circuit,
+    stimulus: &[u8],
+    options: &Options,
+) -> Result<Vec<u8>, Fault>
+    ensures { IsDumped circuit.now stimulus.now options.now.until result }
+{
+    let stimulus = read_stimulus(alloc, stimulus, circuit)?;
+    if options.blocks().is_none() && circuit.cut().is_none() {
+        if let Some(dump) = alone_dump(alloc, circuit, &stimulus, options.until())? {
+            return Ok(dump);
+        }
+    }
+    let ran = run_blocks(
+        rt,
+        alloc,
+        circuit,
+        &stimulus,
+        options,
+        &NoGate,
+        &mut NoWatch,
+    )?;
+    Ok(dump_of(alloc, circuit, &stimulus, ran.waves, options.until())?)
 }
 
 /// The dump of what is answered.

@@ -15,7 +15,7 @@ ghost use Rattle.warp_process.specs.Limits.{most_horizon};
 ghost use Rattle.warp_core.specs.Matched.{IsBlockOf, EachBlock, told_of};
 ghost use Rattle.warp_core.specs.Gather.{AreCounted};
 ghost use Rattle.warp_core.specs.Inner.Gather.{after_block, after_blocks};
-ghost use Rattle.warp_core.specs.Inner.Histories.{AreOwn};
+ghost use Rattle.warp_core.specs.OwnNets.{AreOwn};
 
 use super::told::given_until;
 use gate_netlist::{Circuit, Cut};
@@ -60,8 +60,9 @@ pub(super) fn lists_of(
     Ok(all)
 }
 
-/// A list for each net: of an input the stimulus's changes up to the horizon, else none.
-fn given_lists(
+/// A list for each net of a cut circuit: of one without an owner, an input, the stimulus's changes up to the horizon, else none. An
+/// error is a refused growth.
+pub fn given_lists(
     alloc: Global,
     nets: u32,
     cut: &Cut,
@@ -120,7 +121,7 @@ fn gather_logs(
     let mut lists = lists;
     if horizon < FAR && blocks.len() == 1 {
         if let Some(block) = blocks.pop() {
-            let all = give_one(alloc, block, lists)?;
+            let all = give_one(alloc, horizon, block, lists)?;
             return Ok(all);
         }
     }
@@ -133,7 +134,12 @@ fn gather_logs(
 
 /// What a block and the lists say of all nets, where no list says anything of a net that the block owns: its logs move, and its history
 /// tells the changes by time.
-fn give_one(alloc: Global, block: Block, lists: Vec<Vec<Change>>) -> Result<Gathered, AllocError>
+fn give_one(
+    alloc: Global,
+    horizon: u64,
+    block: Block,
+    lists: Vec<Vec<Change>>,
+) -> Result<Gathered, AllocError>
     requires places { All (λ net. net < vec_len lists) block.seen.part.nets }
     requires few { vec_len lists ≤ 1000000 }
     requires waves { (n : ℕ) → IsWave (wave_of (lists_in lists.items) n) }
@@ -153,12 +159,12 @@ fn give_one(alloc: Global, block: Block, lists: Vec<Vec<Change>>) -> Result<Gath
     };
     part.law();
     let own = own_nets(alloc, &part)?;
-    let by_time = by_time_of(alloc, own.as_slice(), history, given.as_slice())?;
+    let by_time = by_time_of(alloc, horizon, own.as_slice(), history, given.as_slice())?;
     Ok(Gathered { lists, by_time })
 }
 
-/// The net of each place of a part that the part owns.
-fn own_nets(alloc: Global, part: &Part) -> Result<Vec<Option<u32>>, AllocError>
+/// Of each place of a part its net, if the part owns it. An error is a refused growth.
+pub fn own_nets(alloc: Global, part: &Part) -> Result<Vec<Option<u32>>, AllocError>
     ensures { IfOk result (λ own. AreOwn part.now own.items) }
 {
     part.law();

@@ -4,7 +4,7 @@ use Rattle.gate_values.specs.declared.logic.Change.{Change}
 use Rattle.net_waves.specs.Stops.{AreStopsOf}
 use Rattle.net_waves.specs.Waves.{lists_in}
 use Rattle.warp_part.specs.Portion.{Portion}
-use Rattle.warp_core.specs.Inner.Histories.{AreOwn}
+use Rattle.warp_core.specs.OwnNets.{AreOwn}
 use Rattle.warp_core.proofs.Finished.{log_wave}
 use Rattle.warp_core.proofs.Histories.{told_when}
 use Rattle.warp_core.proofs.gathering.waves.give_one.Goals as goal

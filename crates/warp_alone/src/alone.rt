@@ -1,0 +1,42 @@
+//! The changes of a circuit's nets by time.
+ghost use Rattle.std.specs.Prelude.{◌≤◌, IfOk, IfSome};
+ghost use Rattle.gate_vcd.specs.Given.{Fits};
+ghost use Rattle.net_waves.specs.ByTime.{stops_in};
+ghost use Rattle.net_waves.specs.Stops.{AreStopsOf};
+ghost use Rattle.warp_process.specs.Limits.{most_horizon};
+ghost use Rattle.warp_alone.specs.Alone.{circuit_waves};
+
+use crate::playing::history_of;
+use gate_netlist::{Circuit, Cut};
+use gate_vcd::Stimulus;
+use history_waves::by_time_of;
+use net_waves::{ByTime, stops_by_time};
+use std::alloc::{AllocError, Global};
+use warp_core::{given_lists, own_nets};
+use warp_part::Part;
+
+/// All changes of the values of a circuit's nets under a stimulus, by time, up to a horizon. The stimulus fits the circuit; the horizon
+/// is at most [`MOST_HORIZON`](warp_process::MOST_HORIZON). There is no answer where the changes have no form in which they can be had
+/// by time as they come. An error is a refused growth.
+pub fn changes_alone(
+    alloc: Global,
+    circuit: &Circuit,
+    stimulus: &Stimulus,
+    horizon: u64,
+) -> Result<Option<ByTime>, AllocError>
+    requires stimulus { Fits stimulus.now circuit.now }
+    requires horizon { horizon ≤ most_horizon }
+    ensures { IfOk result (λ all. IfSome all (λ by_time. AreStopsOf (circuit_waves circuit.now stimulus.now horizon) (stops_in by_time))) }
+{
+    let cut = Cut::even(alloc, circuit, 1)?;
+    cut.law();
+    stimulus.law();
+    let lists = given_lists(alloc, circuit.nets(), &cut, stimulus, horizon)?;
+    let given = stops_by_time(alloc, lists.as_slice())?;
+    let part = Part::of(alloc, circuit, &cut, 0)?;
+    part.law();
+    let own = own_nets(alloc, &part)?;
+    let history = history_of(alloc, part, stimulus, horizon)?;
+    let all = by_time_of(alloc, horizon, own.as_slice(), history, given.as_slice())?;
+    Ok(all)
+}

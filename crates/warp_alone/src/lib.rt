@@ -1,0 +1,10 @@
+//! A run of one block that has the whole circuit. Nobody tells it anything but the stimulus, so that it never rolls back: it is played
+//! from time 0 to the horizon, and all that came true tells the changes of all nets by time. No list of any net's changes is made.
+//!
+//! The definitions stand in `specs/Alone`.
+#![tactic(auto)]
+
+mod alone;
+mod playing;
+
+pub use alone::changes_alone;

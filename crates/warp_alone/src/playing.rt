@@ -1,0 +1,127 @@
+//! Plays a part that is told nothing but the stimulus, from time 0 to the horizon.
+ghost use Rattle.std.specs.Prelude.{◌≡◌, ◌≢◌, ◌≤◌, ◌<◌, ◌+◌, ℕ, false, Some, IfOk, OnOk};
+ghost use Rattle.warp_process.specs.Heard.{IsReceived};
+ghost use Rattle.warp_process.specs.Limits.{most_horizon};
+ghost use Rattle.warp_process.specs.Opening.{silent_view};
+ghost use Rattle.warp_process.specs.Played.{played_view};
+ghost use Rattle.warp_process.specs.View.{is_busy, given_by};
+ghost use Rattle.warp_journal.specs.Books.{IsBrought};
+ghost use Rattle.warp_part.specs.Placing.{place_source, place_given};
+ghost use Rattle.part_engine.specs.Runs.{IsEngineOf, IsNextBrought, begins_of};
+ghost use Rattle.warp_block.specs.Histories.{TellLogs};
+
+use gate_vcd::Stimulus;
+use part_engine::{begins, bring, bring_first, next_brought, next_time, opening_engine};
+use std::alloc::{AllocError, Global};
+use warp_engine::Engine;
+use warp_part::Part;
+use warp_process::Heard;
+use warp_stores::{Steps, Word};
+
+/// All that comes true in a part up to a horizon, where nothing is received but the stimulus. An error is a refused growth.
+pub(crate) fn history_of(
+    alloc: Global,
+    part: Part,
+    stimulus: &Stimulus,
+    horizon: u64,
+) -> Result<Steps<Word>, AllocError>
+    requires { horizon ≤ most_horizon }
+    ensures received { IfOk result (λ _. IsReceived (silent_view part stimulus.now horizon)) }
+    ensures told { IfOk result (TellLogs (played_view (silent_view part stimulus.now horizon) (horizon + 1))) }
+{
+    let heard = Heard::new(alloc, part, stimulus, horizon)?;
+    let mut engine = opening_engine(alloc, heard.part(), horizon)?;
+    heard.law();
+    let mut words = Vec::new(alloc);
+    play_first(&heard, &mut engine, &mut words)?;
+    play_all(&heard, &mut engine, &mut words)?;
+    let (_, history) = engine.into_parts();
+    Ok(history)
+}
+
+/// Plays time 0. An error is a refused growth. The words are a place to work in.
+fn play_first(heard: &Heard, engine: &mut Engine, words: &mut Vec<Word>) -> Result<(), AllocError>
+    requires engine { IsEngineOf heard.now 0 engine.old }
+    requires floor { heard.now.floor ≡ 0 }
+    requires mark { engine.old.book.mark ≡ 0 }
+    ensures engine { OnOk result (IsEngineOf heard.now 0 engine.new) }
+    ensures mark { OnOk result (engine.new.book.mark ≡ 1) }
+{
+    bring_at_first(heard, engine, words)?;
+    engine.play(0, words.as_slice())?;
+    Ok(())
+}
+
+/// Puts into a list the words that are brought at time 0. An error is a refused growth.
+fn bring_at_first(heard: &Heard, engine: &Engine, words: &mut Vec<Word>) -> Result<(), AllocError>
+    requires engine { IsEngineOf heard.now 0 engine.now }
+    requires floor { heard.now.floor ≡ 0 }
+    requires mark { engine.now.book.mark ≡ 0 }
+    ensures { OnOk result (IsBrought (place_source heard.now.part) (place_given heard.now.part (given_by heard.now)) engine.now.book.mark 0 words.new.items) }
+{
+    let brought = next_brought(heard, engine);
+    if next_time(heard, engine, begins(heard.part()), brought) == Some(0) {
+        bring(heard, engine, 0, brought, words)?;
+        return Ok(());
+    }
+    bring_first(heard, engine, words)?;
+    Ok(())
+}
+
+/// Plays all times from the mark to the horizon. An error is a refused growth. The words are a place to work in.
+fn play_all(heard: &Heard, engine: &mut Engine, words: &mut Vec<Word>) -> Result<(), AllocError>
+    requires engine { IsEngineOf heard.now 0 engine.old }
+    requires floor { heard.now.floor ≡ 0 }
+    requires some { 0 < engine.old.book.mark }
+    requires within { engine.old.book.mark ≤ heard.now.horizon + 1 }
+    ensures engine { OnOk result (IsEngineOf heard.now 0 engine.new) }
+    ensures mark { OnOk result (engine.new.book.mark ≡ heard.now.horizon + 1) }
+{
+    let begins = begins(heard.part());
+    let mut brought = next_brought(heard, engine);
+    while let Some(time) = next_time(heard, engine, begins, brought) {
+        play_time(heard, engine, time, brought, words)?;
+        brought = brought_after(heard, engine, time, brought);
+    }
+    if engine.mark() > heard.horizon() {
+        return Ok(());
+    }
+    play_time(heard, engine, heard.horizon(), brought, words)?;
+    Ok(())
+}
+
+/// Plays a time up to which nothing happens, by the least one at which something is brought. An error is a refused growth. The words are
+/// a place to work in.
+fn play_time(
+    heard: &Heard,
+    engine: &mut Engine,
+    time: u64,
+    brought: Option<u64>,
+    words: &mut Vec<Word>,
+) -> Result<(), AllocError>
+    requires engine { IsEngineOf heard.now 0 engine.old }
+    requires floor { heard.now.floor ≡ 0 }
+    requires some { 0 < engine.old.book.mark }
+    requires ahead { engine.old.book.mark ≤ time }
+    requires within { time ≤ heard.now.horizon }
+    requires quiet { (t : ℕ) → engine.old.book.mark ≤ t → t < time → is_busy (played_view heard.now engine.old.book.mark) t ≡ false }
+    requires brought { IsNextBrought heard.now engine.old.book.mark brought }
+    ensures engine { OnOk result (IsEngineOf heard.now 0 engine.new) }
+    ensures mark { OnOk result (engine.new.book.mark ≡ time + 1) }
+{
+    bring(heard, engine, time, brought, words)?;
+    engine.play(time, words.as_slice())?;
+    Ok(())
+}
+
+/// The least time, from an engine's mark on, at which something is brought, by the one before a time was played: it is looked for again
+/// only where it was that time.
+fn brought_after(heard: &Heard, engine: &Engine, time: u64, brought: Option<u64>) -> Option<u64>
+    requires { brought ≢ Some time → IsNextBrought heard.now engine.now.book.mark brought }
+    ensures { IsNextBrought heard.now engine.now.book.mark result }
+{
+    if brought == Some(time) {
+        return next_brought(heard, engine);
+    }
+    brought
+}
