@@ -29,11 +29,13 @@ def texts_of(players, circuit):
 
 
 def jobs(rng, program, all_texts, until):
-    """Runs of any circuit at any setting, up to a moment."""
+    """Runs of any circuit at any setting, one in eight without blocks, up to a moment."""
     while time.monotonic() < until:
         which = rng.randrange(len(all_texts))
         blocks, workers, window = up_to(rng, 1024), up_to(rng, 64), up_to(rng, 1_000_000)
-        options = ("--blocks", str(blocks), "--workers", str(workers), "--window", str(window))
+        options = ("--workers", str(workers), "--window", str(window))
+        if rng.randrange(8):
+            options = ("--blocks", str(blocks), *options)
         words = (program, "run", *options, *all_texts[which][0])
         yield play.Job((which, options), words, watched=False)
 
