@@ -14,15 +14,17 @@ use net_waves::{ByTime, stops_by_time};
 use std::alloc::{AllocError, Global};
 use warp_core::{given_lists, own_nets};
 use warp_part::Part;
+use warp_rounds::Watch;
 
 /// All changes of the values of a circuit's nets under a stimulus, by time, up to a horizon. The stimulus fits the circuit; the horizon
 /// is at most [`MOST_HORIZON`](warp_process::MOST_HORIZON). There is no answer where the changes have no form in which they can be had
-/// by time as they come. An error is a refused growth.
-pub fn changes_alone(
+/// by time as they come. The watch is told how far it has come, time by time. An error is a refused growth.
+pub fn changes_alone<W: Watch>(
     alloc: Global,
     circuit: &Circuit,
     stimulus: &Stimulus,
     horizon: u64,
+    watch: &mut W,
 ) -> Result<Option<ByTime>, AllocError>
     requires stimulus { Fits stimulus.now circuit.now }
     requires horizon { horizon ≤ most_horizon }
@@ -36,7 +38,7 @@ pub fn changes_alone(
     let part = Part::of(alloc, circuit, &cut, 0)?;
     part.law();
     let own = own_nets(alloc, &part)?;
-    let history = history_of(alloc, part, stimulus, horizon)?;
+    let history = history_of(alloc, part, stimulus, horizon, watch)?;
     let all = by_time_of(alloc, horizon, own.as_slice(), history, given.as_slice())?;
     Ok(all)
 }

@@ -16,14 +16,17 @@ use std::alloc::{AllocError, Global};
 use warp_engine::Engine;
 use warp_part::Part;
 use warp_process::Heard;
+use warp_rounds::Watch;
 use warp_stores::{Steps, Word};
 
-/// All that comes true in a part up to a horizon, where nothing is received but the stimulus. An error is a refused growth.
-pub(crate) fn history_of(
+/// All that comes true in a part up to a horizon, where nothing is received but the stimulus. The watch is told how far it has come. An
+/// error is a refused growth.
+pub(crate) fn history_of<W: Watch>(
     alloc: Global,
     part: Part,
     stimulus: &Stimulus,
     horizon: u64,
+    watch: &mut W,
 ) -> Result<Steps<Word>, AllocError>
     requires { horizon ≤ most_horizon }
     ensures received { IfOk result (λ _. IsReceived (silent_view part stimulus.now horizon)) }
@@ -34,7 +37,7 @@ pub(crate) fn history_of(
     heard.law();
     let mut words = Vec::new(alloc);
     play_first(&heard, &mut engine, &mut words)?;
-    play_all(&heard, &mut engine, &mut words)?;
+    play_all(&heard, &mut engine, &mut words, watch)?;
     let (_, history) = engine.into_parts();
     Ok(history)
 }
@@ -68,8 +71,14 @@ fn bring_at_first(heard: &Heard, engine: &Engine, words: &mut Vec<Word>) -> Resu
     Ok(())
 }
 
-/// Plays all times from the mark to the horizon. An error is a refused growth. The words are a place to work in.
-fn play_all(heard: &Heard, engine: &mut Engine, words: &mut Vec<Word>) -> Result<(), AllocError>
+/// Plays all times from the mark to the horizon, and tells the watch before which all is played. An error is a refused growth. The words
+/// are a place to work in.
+fn play_all<W: Watch>(
+    heard: &Heard,
+    engine: &mut Engine,
+    words: &mut Vec<Word>,
+    watch: &mut W,
+) -> Result<(), AllocError>
     requires engine { IsEngineOf heard.now 0 engine.old }
     requires floor { heard.now.floor ≡ 0 }
     requires some { 0 < engine.old.book.mark }
@@ -82,11 +91,13 @@ fn play_all(heard: &Heard, engine: &mut Engine, words: &mut Vec<Word>) -> Result
     while let Some(time) = next_time(heard, engine, begins, brought) {
         play_time(heard, engine, time, brought, words)?;
         brought = brought_after(heard, engine, time, brought);
+        watch.floor(engine.mark());
     }
     if engine.mark() > heard.horizon() {
         return Ok(());
     }
     play_time(heard, engine, heard.horizon(), brought, words)?;
+    watch.floor(engine.mark());
     Ok(())
 }
 

@@ -10,6 +10,8 @@ pub(crate) struct Progress<'a, T: Texts> {
     until: u64,
     /// The hundredth that is told next, if any is; none of a run that isn't to be told of.
     next: Option<u64>,
+    /// Before this time nothing is told.
+    from: u64,
     has_told: bool,
 }
 
@@ -20,6 +22,7 @@ impl<'a, T: Texts> Progress<'a, T> {
             texts,
             until,
             next: if is_asked { Some(0) } else { None },
+            from: 0,
             has_told: false,
         }
     }
@@ -45,11 +48,16 @@ impl<T: Texts> Watch for Progress<'_, T> {
         let Some(next) = self.next else {
             return;
         };
+        if floor < self.from {
+            return;
+        }
         let time = floor.min(self.until);
         let now = hundredth(time, self.until);
         if now >= next {
             self.texts.come_to(time, self.until);
-            self.next = Some(now.saturating_add(1));
+            let later = now.saturating_add(1);
+            self.next = Some(later);
+            self.from = later.saturating_mul(self.until) / 100;
             self.has_told = true;
         }
     }

@@ -207,20 +207,21 @@ fn answer_of<'a>(
     }
 }
 
-/// Whether all nets are told of a run, nothing is counted, and it is watched by nobody.
+/// Whether all nets are told of a run, and nothing is counted.
 fn is_plain(run: &Run<'_>) -> bool
     ensures { IsTrue result → (run.now.only ≡ told.All) × (run.now.stats ≡ None) }
 {
-    matches!(run.only, Only::All) && run.stats.is_none() && !run.progress
+    matches!(run.only, Only::All) && run.stats.is_none()
 }
 
 /// What is answered to a run of which all nets are told and nothing is kept.
 #[tactic(auto, using(crate::proofs::Refused::refusal_of))]
-fn plain<'a, R: Threads + Wait + Sync>(
+fn plain<'a, R: Threads + Wait + Sync, T: Texts>(
     rt: &R,
     alloc: Global,
     given: &Given<'_>,
     run: &Run<'a>,
+    texts: &T,
 ) -> Result<Answer<'a>, Failure<'a>>
     requires all { run.now.only ≡ told.All }
     requires kept { run.now.stats ≡ None }
@@ -229,7 +230,18 @@ fn plain<'a, R: Threads + Wait + Sync>(
     let bench = given.bench.text;
     let settings = given.settings.text;
     let stimulus = given.stimulus.text;
-    match simulate_plain(rt, alloc, bench, settings, stimulus, &run.options) {
+    let mut progress = Progress::new(texts, run.options.until(), run.progress);
+    let answer = simulate_plain(
+        rt,
+        alloc,
+        bench,
+        settings,
+        stimulus,
+        &run.options,
+        &mut progress,
+    );
+    progress.end();
+    match answer {
         Ok(text) => Ok(Answer { text, kept: None }),
         Err(fault) => Err(refused(alloc, run.explains, given, fault)),
     }
@@ -245,7 +257,7 @@ fn simulated<'a, R: Threads + Wait + Sync, T: Texts>(
     ensures { IsSimulated run.now given.now.only.text.now given.now.bench.text.now given.now.settings.text.now given.now.stimulus.text.now result }
 {
     if is_plain(run) {
-        return plain(rt, alloc, given, run);
+        return plain(rt, alloc, given, run, texts);
     }
     match watched(rt, alloc, given, run, texts) {
         Ok(simulated) => answer_of(alloc, run.stats, simulated),

@@ -17,6 +17,7 @@ use gate_vcd::{Stimulus, WriteFault, write_changes, write_vcd_once};
 use net_waves::{ByTime, Waves};
 use std::alloc::{AllocError, Global};
 use warp_alone::changes_alone;
+use warp_rounds::Watch;
 
 /// The dump of a circuit's waves under a stimulus, up to the horizon. The waves' lists are given back before the text grows.
 pub fn dump_of(
@@ -57,18 +58,19 @@ fn write_alone<S: Sink>(
 }
 
 /// The dump of a circuit that is played alone under a stimulus, up to the horizon; none where its changes can't be had by time as they
-/// come. An error is a refused growth.
-pub fn alone_dump(
+/// come. The watch is told how far it has come. An error is a refused growth.
+pub fn alone_dump<W: Watch>(
     alloc: Global,
     circuit: &Circuit,
     stimulus: &Stimulus,
     horizon: u64,
+    watch: &mut W,
 ) -> Result<Option<Vec<u8>>, AllocError>
     requires fits { Fits stimulus.now circuit.now }
     requires near { horizon ≤ most_horizon }
     ensures { IfOk result (λ dump. IfSome dump (λ dump. dump.items ≡ vcd_text (codes "top") circuit.now stimulus.now (value_under circuit.now stimulus.now) horizon)) }
 {
-    let Some(by_time) = changes_alone(alloc, circuit, stimulus, horizon)? else {
+    let Some(by_time) = changes_alone(alloc, circuit, stimulus, horizon, watch)? else {
         return Ok(None);
     };
     let firsts = by_time.first_values(alloc, circuit.nets())?;

@@ -199,47 +199,41 @@ pub fn simulate_text<G: Gate + Sync, R: Threads + Wait + Sync>(
 }
 
 /// Answers what [`simulate_text`] does, where no gate is to see the blocks. A circuit for which neither the options nor its settings ask
-/// for blocks is played alone, as a whole, with no block's lists nor rollbacks.
+/// for blocks is played alone, as a whole, with no block's lists nor rollbacks. The watch is told how far the run has come.
 #[tactic(auto, unfolding(crate::specs::Answer::IsAnswer))]
-pub fn simulate_plain<R: Threads + Wait + Sync>(
+pub fn simulate_plain<W: Watch, R: Threads + Wait + Sync>(
     rt: &R,
     alloc: Global,
     bench: &[u8],
     settings: &[u8],
     stimulus: &[u8],
     options: &Options,
+    watch: &mut W,
 ) -> Result<Vec<u8>, Fault>
     ensures { IsAnswer bench.now settings.now stimulus.now options.now.until result }
 {
     let circuit = circuit_by(rt, alloc, bench, settings)?;
-    plain_dump(rt, alloc, &circuit, stimulus, options)
+    plain_dump(rt, alloc, &circuit, stimulus, options, watch)
 }
 
 /// The dump of a circuit's nets under a stimulus text, where no gate is to see the blocks.
-fn plain_dump<R: Threads + Wait + Sync>(
+fn plain_dump<W: Watch, R: Threads + Wait + Sync>(
     rt: &R,
     alloc: Global,
     circuit: &Circuit,
     stimulus: &[u8],
     options: &Options,
+    watch: &mut W,
 ) -> Result<Vec<u8>, Fault>
     ensures { IsDumped circuit.now stimulus.now options.now.until result }
 {
     let stimulus = read_stimulus(alloc, stimulus, circuit)?;
     if options.blocks().is_none() && circuit.cut().is_none() {
-        if let Some(dump) = alone_dump(alloc, circuit, &stimulus, options.until())? {
+        if let Some(dump) = alone_dump(alloc, circuit, &stimulus, options.until(), watch)? {
             return Ok(dump);
         }
     }
-    let ran = run_blocks(
-        rt,
-        alloc,
-        circuit,
-        &stimulus,
-        options,
-        &NoGate,
-        &mut NoWatch,
-    )?;
+    let ran = run_blocks(rt, alloc, circuit, &stimulus, options, &NoGate, watch)?;
     Ok(dump_of(alloc, circuit, &stimulus, ran.waves, options.until())?)
 }
 

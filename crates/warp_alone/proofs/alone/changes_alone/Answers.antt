@@ -20,7 +20,7 @@ use Rattle.warp_alone.proofs.Whole.{whole}
 use Rattle.warp_alone.proofs.alone.changes_alone.Goals as goal
 
 pub returns : goal.returns
-returns c =
+returns g c =
     let d = c.args.circuit.now in
     let g = c.args.stimulus.now in
     let cut = c.in_ok-cut.cut in

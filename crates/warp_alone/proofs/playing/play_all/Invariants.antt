@@ -4,7 +4,7 @@ use Rattle.warp_alone.proofs.playing.play_all.Given as goal
 
 -- the engine is the part's, and it is known when something is brought next
 abbrev pub invariant-loop-time : goal.invariant-loop-time
-invariant-loop-time l = record {
+invariant-loop-time g l = record {
   engine : IsEngineOf l.heard 0 l.engine;
   some : 0 < l.engine.book.mark;
   within : l.engine.book.mark ≤ l.heard.horizon + 1;
@@ -12,4 +12,4 @@ invariant-loop-time l = record {
 }
 
 abbrev pub decreases-loop-time : goal.decreases-loop-time
-decreases-loop-time l = (l.heard.horizon + 1) - l.engine.book.mark
+decreases-loop-time g l = (l.heard.horizon + 1) - l.engine.book.mark
