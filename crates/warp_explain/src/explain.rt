@@ -10,24 +10,17 @@ ghost use Rattle.warp_explain.specs.Explained.{
   IsToldOfOne,
 };
 
-use crate::bench::of_bench;
-use crate::causes::Kind;
-use crate::compared::Compared;
-use crate::dump::of_dump;
-use crate::finding::Finding;
-use crate::inputs::{Found, of_input};
-use crate::map::of_map;
-use crate::nothing::{Missing, of_empty_map, of_nothing, says_nothing};
-use crate::only::of_only;
-use crate::schedule::{of_event, of_schedule, of_unfinished};
-use crate::settings::of_settings;
+use fault_findings::{
+    Compared, Finding, Found, Kind, Lack, Missing, of_bench, of_dump, of_empty_map, of_event,
+    of_input, of_map, of_nothing, of_only, of_schedule, of_settings, of_unfinished, says_nothing,
+};
 use gate_netlist::{BenchFault, SettingsFault};
 use gate_vcd::{StimCause, StimFault};
 use only_nets::OnlyFault;
 use std::alloc::{AllocError, Global};
 use text_places::{Source, tell, within_line};
 use vcd_compare::{CompareFault, MapFault, Options};
-use warp_core::{PlayFault, ScheduleFault};
+use warp_core::{PlayFault, ScheduleCause, ScheduleFault};
 
 fn told(alloc: Global, source: Source<'_>, finding: &Finding) -> Result<String, AllocError>
     ensures { IfOk result (λ told. IsToldOf source.entry (string_bytes told)) }
@@ -117,7 +110,8 @@ pub fn explain_schedule(
 ) -> Result<String, AllocError>
     ensures { IfOk result (λ told. IsToldInLine schedule.entry fault.now.line (string_bytes told)) }
 {
-    let finding = of_schedule(alloc, schedule, fault)?;
+    let is_large = fault.cause == ScheduleCause::NumberTooLarge;
+    let finding = of_schedule(alloc, schedule, fault.line, is_large)?;
     told_in_line(alloc, schedule, fault.line, &finding)
 }
 
@@ -130,7 +124,12 @@ pub fn explain_event(
 ) -> Result<String, AllocError>
     ensures { IfOk result (λ told. IsToldOf schedule.entry (string_bytes told)) }
 {
-    let finding = of_event(alloc, schedule, number, cause)?;
+    let lack = match cause {
+        PlayFault::NoSuchMessage => Lack::Message,
+        PlayFault::NoSuchBlock => Lack::Block,
+        _ => Lack::Other,
+    };
+    let finding = of_event(alloc, schedule, number, lack)?;
     told(alloc, schedule, &finding)
 }
 

@@ -1,11 +1,12 @@
 //! What is wrong with settings.
-use crate::causes::{Kind, mistaken};
+use crate::causes::{Kind, misplaced};
 use crate::finding::Finding;
 use crate::inputs::circuit_of;
 use crate::keys::key_at;
 use crate::look::Look;
-use crate::quoted::quoted;
+use crate::sentence::Piece;
 use crate::words::Word;
+use Piece::{Quoted, Text};
 use gate_netlist::{Circuit, Driver, SettingsFault};
 use std::alloc::{AllocError, Global};
 use text_places::Source;
@@ -25,7 +26,7 @@ const TABLES: [&str; 5] = ["gate", "net", "block", "clocks", "init"];
 type Key<'t> = (&'t str, &'t str);
 
 /// What a fault of settings is about.
-pub(crate) fn of_settings(
+pub fn of_settings(
     alloc: Global,
     bench: Source<'_>,
     source: Source<'_>,
@@ -33,15 +34,11 @@ pub(crate) fn of_settings(
 ) -> Result<Finding, AllocError> {
     let look = Look::of(source.text);
     if !matches!(look, Look::Settings | Look::Bench | Look::Other) {
-        return Ok(Finding::at_front(mistaken(alloc, look, Kind::Settings)?));
+        return misplaced(alloc, look, Kind::Settings);
     }
     let table = match toml::table_from_slice(alloc, source.text) {
         Ok(table) => table,
-        Err(_) if look == Look::Bench => return Ok(Finding::at_front(mistaken(
-            alloc,
-            look,
-            Kind::Settings,
-        )?)),
+        Err(_) if look == Look::Bench => return misplaced(alloc, look, Kind::Settings),
         Err(error) => return no_toml(alloc, source, &error),
     };
     let circuit = circuit_of(alloc, bench.text, &[]);
@@ -54,13 +51,12 @@ fn no_toml(
     source: Source<'_>,
     error: &toml::de::Error,
 ) -> Result<Finding, AllocError> {
-    let message = error.message();
-    let cause = format!(in alloc; "this is no TOML: {message}")?;
     let word = match error.span() {
         Some(span) => Word::of(source.text, span.start, span.end.saturating_sub(span.start)),
         None => Word::of(source.text, 0, 0),
     };
-    Ok(Finding::at(&word, cause, String::new(alloc)))
+    let cause = [Text("this is no TOML: "), Text(error.message())];
+    Finding::at(alloc, &word, &cause, &[])
 }
 
 /// A cause in a sentence, at its key.
@@ -73,48 +69,28 @@ fn told(
     let (table, name) = key;
     let word = key_at(source.text, table, name);
     if name.contains('\r') {
-        return with_return(alloc, source, &word, name);
+        return with_return(alloc, &word, name);
     }
     let meant = if name.is_empty() { table } else { name };
-    let shown = quoted(alloc, meant.as_bytes())?;
-    let cause = cause_of(alloc, table, shown.as_str(), fault)?;
-    Ok(Finding::at(
-        &word,
-        cause,
-        String::from_str(alloc, advice_of(table, fault))?,
-    ))
+    let (before, behind) = cause_of(table, fault);
+    let cause = [Text(before), Quoted(meant.as_bytes()), Text(behind)];
+    Finding::at(alloc, &word, &cause, &[Text(advice_of(table, fault))])
 }
 
 fn names_flops(table: &str) -> bool {
     table == "clocks" || table == "init"
 }
 
-fn cause_of(
-    alloc: Global,
-    table: &str,
-    shown: &str,
-    fault: SettingsFault,
-) -> Result<String, AllocError> {
+/// What stands before a key and behind it in the sentence of a cause.
+fn cause_of(table: &str, fault: SettingsFault) -> (&'static str, &'static str) {
     match fault {
-        SettingsFault::UnknownKey => format!(in alloc;
-            "{shown} is no key of settings, or has a value of another type"
-        ),
-        SettingsFault::UnknownNet if names_flops(table) => format!(in alloc;
-            "the bench has no flip-flop {shown}"
-        ),
-        SettingsFault::UnknownNet => format!(in alloc;
-            "the bench has no gate and no flip-flop {shown}"
-        ),
-        SettingsFault::BadDelay => format!(in alloc;
-            "the delay of {shown} is no whole number from 1 to 1,000,000"
-        ),
-        SettingsFault::BadCut => format!(in alloc;
-            "the block of {shown} is no whole number from 0 to 1023"
-        ),
-        SettingsFault::BadClock => format!(in alloc;
-            "the clock of {shown} is no net, and none is added for it"
-        ),
-        _ => format!(in alloc; "the content of {shown} is not \"0\", \"1\" or \"x\""),
+        SettingsFault::UnknownKey => ("", " is no key of settings, or has a value of another type"),
+        SettingsFault::UnknownNet if names_flops(table) => ("the bench has no flip-flop ", ""),
+        SettingsFault::UnknownNet => ("the bench has no gate and no flip-flop ", ""),
+        SettingsFault::BadDelay => ("the delay of ", " is no whole number from 1 to 1,000,000"),
+        SettingsFault::BadCut => ("the block of ", " is no whole number from 0 to 1023"),
+        SettingsFault::BadClock => ("the clock of ", " is no net, and none is added for it"),
+        _ => ("the content of ", " is not \"0\", \"1\" or \"x\""),
     }
 }
 
@@ -134,21 +110,14 @@ fn advice_of(table: &str, fault: SettingsFault) -> &'static str {
 }
 
 /// A key that holds a carriage return, which no name of a bench does.
-fn with_return(
-    alloc: Global,
-    source: Source<'_>,
-    word: &Word<'_>,
-    name: &str,
-) -> Result<Finding, AllocError> {
-    let shown = quoted(alloc, name.as_bytes())?;
-    let cause = format!(in alloc;
-        "the name {shown} holds a carriage return, which no name of a bench has"
-    )?;
-    let advice = String::from_str(
-        alloc,
-        "it may come from a list of names whose lines end by CRLF: tr -d '\\r' drops them",
-    )?;
-    Ok(Finding::at(word, cause, advice))
+fn with_return(alloc: Global, word: &Word<'_>, name: &str) -> Result<Finding, AllocError> {
+    let cause = [
+        Text("the name "),
+        Quoted(name.as_bytes()),
+        Text(" holds a carriage return, which no name of a bench has"),
+    ];
+    let advice = "it may come from a list of names whose lines end by CRLF: tr -d '\\r' drops them";
+    Finding::at(alloc, word, &cause, &[Text(advice)])
 }
 
 /// The first key, by table and name, to which a cause applies.

@@ -1,6 +1,7 @@
 //! The bits of dumps that are compared.
 use crate::compared::Compared;
-use crate::quoted::quoted;
+use crate::sentence::{Piece, sentence};
+use Piece::{Quoted, Text};
 use std::alloc::{AllocError, Global};
 use text_places::Source;
 use vcd_bits::{Dump, Table};
@@ -115,12 +116,19 @@ impl<'a> Bits<'a> {
 
     /// Where the bits stand, for a sentence.
     pub(crate) fn place(&self, alloc: Global) -> Result<String, AllocError> {
-        let file = self.file;
         if self.scope.is_empty() {
-            return String::from_str(alloc, file);
+            return String::from_str(alloc, self.file);
         }
-        let scope = quoted(alloc, self.scope.as_slice())?;
-        format!(in alloc; "the scope {scope} of {file}")
+        let scope = self.scope.as_slice();
+        sentence(
+            alloc,
+            &[
+                Text("the scope "),
+                Quoted(scope),
+                Text(" of "),
+                Text(self.file),
+            ],
+        )
     }
 }
 

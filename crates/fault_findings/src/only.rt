@@ -1,19 +1,20 @@
 //! What is wrong with a text that names the nets that are told.
-use crate::causes::{Kind, mistaken};
+use crate::causes::{Kind, misplaced};
 use crate::finding::Finding;
 use crate::inputs::circuit_of;
 use crate::lines::{Named, first_named, words_in};
 use crate::look::Look;
-use crate::near::near_help;
-use crate::quoted::quoted;
+use crate::near::nearest;
+use crate::sentence::{Piece, sentence};
 use crate::words::{Line, Word, line_of};
+use Piece::{Number, Quoted, Text};
 use gate_netlist::Circuit;
 use only_nets::{OnlyCause, OnlyFault};
 use std::alloc::{AllocError, Global};
 use text_places::Source;
 
 /// What a fault of a text of names is about.
-pub(crate) fn of_only(
+pub fn of_only(
     alloc: Global,
     bench: Source<'_>,
     settings: &[u8],
@@ -22,7 +23,7 @@ pub(crate) fn of_only(
 ) -> Result<Finding, AllocError> {
     let look = Look::of(names.text);
     if look != Look::Other {
-        return Ok(Finding::at_front(mistaken(alloc, look, Kind::Names)?));
+        return misplaced(alloc, look, Kind::Names);
     }
     let line = line_of(names.text, fault.line);
     let words = words_in(alloc, &line)?;
@@ -35,39 +36,50 @@ pub(crate) fn of_only(
 }
 
 fn named_twice(alloc: Global, names: Source<'_>, name: &Word<'_>) -> Result<Finding, AllocError> {
-    let shown = quoted(alloc, name.text)?;
-    let cause = match first_named(names, name.text) {
+    let net = Quoted(name.text);
+    match first_named(names, name.text) {
         Some(Named { number, .. }) => {
-            format!(in alloc; "the net {shown} is named already, in line {number}")?
+            let line = Number(number as u64);
+            let cause = [
+                Text("the net "),
+                net,
+                Text(" is named already, in line "),
+                line,
+            ];
+            Finding::at(alloc, name, &cause, &[])
         }
-        None => format!(in alloc; "the net {shown} is named already")?,
-    };
-    Ok(Finding::at(name, cause, String::new(alloc)))
+        None => Finding::at(
+            alloc,
+            name,
+            &[Text("the net "), net, Text(" is named already")],
+            &[],
+        ),
+    }
 }
 
 /// A line of more than one word.
 fn second_name(alloc: Global, second: &Word<'_>) -> Result<Finding, AllocError> {
-    let shown = quoted(alloc, second.text)?;
-    let cause = format!(in alloc; "{shown} stands behind a name, and a line names one net")?;
     let advice = match second.text {
         [b'#', ..] => "a comment has a line of its own, which begins with #",
         _ => "",
     };
-    Ok(Finding::at(second, cause, String::from_str(alloc, advice)?))
+    let cause = [
+        Quoted(second.text),
+        Text(" stands behind a name, and a line names one net"),
+    ];
+    Finding::at(alloc, second, &cause, &[Text(advice)])
 }
 
 /// A name that no net has.
-fn unknown(
+fn unknown<'a>(
     alloc: Global,
-    bench: Source<'_>,
+    bench: Source<'a>,
     settings: &[u8],
-    name: &Word<'_>,
+    name: &Word<'a>,
 ) -> Result<Finding, AllocError> {
-    let shown = quoted(alloc, name.text)?;
-    let file = bench.name;
-    let cause = format!(in alloc; "{file} has no net {shown}")?;
     let help = unknown_help(alloc, bench, settings, name.text)?;
-    Ok(Finding::at(name, cause, help))
+    let cause = [Text(bench.name), Text(" has no net "), Quoted(name.text)];
+    Finding::with_help(alloc, name, &cause, help)
 }
 
 fn unknown_help(
@@ -82,8 +94,14 @@ fn unknown_help(
     if let Some(help) = near_net(alloc, bench.text, settings, name)? {
         return Ok(help);
     }
-    let file = bench.name;
-    format!(in alloc; "`warp_sim nets {file}` lists the nets")
+    sentence(
+        alloc,
+        &[
+            Text("`warp_sim nets "),
+            Text(bench.name),
+            Text("` lists the nets"),
+        ],
+    )
 }
 
 /// Asks for the net that is nearest to a name, if one is near.
@@ -106,7 +124,10 @@ fn near_net_of(
     name: &[u8],
 ) -> Result<Option<String>, AllocError> {
     let known = nets(alloc, circuit)?;
-    near_help(alloc, known.as_slice(), name)
+    match nearest(known.as_slice(), name) {
+        Some(near) => Ok(Some(sentence(alloc, &near.question())?)),
+        None => Ok(None),
+    }
 }
 
 /// The names of all nets.

@@ -3,13 +3,14 @@ use crate::bits::{Bits, Both, scope_before};
 use crate::compared::Compared;
 use crate::dump::last_stamp;
 use crate::finding::Finding;
-use crate::near::is_behind_scope;
-use crate::quoted::quoted;
+use crate::near::path_to;
+use crate::sentence::{Piece, sentence};
 use crate::variables::{Wanted, find_variable};
 use crate::words::{Word, word_from};
+use Piece::{Bytes, Number, Quoted, Text};
 use gate_vcd::number_up_to;
 use std::alloc::{AllocError, Global};
-use text_places::{Source, shown};
+use text_places::Source;
 use vcd_compare::Options;
 
 /// How many bits are looked for in other scopes.
@@ -19,13 +20,13 @@ const MOST_STAMP: u64 = 1_000_000_000_000_000_000;
 
 /// A finding, in the dump to which it belongs.
 #[derive(Drop)]
-pub(crate) enum Missing {
+pub enum Missing {
     InExpected(Finding),
     InActual(Finding),
 }
 
 /// Why no pair, or no time, of two dumps is compared.
-pub(crate) fn of_nothing(
+pub fn of_nothing(
     alloc: Global,
     options: &Options<'_>,
     texts: &Compared<'_>,
@@ -39,9 +40,9 @@ pub(crate) fn of_nothing(
 
 /// The same where memory runs out.
 fn unread(alloc: Global, source: Source<'_>) -> Result<Finding, AllocError> {
-    let cause = format!(in alloc; "no bit is compared at any time")?;
     let front = Word::of(source.text, 0, 0);
-    Ok(Finding::at(&front, cause, String::new(alloc)))
+    let cause = [Text("no bit is compared at any time")];
+    Finding::at(alloc, &front, &cause, &[])
 }
 
 fn missing_in(
@@ -67,18 +68,30 @@ fn missing_in(
 /// A dump that has no bits in its scope.
 fn without_bits(alloc: Global, source: Source<'_>, bits: &Bits<'_>) -> Result<Finding, AllocError> {
     let place = bits.place(alloc)?;
-    let cause = format!(in alloc; "{place} has no variable whose bits can be compared")?;
-    let path = bits.first_of_all();
+    no_bits(alloc, source.text, place.as_str(), bits.first_of_all())
+}
+
+/// The same, by what its scope is called and the path of the first bit of all, empty where there is none.
+fn no_bits<'a>(
+    alloc: Global,
+    text: &[u8],
+    place: &'a str,
+    path: &'a [u8],
+) -> Result<Finding, AllocError> {
+    let cause = [
+        Text(place),
+        Text(" has no variable whose bits can be compared"),
+    ];
     if path.is_empty() {
-        let front = Word::of(source.text, 0, 0);
-        return Ok(Finding::at(&front, cause, String::new(alloc)));
+        return Finding::at(alloc, &Word::of(text, 0, 0), &cause, &[]);
     }
-    let word = variable_of(source.text, path);
-    let path = quoted(alloc, path)?;
-    let help = format!(in alloc;
-        "{path} is the first bit of the dump: --scope E=A names the scope of each dump, its levels joined by dots"
-    )?;
-    Ok(Finding::at(&word, cause, help))
+    let help = [
+        Quoted(path),
+        Text(
+            " is the first bit of the dump: --scope E=A names the scope of each dump, its levels joined by dots",
+        ),
+    ];
+    Finding::at(alloc, &variable_of(text, path), &cause, &help)
 }
 
 /// The name of a bit's variable, where it is declared; no word where it isn't found.
@@ -110,14 +123,30 @@ fn without_pairs(
     expected: &Bits<'_>,
     actual: &Bits<'_>,
 ) -> Result<Finding, AllocError> {
-    let name = expected.first();
-    let word = variable_of(texts.expected.text, name);
-    let shown = quoted(alloc, name)?;
     let own = expected.place(alloc)?;
     let other = actual.place(alloc)?;
-    let cause = format!(in alloc; "{shown} isn't in {other}, nor is any other bit of {own}")?;
     let help = pairs_help(alloc, expected, actual)?;
-    Ok(Finding::at(&word, cause, help))
+    let name = expected.first();
+    let word = variable_of(texts.expected.text, name);
+    no_pairs(alloc, &word, name, (own.as_str(), other.as_str()), help)
+}
+
+/// The same, by the name of the first bit, and what both scopes are called.
+fn no_pairs<'a>(
+    alloc: Global,
+    word: &Word<'_>,
+    name: &'a [u8],
+    places: (&'a str, &'a str),
+    help: String,
+) -> Result<Finding, AllocError> {
+    let cause = [
+        Quoted(name),
+        Text(" isn't in "),
+        Text(places.1),
+        Text(", nor is any other bit of "),
+        Text(places.0),
+    ];
+    Finding::with_help(alloc, word, &cause, help)
 }
 
 fn pairs_help(alloc: Global, expected: &Bits<'_>, actual: &Bits<'_>) -> Result<String, AllocError> {
@@ -125,25 +154,28 @@ fn pairs_help(alloc: Global, expected: &Bits<'_>, actual: &Bits<'_>) -> Result<S
     let paths = actual.paths(alloc)?;
     for name in names.iter().take(MOST_TRIED) {
         if let Some(path) = path_to(paths.as_slice(), *name) {
-            let own = shown(alloc, expected.scope())?;
-            let other = shown(alloc, scope_before(path, *name))?;
-            let path = quoted(alloc, path)?;
-            return format!(in alloc;
-                "{path} is there: --scope {own}={other} compares these two scopes"
-            );
+            return scopes_help(alloc, expected.scope(), path, *name);
         }
     }
     String::from_str(alloc, "--map FILE pairs bits of different names")
 }
 
-/// The first path that leads to a name.
-fn path_to<'p>(paths: &[&'p [u8]], name: &[u8]) -> Option<&'p [u8]> {
-    for path in paths {
-        if *path == name || is_behind_scope(*path, name) {
-            return Some(*path);
-        }
-    }
-    None
+/// Names the scope before a name, of a path of the other dump.
+fn scopes_help<'a>(
+    alloc: Global,
+    scope: &'a [u8],
+    path: &'a [u8],
+    name: &[u8],
+) -> Result<String, AllocError> {
+    let pieces = [
+        Quoted(path),
+        Text(" is there: --scope "),
+        Bytes(scope),
+        Text("="),
+        Bytes(scope_before(path, name)),
+        Text(" compares these two scopes"),
+    ];
+    sentence(alloc, &pieces)
 }
 
 /// Two dumps that are compared at no time, told at the last stamp of the one that is expected.
@@ -158,26 +190,61 @@ fn without_times(
         Some(to) => to,
         None => number_up_to(MOST_STAMP, digits).unwrap_or(0),
     };
-    let end = match options.to {
-        Some(_) => "",
-        None => ", where the dump ends",
-    };
-    let from = options.from;
-    let cause = match options.strobes {
-        Some((first, step)) if from <= to => format!(in alloc;
-            "none of the times {first}, {first} + {step} and so on is one from {from} to {to}{end}"
-        )?,
-        _ => format!(in alloc; "no time is compared, from {from} to {to}{end}")?,
-    };
-    let help = match options.to {
-        Some(_) => "",
-        None => "--to T compares past the end too, where each bit holds its last value",
-    };
-    Ok(Finding::at(&last, cause, String::from_str(alloc, help)?))
+    match options.to {
+        Some(_) => without_times_to(alloc, &last, options, to, "", ""),
+        None => without_times_to(
+            alloc,
+            &last,
+            options,
+            to,
+            ", where the dump ends",
+            "--to T compares past the end too, where each bit holds its last value",
+        ),
+    }
+}
+
+/// The same up to a time, and what is said of it and behind it.
+fn without_times_to(
+    alloc: Global,
+    last: &Word<'_>,
+    options: &Options<'_>,
+    to: u64,
+    end: &'static str,
+    help: &'static str,
+) -> Result<Finding, AllocError> {
+    let from = Number(options.from);
+    match options.strobes {
+        Some((first, step)) if options.from <= to => {
+            let cause = [
+                Text("none of the times "),
+                Number(first),
+                Text(", "),
+                Number(first),
+                Text(" + "),
+                Number(step),
+                Text(" and so on is one from "),
+                from,
+                Text(" to "),
+                Number(to),
+                Text(end),
+            ];
+            Finding::at(alloc, last, &cause, &[Text(help)])
+        }
+        _ => {
+            let cause = [
+                Text("no time is compared, from "),
+                from,
+                Text(" to "),
+                Number(to),
+                Text(end),
+            ];
+            Finding::at(alloc, last, &cause, &[Text(help)])
+        }
+    }
 }
 
 /// Whether no line of a map says a pair, none having a fault.
-pub(crate) fn says_nothing(map: &[u8]) -> bool {
+pub fn says_nothing(map: &[u8]) -> bool {
     for line in map.split_inclusive(|byte| *byte == b'\n') {
         if !line.starts_with(b"#") && !word_from(line, 0).text.is_empty() {
             return false;
@@ -187,11 +254,9 @@ pub(crate) fn says_nothing(map: &[u8]) -> bool {
 }
 
 /// A map without pairs.
-pub(crate) fn of_empty_map(alloc: Global, map: Source<'_>) -> Result<Finding, AllocError> {
-    let cause = format!(in alloc; "no line of this map pairs two bits")?;
-    let help = String::from_str(
-        alloc,
-        "a line is the name in EXPECTED, white space, and the name in ACTUAL; without a map bits of one name are compared",
-    )?;
-    Ok(Finding::at(&Word::of(map.text, 0, 0), cause, help))
+pub fn of_empty_map(alloc: Global, map: Source<'_>) -> Result<Finding, AllocError> {
+    let cause = [Text("no line of this map pairs two bits")];
+    let advice =
+        "a line is the name in EXPECTED, white space, and the name in ACTUAL; without a map bits of one name are compared";
+    Finding::at(alloc, &Word::of(map.text, 0, 0), &cause, &[Text(advice)])
 }

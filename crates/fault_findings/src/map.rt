@@ -1,21 +1,22 @@
 //! What is wrong with a map, which pairs the bits of two dumps.
 use crate::bits::{Bits, Both};
-use crate::causes::{Kind, mistaken};
+use crate::causes::{Kind, misplaced};
 use crate::compared::Compared;
 use crate::finding::Finding;
 use crate::lines::{Named, first_named, words_in};
 use crate::look::Look;
-use crate::near::{is_behind_scope, near_help};
-use crate::quoted::quoted;
+use crate::near::{nearest, path_to};
+use crate::sentence::{Piece, sentence};
 use crate::words::{Line, Word, line_of};
+use Piece::{Bytes, Number, Quoted, Text};
 use std::alloc::{AllocError, Global};
-use text_places::{Source, shown};
+use text_places::Source;
 use vcd_compare::{MapCause, MapFault, Options};
 
 const FORM: &str = "a line is the name in EXPECTED, white space, and the name in ACTUAL";
 
 /// What a fault of a map is about.
-pub(crate) fn of_map(
+pub fn of_map(
     alloc: Global,
     options: &Options<'_>,
     texts: &Compared<'_>,
@@ -24,7 +25,7 @@ pub(crate) fn of_map(
 ) -> Result<Finding, AllocError> {
     let look = Look::of(map.text);
     if is_mistaken(look, fault.cause) {
-        return Ok(Finding::at_front(mistaken(alloc, look, Kind::Map)?));
+        return misplaced(alloc, look, Kind::Map);
     }
     let line = line_of(map.text, fault.line);
     match fault.cause {
@@ -45,25 +46,35 @@ fn is_mistaken(look: Look, cause: MapCause) -> bool {
 
 fn bad_line(alloc: Global, line: &Line<'_>) -> Result<Finding, AllocError> {
     let words = words_in(alloc, line)?;
-    let (word, cause, advice) = match words.as_slice() {
-        [first, ..] if first.text.starts_with(b"#") => (
-            *first,
-            format!(in alloc; "a blank stands before this comment")?,
-            "the # of a comment is the first byte of its line",
-        ),
-        [_, _, third, ..] => {
-            let shown = quoted(alloc, third.text)?;
-            let cause = format!(in alloc; "{shown} stands behind the two names of a pair")?;
-            (*third, cause, advice_behind(third))
-        }
-        _ => {
-            let word = words.first().copied().unwrap_or(*line);
-            let shown = quoted(alloc, word.text)?;
-            let cause = format!(in alloc; "{shown} stands alone, and a line pairs two names")?;
-            (word, cause, FORM)
-        }
-    };
-    Ok(Finding::at(&word, cause, String::from_str(alloc, advice)?))
+    match words.as_slice() {
+        [first, ..] if first.text.starts_with(b"#") => blank_before(alloc, first),
+        [_, _, third, ..] => word_behind_pair(alloc, third),
+        [word, ..] => word_alone(alloc, word),
+        [] => word_alone(alloc, line),
+    }
+}
+
+/// A comment that isn't the first of its line.
+fn blank_before(alloc: Global, comment: &Word<'_>) -> Result<Finding, AllocError> {
+    let cause = [Text("a blank stands before this comment")];
+    let advice = "the # of a comment is the first byte of its line";
+    Finding::at(alloc, comment, &cause, &[Text(advice)])
+}
+
+fn word_behind_pair(alloc: Global, word: &Word<'_>) -> Result<Finding, AllocError> {
+    let cause = [
+        Quoted(word.text),
+        Text(" stands behind the two names of a pair"),
+    ];
+    Finding::at(alloc, word, &cause, &[Text(advice_behind(word))])
+}
+
+fn word_alone(alloc: Global, word: &Word<'_>) -> Result<Finding, AllocError> {
+    let cause = [
+        Quoted(word.text),
+        Text(" stands alone, and a line pairs two names"),
+    ];
+    Finding::at(alloc, word, &cause, &[Text(FORM)])
 }
 
 fn advice_behind(word: &Word<'_>) -> &'static str {
@@ -89,8 +100,8 @@ fn unknown_name(
 
 /// The same where memory runs out.
 fn unread(alloc: Global, line: &Line<'_>) -> Result<Finding, AllocError> {
-    let cause = format!(in alloc; "one of these names is of no bit of its dump")?;
-    Ok(Finding::at(line, cause, String::new(alloc)))
+    let cause = [Text("one of these names is of no bit of its dump")];
+    Finding::at(alloc, line, &cause, &[])
 }
 
 /// The first name of a line that is of no bit.
@@ -112,11 +123,21 @@ fn unknown(
     bits: &Bits<'_>,
     others: &Bits<'_>,
 ) -> Result<Finding, AllocError> {
-    let shown = quoted(alloc, name.text)?;
     let place = bits.place(alloc)?;
-    let cause = format!(in alloc; "{place} has no bit {shown}")?;
     let help = unknown_help(alloc, name.text, bits, others)?;
-    Ok(Finding::at(name, cause, help))
+    no_bit(alloc, name, name.text, place.as_str(), help)
+}
+
+/// The same, by the name and what its dump is called.
+fn no_bit<'a>(
+    alloc: Global,
+    word: &Word<'_>,
+    name: &'a [u8],
+    place: &'a str,
+    help: String,
+) -> Result<Finding, AllocError> {
+    let cause = [Text(place), Text(" has no bit "), Quoted(name)];
+    Finding::with_help(alloc, word, &cause, help)
 }
 
 fn unknown_help(
@@ -126,8 +147,8 @@ fn unknown_help(
     others: &Bits<'_>,
 ) -> Result<String, AllocError> {
     let names = bits.names(alloc)?;
-    if let Some(help) = near_help(alloc, names.as_slice(), name)? {
-        return Ok(help);
+    if let Some(near) = nearest(names.as_slice(), name) {
+        return sentence(alloc, &near.question());
     }
     if others.has(name) {
         return String::from_str(
@@ -136,33 +157,42 @@ fn unknown_help(
         );
     }
     let paths = bits.paths(alloc)?;
-    for path in paths.as_slice() {
-        if *path == name || is_behind_scope(*path, name) {
-            let found = quoted(alloc, *path)?;
-            return format!(in alloc;
-                "{found} stands elsewhere: --scope E=A says which scopes are compared"
-            );
-        }
+    match path_to(paths.as_slice(), name) {
+        Some(path) => sentence(
+            alloc,
+            &[
+                Quoted(path),
+                Text(" stands elsewhere: --scope E=A says which scopes are compared"),
+            ],
+        ),
+        None => Ok(String::new(alloc)),
     }
-    Ok(String::new(alloc))
 }
 
-fn named_twice(alloc: Global, map: Source<'_>, line: &Line<'_>) -> Result<Finding, AllocError> {
+fn named_twice<'a>(alloc: Global, map: Source<'a>, line: &Line<'a>) -> Result<Finding, AllocError> {
     let words = words_in(alloc, line)?;
     let name = words.first().copied().unwrap_or(*line);
-    let quoted = quoted(alloc, name.text)?;
-    let cause = match first_named(map, name.text) {
+    let named = Quoted(name.text);
+    let help = [Text("a bit of EXPECTED is compared with one bit of ACTUAL")];
+    match first_named(map, name.text) {
         Some(Named { number, line }) => {
-            let text = shown(alloc, line.text.trim_ascii())?;
-            format!(in alloc;
-                "the bit {quoted} of EXPECTED has a pair already, by line {number}: {text}"
-            )?
+            let cause = [
+                Text("the bit "),
+                named,
+                Text(" of EXPECTED has a pair already, by line "),
+                Number(number as u64),
+                Text(": "),
+                Bytes(line.text.trim_ascii()),
+            ];
+            Finding::at(alloc, &name, &cause, &help)
         }
-        None => format!(in alloc; "the bit {quoted} of EXPECTED has a pair already")?,
-    };
-    let help = String::from_str(
-        alloc,
-        "a bit of EXPECTED is compared with one bit of ACTUAL",
-    )?;
-    Ok(Finding::at(&name, cause, help))
+        None => {
+            let cause = [
+                Text("the bit "),
+                named,
+                Text(" of EXPECTED has a pair already"),
+            ];
+            Finding::at(alloc, &name, &cause, &help)
+        }
+    }
 }

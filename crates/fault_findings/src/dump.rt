@@ -2,14 +2,15 @@
 use crate::causes::{Kind, mistaken};
 use crate::finding::Said;
 use crate::look::Look;
-use crate::quoted::quoted;
+use crate::sentence::Piece;
 use crate::words::{Word, is_space, word_at, word_behind};
+use Piece::{Number, Quoted, Text};
 use gate_vcd::{StimCause, is_numeral};
 use std::alloc::{AllocError, Global};
 use text_places::Source;
 
 /// What a fault of a dump is about that has a place in the text.
-pub(crate) fn of_dump(
+pub fn of_dump(
     alloc: Global,
     source: Source<'_>,
     kind: Kind,
@@ -30,28 +31,38 @@ pub(crate) fn of_dump(
     }
 }
 
-fn said(word: &Word<'_>, cause: String, help: String) -> Said {
-    Said::new(word.text.len(), cause, help)
+fn said(
+    alloc: Global,
+    word: &Word<'_>,
+    cause: &[Piece<'_>],
+    advice: &'static str,
+) -> Result<Said, AllocError> {
+    Said::new(alloc, word.text.len(), cause, &[Text(advice)])
 }
 
 /// A fault that is told without a look around.
 fn of_command(alloc: Global, cause: StimCause, word: &Word<'_>) -> Result<Said, AllocError> {
-    let shown = quoted(alloc, word.text)?;
-    let (told, advice) = match cause {
-        StimCause::UnclosedCommand => (
-            format!(in alloc; "the command {shown} has no `$end`")?,
+    let named = Quoted(word.text);
+    match cause {
+        StimCause::UnclosedCommand => said(
+            alloc,
+            word,
+            &[Text("the command "), named, Text(" has no `$end`")],
             "a command goes up to the word $end, with white space around it; where there is none, the dump may be cut off",
         ),
-        StimCause::BadTimescale => (
-            format!(in alloc; "a timescale is 1, 10 or 100, and s, ms, us, ns, ps or fs")?,
+        StimCause::BadTimescale => said(
+            alloc,
+            word,
+            &[Text("a timescale is 1, 10 or 100, and s, ms, us, ns, ps or fs")],
             "",
         ),
-        _ => (
-            format!(in alloc; "the stamp {shown} is above 10^18")?,
+        _ => said(
+            alloc,
+            word,
+            &[Text("the stamp "), named, Text(" is above 10^18")],
             "a coarser $timescale makes stamps smaller",
         ),
-    };
-    Ok(said(word, told, String::from_str(alloc, advice)?))
+    }
 }
 
 const CUT_OFF: &str = "the text ends there: the dump may be cut off";
@@ -86,28 +97,38 @@ fn is_std_logic(digit: u8) -> bool {
 }
 
 fn bad_token(alloc: Global, source: Source<'_>, word: &Word<'_>) -> Result<Said, AllocError> {
-    let shown = quoted(alloc, word.text)?;
+    let named = Quoted(word.text);
     if !is_behind_declarations(source.text, word.at) {
-        let cause = format!(in alloc;
-            "{shown} stands where a command is expected, as $var or $enddefinitions"
-        )?;
+        let cause = [
+            named,
+            Text(" stands where a command is expected, as $var or $enddefinitions"),
+        ];
         let advice = "values and stamps stand behind $enddefinitions $end";
-        return Ok(said(word, cause, String::from_str(alloc, advice)?));
+        return said(alloc, word, &cause, advice);
     }
-    let cause = format!(in alloc; "{shown} is neither a stamp, nor a change, nor a command")?;
-    let advice = match word.text {
-        text if has_std_logic(text) => {
-            "U, W, L, H and - are values of VHDL's std_logic: examples/std_logic_to_verilog turns them into those of a dump"
-        }
-        _ if is_cut_off(source.text, word) => CUT_OFF,
+    let cause = [
+        named,
+        Text(" is neither a stamp, nor a change, nor a command"),
+    ];
+    said(alloc, word, &cause, token_advice(source.text, word))
+}
+
+/// What to do about a word behind the declarations that says nothing.
+fn token_advice(text: &[u8], word: &Word<'_>) -> &'static str {
+    if has_std_logic(word.text) {
+        return "U, W, L, H and - are values of VHDL's std_logic: examples/std_logic_to_verilog turns them into those of a dump";
+    }
+    if is_cut_off(text, word) {
+        return CUT_OFF;
+    }
+    match word.text {
         [b'#', ..] => "a stamp is # and decimal digits",
         [b'0' | b'1' | b'x' | b'X' | b'z' | b'Z'] =>
             "a value of one bit and its code are one word, as 1!",
         [b'b' | b'B' | b'r' | b'R' | b's' | b'S', ..] =>
             "behind the value stands a blank and the code, as b101 !",
         _ => "a change is a value and a code, as 1! or b101 !; a stamp is # and digits",
-    };
-    Ok(said(word, cause, String::from_str(alloc, advice)?))
+    }
 }
 
 /// The words of a command behind its first one: how many there are, and the second of them.
@@ -129,19 +150,23 @@ fn words_of<'a>(text: &'a [u8], command: &Word<'_>) -> (usize, Word<'a>) {
 fn bad_var(alloc: Global, source: Source<'_>, word: &Word<'_>) -> Result<Said, AllocError> {
     let (count, size) = words_of(source.text, word);
     if count < 4 {
-        let cause = format!(in alloc;
-            "this variable has {count} words, and type, size, code and name are four"
-        )?;
-        let advice = "as $var wire 1 ! A $end";
-        return Ok(said(word, cause, String::from_str(alloc, advice)?));
+        let cause = [
+            Text("this variable has "),
+            Number(count as u64),
+            Text(" words, and type, size, code and name are four"),
+        ];
+        return said(alloc, word, &cause, "as $var wire 1 ! A $end");
     }
-    let shown = quoted(alloc, size.text)?;
     if is_numeral(size.text) {
-        let cause = format!(in alloc; "the code of this variable has bytes outside 33 to 126")?;
-        return Ok(said(word, cause, String::new(alloc)));
+        let cause = [Text("the code of this variable has bytes outside 33 to 126")];
+        return said(alloc, word, &cause, "");
     }
-    let cause = format!(in alloc; "the size {shown} of this variable is no number")?;
-    Ok(said(word, cause, String::new(alloc)))
+    let cause = [
+        Text("the size "),
+        Quoted(size.text),
+        Text(" of this variable is no number"),
+    ];
+    said(alloc, word, &cause, "")
 }
 
 /// The last stamp before an offset; no word where there is none.
@@ -159,16 +184,20 @@ pub(crate) fn last_stamp(text: &[u8], end: usize) -> Word<'_> {
     stamp
 }
 
-fn stamp_falls(alloc: Global, source: Source<'_>, word: &Word<'_>) -> Result<Said, AllocError> {
-    let shown = quoted(alloc, word.text)?;
-    let before = quoted(alloc, last_stamp(source.text, word.at).text)?;
-    let cause = format!(in alloc; "the stamp {shown} comes after {before}")?;
+fn stamp_falls<'a>(alloc: Global, source: Source<'a>, word: &Word<'a>) -> Result<Said, AllocError> {
+    let before = last_stamp(source.text, word.at);
+    let cause = [
+        Text("the stamp "),
+        Quoted(word.text),
+        Text(" comes after "),
+        Quoted(before.text),
+    ];
     let advice = if is_cut_off(source.text, word) {
         CUT_OFF
     } else {
         "time doesn't go back: join dumps by sorting their stamps"
     };
-    Ok(said(word, cause, String::from_str(alloc, advice)?))
+    said(alloc, word, &cause, advice)
 }
 
 fn unknown_code(alloc: Global, source: Source<'_>, word: &Word<'_>) -> Result<Said, AllocError> {
@@ -180,12 +209,11 @@ fn unknown_code(alloc: Global, source: Source<'_>, word: &Word<'_>) -> Result<Sa
             word.text.len().saturating_sub(1),
         ),
     };
-    let shown = quoted(alloc, code.text)?;
-    let cause = format!(in alloc; "no $var has the code {shown}")?;
+    let cause = [Text("no $var has the code "), Quoted(code.text)];
     let advice = if is_cut_off(source.text, &code) {
         CUT_OFF
     } else {
         "declare it, or drop its changes: each code of a change has to be declared before $enddefinitions"
     };
-    Ok(said(word, cause, String::from_str(alloc, advice)?))
+    said(alloc, word, &cause, advice)
 }

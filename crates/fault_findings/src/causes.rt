@@ -1,11 +1,13 @@
 //! What is wrong with a text of another kind than the expected one.
-use crate::finding::Said;
+use crate::finding::{Finding, Said};
 use crate::look::Look;
+use crate::sentence::Piece;
+use Piece::Text;
 use std::alloc::{AllocError, Global};
 
 /// What a text is expected to be.
 #[derive(Clone, Copy, PartialEq, Eq)]
-pub(crate) enum Kind {
+pub enum Kind {
     Bench,
     Settings,
     Stimulus,
@@ -48,16 +50,25 @@ impl Kind {
 
 /// A text that looks like this stands where one of that kind is expected.
 pub(crate) fn mistaken(alloc: Global, look: Look, kind: Kind) -> Result<Said, AllocError> {
-    let name = look.name();
-    let expected = kind.name();
-    let cause = match look {
-        Look::ByteOrderMark | Look::Utf16 => format!(in alloc;
-            "this is {name}, and {expected} is expected in UTF-8"
-        )?,
-        Look::Gzip => format!(in alloc;
-            "this is {name}, and {expected} is expected as plain text"
-        )?,
-        _ => format!(in alloc; "this is {name}, and {expected} is expected here")?,
+    let end = match look {
+        Look::ByteOrderMark | Look::Utf16 => " is expected in UTF-8",
+        Look::Gzip => " is expected as plain text",
+        _ => " is expected here",
     };
-    Ok(Said::new(0, cause, String::from_str(alloc, kind.advice(look))?))
+    let cause = [
+        Text("this is "),
+        Text(look.name()),
+        Text(", and "),
+        Text(kind.name()),
+        Text(end),
+    ];
+    Said::new(alloc, 0, &cause, &[Text(kind.advice(look))])
+}
+
+/// The same, told at the beginning of the text.
+pub(crate) fn misplaced(alloc: Global, look: Look, kind: Kind) -> Result<Finding, AllocError> {
+    Ok(Finding {
+        at: 0,
+        said: mistaken(alloc, look, kind)?,
+    })
 }

@@ -1,14 +1,15 @@
 //! What is wrong with a bench text.
-use crate::causes::{Kind, mistaken};
+use crate::causes::{Kind, misplaced};
 use crate::finding::Finding;
 use crate::form::{State, break_of, defined, is_name, pieces, used};
 use crate::look::Look;
-use crate::quoted::quoted;
+use crate::sentence::Piece;
 use crate::words::{Line, Word, line_of, without_end};
+use Piece::{Bytes, Number, Quoted, Text};
 use gate_netlist::{BenchCause, BenchFault};
 use std::alloc::{AllocError, Global};
 use std::collections::BTreeSet;
-use text_places::{Place, Source, shown};
+use text_places::{Place, Source};
 
 const FORMS: &str = "a line is INPUT(name), OUTPUT(name) or name = GATE(names)";
 
@@ -20,68 +21,78 @@ const GATES: &str =
     any Verilog that yosys takes";
 
 /// What a fault of a bench is about.
-pub(crate) fn of_bench(
+pub fn of_bench(
     alloc: Global,
     source: Source<'_>,
     fault: &BenchFault,
 ) -> Result<Finding, AllocError> {
     let look = Look::of(source.text);
     if !matches!(look, Look::Bench | Look::Other) {
-        return Ok(Finding::at_front(mistaken(alloc, look, Kind::Bench)?));
+        return misplaced(alloc, look, Kind::Bench);
     }
     let line = line_of(source.text, fault.line);
     match fault.cause {
-        BenchCause::BadName => bad_byte(alloc, source, &line),
+        BenchCause::BadName => bad_name(alloc, source, &line),
         BenchCause::BadLine => bad_line(alloc, source, &line),
-        BenchCause::UnknownGate => unknown_gate(alloc, source, &line),
-        BenchCause::InputCount => input_count(alloc, source, &line),
+        BenchCause::UnknownGate => unknown_gate(alloc, &line),
+        BenchCause::InputCount => input_count(alloc, &line),
         BenchCause::DrivenTwice => driven_twice(alloc, source, &line),
         BenchCause::Undriven => undriven(alloc, source, &line),
-        BenchCause::TooManyNets | BenchCause::Memory => {
-            let cause = format!(in alloc; "with this line there were more than 999,999 nets")?;
-            Ok(Finding::at(&line, cause, String::new(alloc)))
-        }
+        BenchCause::TooManyNets | BenchCause::Memory => Finding::at(
+            alloc,
+            &line,
+            &[Text("with this line there were more than 999,999 nets")],
+            &[],
+        ),
     }
 }
 
 /// The first byte of a line that may not stand there, or the word `$end`.
-fn bad_byte(alloc: Global, source: Source<'_>, line: &Line<'_>) -> Result<Finding, AllocError> {
-    let code = line
+fn bad_name(alloc: Global, source: Source<'_>, line: &Line<'_>) -> Result<Finding, AllocError> {
+    let end = line
         .text
         .iter()
         .position(|byte| *byte == b'#')
         .unwrap_or(line.text.len());
-    let code = line.text.get(..code).unwrap_or(line.text);
-    let Some(place) = code
+    let code = line.text.get(..end).unwrap_or(line.text);
+    let strange = code
         .iter()
-        .position(|byte| !matches!(*byte, b'\t' | 32..=126))
-    else {
-        let pieces = pieces(alloc, line)?;
-        let word = pieces
-            .iter()
-            .find(|piece| piece.is("$end"))
-            .copied()
-            .unwrap_or(*line);
-        let cause = format!(in alloc; "no net is called `$end`, which ends commands in a dump")?;
-        return Ok(Finding::at(&word, cause, String::new(alloc)));
-    };
-    let at = line.at.saturating_add(place);
-    let letter = Word::of(
-        source.text,
-        at,
-        letter_length(code.get(place..).unwrap_or(&[])),
-    );
-    let byte = code.get(place).copied().unwrap_or(0);
-    let shown = quoted(alloc, letter.text)?;
-    let cause = format!(in alloc;
-        "{shown}, byte {byte}, may not stand in a bench outside a comment"
-    )?;
+        .position(|byte| !matches!(*byte, b'\t' | 32..=126));
+    match strange {
+        Some(place) => bad_byte(alloc, source.text, line.at.saturating_add(place)),
+        None => word_end(alloc, line),
+    }
+}
+
+/// The word `$end`.
+fn word_end(alloc: Global, line: &Line<'_>) -> Result<Finding, AllocError> {
+    let pieces = pieces(alloc, line)?;
+    let word = pieces
+        .iter()
+        .find(|piece| piece.is("$end"))
+        .copied()
+        .unwrap_or(*line);
+    let cause = [Text("no net is called `$end`, which ends commands in a dump")];
+    Finding::at(alloc, &word, &cause, &[])
+}
+
+/// A byte that may not stand in a bench, by its offset.
+fn bad_byte(alloc: Global, text: &[u8], at: usize) -> Result<Finding, AllocError> {
+    let rest = text.get(at..).unwrap_or(&[]);
+    let letter = Word::of(text, at, letter_length(rest));
+    let byte = rest.first().copied().unwrap_or(0);
+    let cause = [
+        Quoted(letter.text),
+        Text(", byte "),
+        Number(u64::from(byte)),
+        Text(", may not stand in a bench outside a comment"),
+    ];
     let advice = if byte == b'\r' {
         "a carriage return stands alone there: let lines end by LF or CRLF"
     } else {
         "names are of the letters, digits and signs of ASCII"
     };
-    Ok(Finding::at(&letter, cause, String::from_str(alloc, advice)?))
+    Finding::at(alloc, &letter, &cause, &[Text(advice)])
 }
 
 /// How many bytes the first letter has in UTF-8, as its first byte says.
@@ -97,26 +108,46 @@ fn letter_length(text: &[u8]) -> usize {
 fn bad_line(alloc: Global, source: Source<'_>, line: &Line<'_>) -> Result<Finding, AllocError> {
     let pieces = pieces(alloc, line)?;
     let (found, state) = break_of(pieces.as_slice());
-    let expected = state.expects();
-    let Some(word) = found else {
-        let end = Word::of(source.text, end_of(pieces.as_slice(), line), 0);
-        let cause = format!(in alloc; "the line ends where {expected} is expected")?;
-        let advice = if line.text.starts_with(b"%%") {
-            JOINED
-        } else {
-            FORMS
-        };
-        return Ok(Finding::at(&end, cause, String::from_str(alloc, advice)?));
-    };
-    let shown = quoted(alloc, word.text)?;
-    let cause = format!(in alloc; "{shown} stands where {expected} is expected")?;
+    match found {
+        Some(word) => stray(alloc, &word, state),
+        None => {
+            let end = Word::of(source.text, end_of(pieces.as_slice(), line), 0);
+            cut_line(alloc, &end, state, line.text.starts_with(b"%%"))
+        }
+    }
+}
+
+/// A line that ends too early, also one that parts two texts.
+fn cut_line(
+    alloc: Global,
+    end: &Word<'_>,
+    state: State,
+    parts: bool,
+) -> Result<Finding, AllocError> {
+    let cause = [
+        Text("the line ends where "),
+        Text(state.expects()),
+        Text(" is expected"),
+    ];
+    let advice = if parts { JOINED } else { FORMS };
+    Finding::at(alloc, end, &cause, &[Text(advice)])
+}
+
+/// A piece that may not stand where it does.
+fn stray(alloc: Global, word: &Word<'_>, state: State) -> Result<Finding, AllocError> {
+    let cause = [
+        Quoted(word.text),
+        Text(" stands where "),
+        Text(state.expects()),
+        Text(" is expected"),
+    ];
     let advice = match word.text {
         [b';', ..] if state == State::End =>
             "a line of a bench has no semicolon; a comment begins with #",
         [b'/', b'/', ..] => "a comment begins with #",
         _ => FORMS,
     };
-    Ok(Finding::at(&word, cause, String::from_str(alloc, advice)?))
+    Finding::at(alloc, word, &cause, &[Text(advice)])
 }
 
 /// Where the last piece of a line ends.
@@ -132,33 +163,37 @@ fn gate_of<'a>(pieces: &[Word<'a>], line: &Line<'a>) -> Word<'a> {
     pieces.get(2).copied().unwrap_or(*line)
 }
 
-fn unknown_gate(alloc: Global, source: Source<'_>, line: &Line<'_>) -> Result<Finding, AllocError> {
+fn unknown_gate(alloc: Global, line: &Line<'_>) -> Result<Finding, AllocError> {
     let pieces = pieces(alloc, line)?;
     let gate = gate_of(pieces.as_slice(), line);
-    let shown = quoted(alloc, gate.text)?;
-    let cause = format!(in alloc; "there is no gate {shown}")?;
-    Ok(Finding::at(&gate, cause, String::from_str(alloc, GATES)?))
+    let cause = [Text("there is no gate "), Quoted(gate.text)];
+    Finding::at(alloc, &gate, &cause, &[Text(GATES)])
 }
 
-fn input_count(alloc: Global, source: Source<'_>, line: &Line<'_>) -> Result<Finding, AllocError> {
+fn input_count(alloc: Global, line: &Line<'_>) -> Result<Finding, AllocError> {
     let pieces = pieces(alloc, line)?;
     let gate = gate_of(pieces.as_slice(), line);
     let given = used(pieces.as_slice())
         .iter()
         .filter(|piece| is_name(piece))
         .count();
-    let shown = quoted(alloc, gate.text)?;
-    let takes = if gate.is_like("NOT")
-        || gate.is_like("BUFF")
-        || gate.is_like("BUF")
-        || gate.is_like("DFF")
-    {
-        "one input"
+    let takes = if takes_one(&gate) {
+        " takes one input, and "
     } else {
-        "one input or more"
+        " takes one input or more, and "
     };
-    let cause = format!(in alloc; "{shown} takes {takes}, and {given} are given")?;
-    Ok(Finding::at(&gate, cause, String::new(alloc)))
+    let cause = [
+        Quoted(gate.text),
+        Text(takes),
+        Number(given as u64),
+        Text(" are given"),
+    ];
+    Finding::at(alloc, &gate, &cause, &[])
+}
+
+/// Whether a gate has one input.
+fn takes_one(gate: &Word<'_>) -> bool {
+    gate.is_like("NOT") || gate.is_like("BUFF") || gate.is_like("BUF") || gate.is_like("DFF")
 }
 
 /// The first line that defines a net, by its number in the file, and how it is defined there.
@@ -181,18 +216,27 @@ fn first_definition<'a>(
     Ok(None)
 }
 
-fn driven_twice(alloc: Global, source: Source<'_>, line: &Line<'_>) -> Result<Finding, AllocError> {
+fn driven_twice<'a>(
+    alloc: Global,
+    source: Source<'a>,
+    line: &Line<'a>,
+) -> Result<Finding, AllocError> {
     let pieces = pieces(alloc, line)?;
     let net = defined(pieces.as_slice()).unwrap_or(*line);
-    let named = quoted(alloc, net.text)?;
-    let mut cause = format!(in alloc; "{named} is driven twice")?;
-    if let Some(first) = first_definition(alloc, source, net.text)? {
-        let number = line_number(source, first.at);
-        let text = shown(alloc, first.text.trim_ascii())?;
-        let earlier = format!(in alloc; ", first in line {number}: {text}")?;
-        cause.push_str(earlier.as_str())?;
+    let named = Quoted(net.text);
+    match first_definition(alloc, source, net.text)? {
+        Some(first) => {
+            let cause = [
+                named,
+                Text(" is driven twice, first in line "),
+                Number(line_number(source, first.at) as u64),
+                Text(": "),
+                Bytes(first.text.trim_ascii()),
+            ];
+            Finding::at(alloc, &net, &cause, &[])
+        }
+        None => Finding::at(alloc, &net, &[named, Text(" is driven twice")], &[]),
     }
-    Ok(Finding::at(&net, cause, String::new(alloc)))
 }
 
 /// The number of the file's line that an offset stands in.
@@ -238,14 +282,21 @@ fn undriven(alloc: Global, source: Source<'_>, line: &Line<'_>) -> Result<Findin
     let nets = all_defined(alloc, source.text)?;
     let pieces = pieces(alloc, line)?;
     let net = first_open(pieces.as_slice(), &nets).unwrap_or(*line);
-    let shown = quoted(alloc, net.text)?;
-    let cause = format!(in alloc; "no line drives {shown}")?;
-    let advice = match like(&nets, net.text) {
+    let cause = [Text("no line drives "), Quoted(net.text)];
+    match like(&nets, net.text) {
         Some(near) => {
-            let near = quoted(alloc, near)?;
-            format!(in alloc; "names keep their letters' case: is {near} meant?")?
+            let help = [
+                Text("names keep their letters' case: is "),
+                Quoted(near),
+                Text(" meant?"),
+            ];
+            Finding::at(alloc, &net, &cause, &help)
         }
-        None => format!(in alloc; "drive it by INPUT(..) or by a gate")?,
-    };
-    Ok(Finding::at(&net, cause, advice))
+        None => Finding::at(
+            alloc,
+            &net,
+            &cause,
+            &[Text("drive it by INPUT(..) or by a gate")],
+        ),
+    }
 }

@@ -1,6 +1,6 @@
 //! Names that are near to one that isn't known.
-use crate::quoted::quoted;
-use std::alloc::{AllocError, Global};
+use crate::sentence::Piece;
+use Piece::{Quoted, Text};
 
 /// How a known name is near.
 #[derive(Clone, Copy)]
@@ -44,8 +44,18 @@ impl Near {
 }
 
 /// Whether a path leads to a name, through scopes.
-pub(crate) fn is_behind_scope(path: &[u8], name: &[u8]) -> bool {
+fn is_behind_scope(path: &[u8], name: &[u8]) -> bool {
     !name.is_empty() && matches!(path.strip_suffix(name), Some([.., b'.']))
+}
+
+/// The first path that leads to a name, or is it.
+pub(crate) fn path_to<'p>(paths: &[&'p [u8]], name: &[u8]) -> Option<&'p [u8]> {
+    for path in paths {
+        if *path == name || is_behind_scope(*path, name) {
+            return Some(*path);
+        }
+    }
+    None
 }
 
 fn first_near<'k>(known: &[&'k [u8]], near: Near, name: &[u8]) -> Option<&'k [u8]> {
@@ -57,18 +67,34 @@ fn first_near<'k>(known: &[&'k [u8]], near: Near, name: &[u8]) -> Option<&'k [u8
     None
 }
 
-/// Asks for the known name that is nearest to one, if one is near.
-pub(crate) fn near_help(
-    alloc: Global,
-    known: &[&[u8]],
-    name: &[u8],
-) -> Result<Option<String>, AllocError> {
+/// A known name that is near to another, and the rule that tells them apart.
+#[derive(Clone, Copy)]
+pub(crate) struct NearName<'k> {
+    rule: &'static str,
+    name: &'k [u8],
+}
+
+impl<'k> NearName<'k> {
+    /// Asks whether it is meant.
+    pub(crate) fn question(&self) -> [Piece<'k>; 4] {
+        [
+            Text(self.rule),
+            Text(": is "),
+            Quoted(self.name),
+            Text(" meant?"),
+        ]
+    }
+}
+
+/// The known name that is nearest to one, if one is near.
+pub(crate) fn nearest<'k>(known: &[&'k [u8]], name: &[u8]) -> Option<NearName<'k>> {
     for near in WAYS {
         if let Some(found) = first_near(known, near, name) {
-            let found = quoted(alloc, found)?;
-            let rule = near.rule();
-            return Ok(Some(format!(in alloc; "{rule}: is {found} meant?")?));
+            return Some(NearName {
+                rule: near.rule(),
+                name: found,
+            });
         }
     }
-    Ok(None)
+    None
 }

@@ -1,11 +1,12 @@
 //! What is wrong with a stimulus that doesn't give an input.
-use crate::causes::{Kind, mistaken};
+use crate::causes::{Kind, misplaced};
 use crate::finding::Finding;
 use crate::form::{defined, pieces};
 use crate::look::Look;
-use crate::quoted::quoted;
+use crate::sentence::Piece;
 use crate::variables::{Variable, Wanted, find_variable};
 use crate::words::Word;
+use Piece::{Quoted, Text};
 use gate_netlist::{Circuit, read_bench};
 use gate_vcd::StimCause;
 use std::alloc::{AllocError, Global};
@@ -13,13 +14,13 @@ use text_places::Source;
 
 /// A finding, in the text to which it belongs.
 #[derive(Drop)]
-pub(crate) enum Found {
+pub enum Found {
     InStimulus(Finding),
     InBench(Finding),
 }
 
 /// What a fault of a stimulus is about that doesn't give the input of this number.
-pub(crate) fn of_input(
+pub fn of_input(
     alloc: Global,
     bench: Source<'_>,
     settings: &[u8],
@@ -29,8 +30,7 @@ pub(crate) fn of_input(
 ) -> Result<Found, AllocError> {
     let look = Look::of(stimulus.text);
     if !matches!(look, Look::Dump | Look::Other) {
-        let said = mistaken(alloc, look, Kind::Stimulus)?;
-        return Ok(Found::InStimulus(Finding::at_front(said)));
+        return Ok(Found::InStimulus(misplaced(alloc, look, Kind::Stimulus)?));
     }
     let name = name_of(alloc, bench.text, settings, net)?;
     let name = name.as_str();
@@ -66,21 +66,28 @@ pub(crate) fn circuit_of(alloc: Global, bench: &[u8], settings: &[u8]) -> Option
 }
 
 /// A vector that is declared in place of a scalar.
-fn not_scalar(alloc: Global, text: &[u8], name: &str) -> Result<Finding, AllocError> {
-    let shown = quoted(alloc, name.as_bytes())?;
+fn not_scalar<'a>(alloc: Global, text: &'a [u8], name: &'a str) -> Result<Finding, AllocError> {
+    let input = Quoted(name.as_bytes());
     let found = find_variable(text, Wanted::Named(name.as_bytes()));
     let Some(Variable { size, name: word }) = found else {
-        let cause = format!(in alloc; "no variable of one bit gives the input {shown}")?;
-        return Ok(Finding::at(&front(text), cause, String::new(alloc)));
+        let cause = [Text("no variable of one bit gives the input "), input];
+        return Finding::at(alloc, &front(text), &cause, &[]);
     };
-    let size = quoted(alloc, size.text)?;
-    let cause = format!(in alloc;
-        "the input {shown} is one bit, which this variable of size {size} doesn't give"
-    )?;
-    let help = format!(in alloc;
-        "call the bits `{name}[0]`, `{name}[1]` and so on in the bench, or declare a variable of one bit"
-    )?;
-    Ok(Finding::at(&word, cause, help))
+    let cause = [
+        Text("the input "),
+        input,
+        Text(" is one bit, which this variable of size "),
+        Quoted(size.text),
+        Text(" doesn't give"),
+    ];
+    let help = [
+        Text("call the bits `"),
+        Text(name),
+        Text("[0]`, `"),
+        Text(name),
+        Text("[1]` and so on in the bench, or declare a variable of one bit"),
+    ];
+    Finding::at(alloc, &word, &cause, &help)
 }
 
 /// No word, at a text's beginning.
@@ -111,30 +118,29 @@ fn in_another_scope(
     variable: &Variable<'_>,
     name: &str,
 ) -> Result<Finding, AllocError> {
-    let shown = quoted(alloc, name.as_bytes())?;
-    let cause = format!(in alloc;
-        "this variable of the input {shown} stands in another scope than the settings ask for"
-    )?;
-    let help = String::from_str(
-        alloc,
-        "scope = \"..\" in the settings names the scope, its levels joined by dots; without it any scope will do",
-    )?;
-    Ok(Finding::at(&variable.name, cause, help))
+    let cause = [
+        Text("this variable of the input "),
+        Quoted(name.as_bytes()),
+        Text(" stands in another scope than the settings ask for"),
+    ];
+    let advice =
+        "scope = \"..\" in the settings names the scope, its levels joined by dots; without it any scope will do";
+    Finding::at(alloc, &variable.name, &cause, &[Text(advice)])
 }
 
-fn in_another_case(
+fn in_another_case<'a>(
     alloc: Global,
-    variable: &Variable<'_>,
-    name: &str,
+    variable: &Variable<'a>,
+    name: &'a str,
 ) -> Result<Finding, AllocError> {
-    let shown = quoted(alloc, name.as_bytes())?;
-    let near = quoted(alloc, variable.name.text)?;
-    let cause = format!(in alloc; "no variable is named {shown}, and this one is {near}")?;
-    let help = String::from_str(
-        alloc,
-        "names keep their letters' case: rename one of the two",
-    )?;
-    Ok(Finding::at(&variable.name, cause, help))
+    let cause = [
+        Text("no variable is named "),
+        Quoted(name.as_bytes()),
+        Text(", and this one is "),
+        Quoted(variable.name.text),
+    ];
+    let advice = "names keep their letters' case: rename one of the two";
+    Finding::at(alloc, &variable.name, &cause, &[Text(advice)])
 }
 
 /// An input of which a stimulus says nothing: told at its line, or at the stimulus where it is an added clock.
@@ -144,23 +150,47 @@ fn undeclared(
     stimulus: Source<'_>,
     name: &str,
 ) -> Result<Found, AllocError> {
-    let shown = quoted(alloc, name.as_bytes())?;
-    let file = stimulus.name;
     match defining(alloc, bench.text, name)? {
         Some(word) => {
-            let cause = format!(in alloc; "{file} has no variable for the input {shown}")?;
-            let help = format!(in alloc; "declare it there, as $var wire 1 ! {name} $end")?;
-            Ok(Found::InBench(Finding::at(&word, cause, help)))
+            let finding = without_variable(alloc, &word, stimulus.name, name)?;
+            Ok(Found::InBench(finding))
         }
         None => {
-            let cause = format!(in alloc; "no variable is named {shown}, the clock of flip-flops")?;
-            let help = String::from_str(
-                alloc,
-                "declare it, or let the settings name the clock: clock = \"..\"",
-            )?;
-            Ok(Found::InStimulus(Finding::at(&front(stimulus.text), cause, help)))
+            let finding = without_clock(alloc, &front(stimulus.text), name)?;
+            Ok(Found::InStimulus(finding))
         }
     }
+}
+
+/// An input of a bench for which a file has no variable.
+fn without_variable<'a>(
+    alloc: Global,
+    word: &Word<'_>,
+    file: &'a str,
+    name: &'a str,
+) -> Result<Finding, AllocError> {
+    let cause = [
+        Text(file),
+        Text(" has no variable for the input "),
+        Quoted(name.as_bytes()),
+    ];
+    let help = [
+        Text("declare it there, as $var wire 1 ! "),
+        Text(name),
+        Text(" $end"),
+    ];
+    Finding::at(alloc, word, &cause, &help)
+}
+
+/// The added clock, for which there is no variable.
+fn without_clock(alloc: Global, word: &Word<'_>, name: &str) -> Result<Finding, AllocError> {
+    let cause = [
+        Text("no variable is named "),
+        Quoted(name.as_bytes()),
+        Text(", the clock of flip-flops"),
+    ];
+    let advice = "declare it, or let the settings name the clock: clock = \"..\"";
+    Finding::at(alloc, word, &cause, &[Text(advice)])
 }
 
 /// Where a bench defines a net.
