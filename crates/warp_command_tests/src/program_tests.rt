@@ -1,4 +1,4 @@
-use crate::told::{Answer, Failing, Shelf, assert_told, tell};
+use crate::told::{Failing, Shelf, tell};
 use gate_netlist::{BenchCause, BenchFault, SettingsFault};
 use gate_vcd::{StimCause, StimFault};
 use std::alloc::Global;
@@ -15,148 +15,6 @@ use warp_core::{GatherFault, PlayFault, ScheduleCause, ScheduleFault};
 use warp_rounds::RunFault;
 use warp_text::{Fault, Options};
 
-/// Lines over no text that can be read, the status, and what is written on standard error.
-static LINES: [(&str, u8, &str); 27] = [
-    ("warp_sim run --until 10 -", 4, "cannot read -\n"),
-    (
-        "warp_sim run --until 1000000000000 b v",
-        4,
-        "cannot read b\n",
-    ),
-    ("warp_sim run --until +5 b v", 4, "cannot read b\n"),
-    ("warp_sim run --until 05 b v", 4, "cannot read b\n"),
-    ("warp_sim run b --until=5 v", 4, "cannot read b\n"),
-    (
-        "warp_sim run b v --settings s --until 5",
-        4,
-        "cannot read s\n",
-    ),
-    (
-        "warp_sim run --until 5 --blocks 1024 --workers 64 --window 1000000 b v",
-        4,
-        "cannot read b\n",
-    ),
-    ("warp_sim run --until 5 --settings full b v", 3, "memory\n"),
-    ("warp_sim run --until 5 b", 2, "stimulus expected\n"),
-    (
-        "warp_sim run --until 5 --settings s b",
-        2,
-        "stimulus expected\n",
-    ),
-    ("warp_sim run --until 5 - v", 2, "stimulus not expected\n"),
-    ("warp_sim run --until 5 full v", 3, "memory\n"),
-    ("warp_sim replay --until 5 b v c", 4, "cannot read b\n"),
-    ("warp_sim check b", 4, "cannot read b\n"),
-    ("warp_sim check --settings s b", 4, "cannot read s\n"),
-    ("warp_sim check -", 4, "cannot read -\n"),
-    ("warp_sim nets b", 4, "cannot read b\n"),
-    ("warp_sim nets --settings s b", 4, "cannot read s\n"),
-    ("warp_sim nets full", 3, "memory\n"),
-    ("warp_sim compare e a", 4, "cannot read e\n"),
-    ("warp_sim compare --offset=-5 - a", 4, "cannot read -\n"),
-    ("warp_sim compare full a", 3, "memory\n"),
-    ("warp_sim compare - -", 2, "a file beside - expected\n"),
-    (
-        "warp_sim compare --at 3 e a",
-        2,
-        "--at FIRST:STEP expected\n",
-    ),
-    (
-        "warp_sim compare --at 3:0 e a",
-        2,
-        "--at FIRST:STEP expected\n",
-    ),
-    (
-        "warp_sim compare --scope top e a",
-        2,
-        "--scope E=A expected\n",
-    ),
-    (
-        "warp_sim compare --offset x e a",
-        2,
-        "--offset T expected\n",
-    ),
-];
-
-#[test]
-fn lines_are_read_before_any_text(rt: HostRuntime) -> Result<(), Fail> {
-    for (line, status, err) in &LINES {
-        let answer = Answer {
-            status: *status,
-            out: "",
-            err,
-        };
-        assert_told(&rt, rt.alloc(), line, &[], answer)?;
-    }
-    Ok(())
-}
-
-/// Lines that ask for nothing that the program does.
-static REFUSED: [&str; 31] = [
-    "warp_sim",
-    "warp_sim walk",
-    "warp_sim run b v",
-    "warp_sim run --until 5",
-    "warp_sim run --until 1000000000001 b v",
-    "warp_sim run --until -1 b v",
-    "warp_sim run --until x b v",
-    "warp_sim run --until 5 --until 6 b v",
-    "warp_sim run --until 5 b v w",
-    "warp_sim run --until 5 --speed 6 b v",
-    "warp_sim run --until 5 --blocks 0 b v",
-    "warp_sim run --until 5 --blocks 1025 b v",
-    "warp_sim run --until 5 --workers 0 b v",
-    "warp_sim run --until 5 --workers 65 b v",
-    "warp_sim run --until 5 --window 0 b v",
-    "warp_sim run --until 5 --window 1000001 b v",
-    "warp_sim replay b v c",
-    "warp_sim replay --until 5 b v",
-    "warp_sim replay --until 5 --workers 1 b v c",
-    "warp_sim check --workers 1 b",
-    "warp_sim check",
-    "warp_sim check b v",
-    "warp_sim check --until 5 b",
-    "warp_sim nets",
-    "warp_sim nets b v",
-    "warp_sim nets --workers 1 b",
-    "warp_sim compare",
-    "warp_sim compare e",
-    "warp_sim compare e a m",
-    "warp_sim compare --from -1 e a",
-    "warp_sim compare --list x e a",
-];
-
-fn assert_refused<R: Abort + Threads + Wait + Sync>(
-    rt: &R,
-    alloc: Global,
-    line: &str,
-) -> Result<(), Fail> {
-    let told = tell(rt, alloc, line, &[])?;
-    assert_eq!(rt; told.status, 2, "{line}");
-    assert_eq!(rt; told.err.last(), Some(&b'\n'), "{line}");
-    assert!(rt; told.out.is_empty() && told.asked.is_empty(), "{line}");
-    Ok(())
-}
-
-#[test]
-fn refused_lines_end_with_2(rt: HostRuntime) -> Result<(), Fail> {
-    for line in &REFUSED {
-        assert_refused(&rt, rt.alloc(), line)?;
-    }
-    Ok(())
-}
-
-fn assert_helped<R: Abort + Threads + Wait + Sync>(
-    rt: &R,
-    alloc: Global,
-    line: &str,
-) -> Result<(), Fail> {
-    let told = tell(rt, alloc, line, &[])?;
-    assert_eq!(rt; told.status, 0, "{line}");
-    assert!(rt; !told.out.is_empty() && told.err.is_empty(), "{line}");
-    Ok(())
-}
-
 /// The status over no text, where standard output and error are these.
 fn status_of<R: Threads + Wait + Sync>(
     rt: &R,
@@ -168,25 +26,8 @@ fn status_of<R: Threads + Wait + Sync>(
     let mut shelf = Shelf {
         texts: &[],
         asked: String::new(alloc),
-        kept: Vec::new(alloc),
     };
     program(rt, alloc, words, &mut shelf, out, err)
-}
-
-#[test]
-fn help_is_shown_on_standard_output(rt: HostRuntime) -> Result<(), Fail> {
-    let alloc = rt.alloc();
-    for line in [
-        "warp_sim --help",
-        "warp_sim run --help",
-        "warp_sim replay --help",
-        "warp_sim check --help",
-        "warp_sim nets --help",
-        "warp_sim compare --help",
-    ] {
-        assert_helped(&rt, alloc, line)?;
-    }
-    Ok(())
 }
 
 /// The status where standard output fails after so many bytes of the version's fifteen, and what is told.
@@ -214,19 +55,6 @@ fn a_failing_out_ends_with_4(rt: HostRuntime) -> Result<(), Fail> {
 }
 
 #[test]
-fn the_version_is_shown_on_standard_output(rt: HostRuntime) -> Result<(), Fail> {
-    let answer = Answer {
-        status: 0,
-        out: "warp_sim 0.1.0\n",
-        err: "",
-    };
-    for line in ["warp_sim --version", "warp_sim -V"] {
-        assert_told(&rt, rt.alloc(), line, &[], answer)?;
-    }
-    Ok(())
-}
-
-#[test]
 fn a_failing_err_changes_no_status(rt: HostRuntime) -> Result<(), Fail> {
     let alloc = rt.alloc();
     for (word, status) in [("full", 3), ("b", 4), ("--speed", 2)] {
@@ -239,25 +67,42 @@ fn a_failing_err_changes_no_status(rt: HostRuntime) -> Result<(), Fail> {
     Ok(())
 }
 
-/// Lines over two texts that can be read, the names that are asked for, and what is written on standard error.
-static FETCHED: [(&str, &str, &str); 5] = [
+/// Lines over two texts that can be read, the names that are asked for, the status, and what is written on standard error.
+static FETCHED: [(&str, &str, u8, &str); 9] = [
     (
         "warp_sim run --until 5 --settings s b v",
         "s b v ",
+        4,
         "cannot read v\n",
     ),
-    ("warp_sim run --until 5 b full", "b full ", "memory\n"),
+    ("warp_sim run --until 5 b full", "b full ", 3, "memory\n"),
     (
         "warp_sim run --until 5 --settings - b v",
         "- ",
+        4,
         "cannot read -\n",
     ),
     (
         "warp_sim replay --until 5 --settings s b b c",
         "s b b c ",
+        4,
         "cannot read c\n",
     ),
-    ("warp_sim check --settings s c", "s c ", "cannot read c\n"),
+    (
+        "warp_sim check --settings s c",
+        "s c ",
+        4,
+        "cannot read c\n",
+    ),
+    (
+        "warp_sim run --until 5 --settings full b v",
+        "full ",
+        3,
+        "memory\n",
+    ),
+    ("warp_sim run --until 5 full v", "full ", 3, "memory\n"),
+    ("warp_sim nets full", "full ", 3, "memory\n"),
+    ("warp_sim compare full a", "full ", 3, "memory\n"),
 ];
 
 fn assert_fetched<R: Abort + Threads + Wait + Sync>(
@@ -265,18 +110,21 @@ fn assert_fetched<R: Abort + Threads + Wait + Sync>(
     alloc: Global,
     line: &str,
     asked: &str,
+    status: u8,
     message: &str,
 ) -> Result<(), Fail> {
     let told = tell(rt, alloc, line, &[("s", b""), ("b", b"")])?;
     assert_eq!(rt; told.asked.as_str(), asked, "{line}");
     assert_eq!(rt; told.err.as_slice(), message.as_bytes(), "{line}");
+    assert_eq!(rt; told.status, status, "{line}");
+    assert!(rt; told.out.is_empty(), "{line}");
     Ok(())
 }
 
 #[test]
 fn texts_are_fetched_in_order(rt: HostRuntime) -> Result<(), Fail> {
-    for (line, asked, message) in &FETCHED {
-        assert_fetched(&rt, rt.alloc(), line, asked, message)?;
+    for (line, asked, status, message) in &FETCHED {
+        assert_fetched(&rt, rt.alloc(), line, asked, *status, message)?;
     }
     Ok(())
 }
