@@ -169,12 +169,10 @@ def rows(has_replay):
 
 # The tests that take memory, by what they call of their crate. Each passes, which a call that always answers Memory does not let it.
 TESTS = [
-    Test("gate_netlist_tests", "bench_tests::refuses_the_first_fault"),
-    Test("gate_netlist_tests", "bench_tests::reads_s27"),
-    Test("gate_netlist_tests", "settings_tests::bad_values"),
-    Test("gate_netlist_tests", "settings_tests::unknown_keys_and_nets"),
-    Test("gate_netlist_tests", "settings_tests::a_net_goes_before_its_kind"),
-    Test("gate_netlist_tests", "settings_tests::an_even_cut_of_s27"),
+    Test("gate_netlist_tests", "circuit_tests::outputs_in_the_order_of_their_lines"),
+    Test("gate_netlist_tests", "circuit_tests::the_clock_is_the_net_of_its_name"),
+    Test("gate_netlist_tests", "circuit_tests::cuts"),
+    Test("gate_netlist_tests", "circuit_tests::an_even_cut_of_s27"),
     Test("gate_vcd_tests", "stimulus_tests::accepts_a_whole_text"),
     Test("gate_vcd_tests", "memory_tests::a_stamp_that_falls_or_no_memory"),
     Test("gate_vcd_tests", "memory_tests::a_dump_or_its_first_bytes", ("AllocError", "AllocFailed", "Memory", "WriteFault")),
