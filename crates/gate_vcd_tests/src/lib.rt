@@ -1,5 +1,5 @@
-//! The tests of `gate_vcd`, by its public calls: rows whose expected values come from outside. They stand apart, since a
-//! crate that has tests is proved a second time with them.
+//! The tests of `gate_vcd`, by its public calls: rows whose expected values come from outside. Stimuli that are refused are played by
+//! `examples/test_lines`. They stand apart, since a crate that has tests is proved a second time with them.
 #![tactic(auto)]
 
 #[cfg(test)]

@@ -1,19 +1,22 @@
 use crate::dump_tests::{DUMP, write};
-use crate::rows::{Refusal, assert_refusals};
+use crate::rows::circuit;
 use byte_sinks::{Grow, Sink};
-use gate_vcd::StimCause;
+use gate_vcd::{StimCause, StimFault, read_stimulus};
 use std::test::Fail;
 
-const FALLS: [Refusal; 1] = [Refusal {
-    bench: "INPUT(A)\n",
-    text: "$var wire 1 ! A $end $enddefinitions $end #5 0! #4 1!",
+const FALLS: StimFault = StimFault {
     at: 48,
     cause: StimCause::StampFalls,
-}];
+};
 
 #[test]
 fn a_stamp_that_falls_or_no_memory(rt: HostRuntime) -> Result<(), Fail> {
-    assert_refusals(&rt, rt.alloc(), &FALLS)
+    let circuit = circuit(rt.alloc(), "INPUT(A)\n", "")?;
+    let text = b"$var wire 1 ! A $end $enddefinitions $end #5 0! #4 1!";
+    let fault = read_stimulus(rt.alloc(), text, &circuit).err();
+    drop(circuit);
+    assert_eq!(rt; fault, Some(FALLS));
+    Ok(())
 }
 
 /// A growth that is refused is the sink's failure, and the sink holds the bytes that the fault counts.

@@ -2,7 +2,7 @@
 
 use gate_netlist::{Circuit, read_bench};
 use gate_values::{Change, Logic};
-use gate_vcd::{StimCause, StimFault, Stimulus, read_stimulus};
+use gate_vcd::{Stimulus, read_stimulus};
 use std::alloc::Global;
 use std::process::Abort;
 use std::test::Fail;
@@ -14,15 +14,6 @@ pub struct Row {
     pub settings: &'static str,
     pub text: &'static str,
     pub nets: &'static [&'static str],
-}
-
-/// Why a stimulus text is refused, and where.
-#[derive(Clone, Copy)]
-pub struct Refusal {
-    pub bench: &'static str,
-    pub text: &'static str,
-    pub at: u64,
-    pub cause: StimCause,
 }
 
 /// The circuit of a bench and a settings text.
@@ -95,32 +86,6 @@ pub fn assert_rows(rt: &impl Abort, alloc: Global, rows: &[Row]) -> Result<(), F
         let told = assert_changes(rt, alloc, &stimulus, row.nets);
         drop(stimulus);
         told?;
-    }
-    Ok(())
-}
-
-/// The fault of a text, if it has one.
-pub fn fault_of(
-    alloc: Global,
-    bench: &str,
-    settings: &str,
-    text: &str,
-) -> Result<Option<StimFault>, Fail> {
-    let circuit = circuit(alloc, bench, settings)?;
-    let fault = read_stimulus(alloc, text.as_bytes(), &circuit).err();
-    drop(circuit);
-    Ok(fault)
-}
-
-/// Each text is refused so.
-pub fn assert_refusals(rt: &impl Abort, alloc: Global, rows: &[Refusal]) -> Result<(), Fail> {
-    for row in rows {
-        let wanted = StimFault {
-            at: row.at,
-            cause: row.cause,
-        };
-        let fault = fault_of(alloc, row.bench, "", row.text)?;
-        assert_eq!(rt; fault, Some(wanted));
     }
     Ok(())
 }

@@ -1,5 +1,4 @@
-use crate::rows::{Refusal, Row, assert_refusals, assert_rows};
-use gate_vcd::StimCause;
+use crate::rows::{Row, assert_rows};
 use std::test::Fail;
 
 const BITS: &str = "INPUT(A[0])\nINPUT(A[1])\nINPUT(A[2])\nY = XOR(A[0], A[2])\n";
@@ -83,56 +82,6 @@ const DIGITS: [Row; 11] = [
 #[test]
 fn gives_each_bit_its_digit(rt: HostRuntime) -> Result<(), Fail> {
     assert_rows(&rt, rt.alloc(), &DIGITS)
-}
-
-static NO_BITS: [Refusal; 7] = [
-    Refusal {
-        bench: BITS,
-        text: "$var wire 4 v A [2:0] $end",
-        at: 0,
-        cause: StimCause::MissingInput,
-    },
-    Refusal {
-        bench: BITS,
-        text: "$var wire 2 v A [1:0] $end",
-        at: 2,
-        cause: StimCause::MissingInput,
-    },
-    Refusal {
-        bench: BITS,
-        text: "$var wire 1 v A $end",
-        at: 0,
-        cause: StimCause::MissingInput,
-    },
-    Refusal {
-        bench: "INPUT(A[00])\n",
-        text: "$var wire 8 v A [7:0] $end",
-        at: 0,
-        cause: StimCause::MissingInput,
-    },
-    Refusal {
-        bench: "INPUT([0])\n",
-        text: "$var wire 8 v \\ $end",
-        at: 0,
-        cause: StimCause::MissingInput,
-    },
-    Refusal {
-        bench: "INPUT(A[0])\n",
-        text: "$var wire 2 v A[0] [1:0] $end",
-        at: 0,
-        cause: StimCause::NotScalar,
-    },
-    Refusal {
-        bench: BITS,
-        text: "$var wire 4294967296 v A $end",
-        at: 0,
-        cause: StimCause::MissingInput,
-    },
-];
-
-#[test]
-fn refuses_what_is_no_bit(rt: HostRuntime) -> Result<(), Fail> {
-    assert_refusals(&rt, rt.alloc(), &NO_BITS)
 }
 
 const SCOPES: &str =
