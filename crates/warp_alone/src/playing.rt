@@ -33,13 +33,43 @@ pub(crate) fn history_of<W: Watch>(
     ensures told { IfOk result (TellLogs (played_view (silent_view part stimulus.now horizon) (horizon + 1))) }
 {
     let heard = Heard::new(alloc, part, stimulus, horizon)?;
-    let mut engine = opening_engine(alloc, heard.part(), horizon)?;
     heard.law();
-    let mut words = Vec::new(alloc);
-    play_first(&heard, &mut engine, &mut words)?;
-    play_all(&heard, &mut engine, &mut words, watch)?;
+    let history = history_under(alloc, &heard, watch)?;
+    Ok(history)
+}
+
+/// The same under what was received before time 0 alone.
+fn history_under<W: Watch>(
+    alloc: Global,
+    heard: &Heard,
+    watch: &mut W,
+) -> Result<Steps<Word>, AllocError>
+    requires received { IsReceived heard.now }
+    requires floor { heard.now.floor ≡ 0 }
+    ensures { IfOk result (TellLogs (played_view heard.now (heard.now.horizon + 1))) }
+{
+    let mut engine = opening_engine(alloc, heard.part(), heard.horizon())?;
+    play_through(alloc, heard, &mut engine, watch)?;
     let (_, history) = engine.into_parts();
     Ok(history)
+}
+
+/// Plays all times up to the horizon on an engine that has played none. An error is a refused growth.
+fn play_through<W: Watch>(
+    alloc: Global,
+    heard: &Heard,
+    engine: &mut Engine,
+    watch: &mut W,
+) -> Result<(), AllocError>
+    requires engine { IsEngineOf heard.now 0 engine.old }
+    requires floor { heard.now.floor ≡ 0 }
+    requires mark { engine.old.book.mark ≡ 0 }
+    ensures engine { OnOk result (IsEngineOf heard.now 0 engine.new) }
+    ensures mark { OnOk result (engine.new.book.mark ≡ heard.now.horizon + 1) }
+{
+    let mut words = Vec::new(alloc);
+    play_first(heard, engine, &mut words)?;
+    play_all(heard, engine, &mut words, watch)
 }
 
 /// Plays time 0. An error is a refused growth. The words are a place to work in.

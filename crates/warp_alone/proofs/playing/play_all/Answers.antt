@@ -1,6 +1,6 @@
 use Rattle.std.proofs.Common.{None, refl, arith}
 use Rattle.warp_block.proofs.Outplayed.{none_quiet}
-use Rattle.warp_alone.proofs.Stepping.{least_quiet, past}
+use Rattle.warp_alone.proofs.Stepping.{past}
 use Rattle.warp_alone.proofs.playing.play_all.Goals as goal
 
 pub brought_after-brought-requires : goal.brought_after-brought-requires
