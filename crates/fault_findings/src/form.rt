@@ -64,19 +64,31 @@ pub(crate) enum State {
 impl State {
     /// What stands before the next piece; none where this one may not stand there.
     fn after(self, piece: &[u8]) -> Option<State> {
-        match (self, piece) {
-            (State::Port, b"(") => Some(State::PortOpen),
-            (State::PortName, b")") => Some(State::End),
-            (State::Net, b"=") | (State::Port, b"=") => Some(State::Equals),
-            (State::Gate, b"(") => Some(State::GateOpen),
-            (State::GateOpen, b")") | (State::Input, b")") => Some(State::End),
-            (State::Input, b",") => Some(State::Comma),
-            (_, b"(") | (_, b")") | (_, b",") | (_, b"=") => None,
-            (State::Nothing, word) if is_port(word) => Some(State::Port),
-            (State::Nothing, _) => Some(State::Net),
-            (State::PortOpen, _) => Some(State::PortName),
-            (State::Equals, _) => Some(State::Gate),
-            (State::GateOpen, _) | (State::Comma, _) => Some(State::Input),
+        match piece {
+            [mark] if is_mark(*mark) => self.after_mark(*mark),
+            word => self.after_word(word),
+        }
+    }
+
+    fn after_mark(self, mark: u8) -> Option<State> {
+        match (self, mark) {
+            (State::Port, b'(') => Some(State::PortOpen),
+            (State::PortName, b')') => Some(State::End),
+            (State::Net | State::Port, b'=') => Some(State::Equals),
+            (State::Gate, b'(') => Some(State::GateOpen),
+            (State::GateOpen | State::Input, b')') => Some(State::End),
+            (State::Input, b',') => Some(State::Comma),
+            _ => None,
+        }
+    }
+
+    fn after_word(self, word: &[u8]) -> Option<State> {
+        match self {
+            State::Nothing if is_port(word) => Some(State::Port),
+            State::Nothing => Some(State::Net),
+            State::PortOpen => Some(State::PortName),
+            State::Equals => Some(State::Gate),
+            State::GateOpen | State::Comma => Some(State::Input),
             _ => None,
         }
     }

@@ -112,12 +112,25 @@ fn first_line(text: &[u8]) -> Word<'_> {
     line_around(text, at)
 }
 
+/// The commands that stand at the beginning of dumps.
+const BEGINNINGS: [&str; 7] = [
+    "date",
+    "version",
+    "comment",
+    "timescale",
+    "scope",
+    "var",
+    "enddefinitions",
+];
+
 /// Whether a command of this name stands at the beginning of dumps.
 fn begins_dump(command: &[u8]) -> bool {
-    matches!(
-        command,
-        b"date" | b"version" | b"comment" | b"timescale" | b"scope" | b"var" | b"enddefinitions"
-    )
+    for word in BEGINNINGS {
+        if command == word.as_bytes() {
+            return true;
+        }
+    }
+    false
 }
 
 fn dump_of(text: &[u8]) -> Look {
