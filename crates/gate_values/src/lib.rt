@@ -17,6 +17,3 @@ pub use flop::flip;
 pub use gate::{Kind, table};
 pub use laws::initial_before_delay;
 pub use logic::{Change, Logic};
-
-#[cfg(test)]
-mod tests;
