@@ -1,5 +1,5 @@
 //! A run of the blocks of a circuit, round by round.
-ghost use Rattle.std.specs.Prelude.{◌≡◌, ◌≤◌, ◌<◌, ◌^◌, IfOk, IfErr, IfSome, IfNone, All, length, vec_len};
+ghost use Rattle.std.specs.Prelude.{◌≡◌, ◌≤◌, ◌<◌, ◌^◌, ◌+◌, IfOk, OnOk, IfErr, IfSome, IfNone, All, length, vec_len};
 ghost use Rattle.gate_netlist.specs.Circuit.{CutFits};
 ghost use Rattle.gate_vcd.specs.Given.{Fits};
 ghost use Rattle.warp_process.specs.Limits.{most_horizon};
@@ -349,12 +349,26 @@ fn taken_out(alloc: Global, sites: Vec<Site>) -> Result<Parted, AllocError>
     ensures lawful { IfOk result (λ parted. All IsLawfulProcess parted.blocks.items) }
     ensures counted { IfOk result (λ parted. AreCounted parted.blocks.items parted.counts.items) }
 {
-    let mut blocks = Vec::new(alloc);
-    let mut counts = Vec::new(alloc);
+    let mut parted = Parted {
+        blocks: Vec::new(alloc),
+        counts: Vec::new(alloc),
+    };
     for site in sites {
-        let finished = site.finished();
-        counts.push(finished.counts)?;
-        blocks.push(finished.block)?;
+        take_out(site, &mut parted)?;
     }
-    Ok(Parted { blocks, counts })
+    Ok(parted)
+}
+
+// Takes the block out of a site, and what is counted of it, behind those of others. An error is a refused growth.
+fn take_out(site: Site, parted: &mut Parted) -> Result<(), AllocError>
+    requires lawful { All IsLawfulProcess parted.old.blocks.items }
+    requires counted { AreCounted parted.old.blocks.items parted.old.counts.items }
+    ensures count { OnOk result (vec_len parted.new.blocks ≡ vec_len parted.old.blocks + 1) }
+    ensures lawful { OnOk result (All IsLawfulProcess parted.new.blocks.items) }
+    ensures counted { OnOk result (AreCounted parted.new.blocks.items parted.new.counts.items) }
+{
+    let finished = site.finished();
+    parted.blocks.push(finished.block)?;
+    parted.counts.push(finished.counts)?;
+    Ok(())
 }
