@@ -1,9 +1,14 @@
 //! The changes of a circuit's nets by time.
-ghost use Rattle.std.specs.Prelude.{◌≤◌, IfOk, IfSome};
+ghost use Rattle.std.specs.Prelude.{◌≤◌, ◌+◌, IfOk, IfSome};
 ghost use Rattle.gate_vcd.specs.Given.{Fits};
 ghost use Rattle.net_waves.specs.ByTime.{stops_in};
 ghost use Rattle.net_waves.specs.Stops.{AreStopsOf};
+ghost use Rattle.warp_process.specs.Heard.{IsReceived};
 ghost use Rattle.warp_process.specs.Limits.{most_horizon};
+ghost use Rattle.warp_process.specs.Opening.{silent_view};
+ghost use Rattle.warp_process.specs.Played.{played_view};
+ghost use Rattle.warp_block.specs.Histories.{TellLogs};
+ghost use Rattle.warp_core.specs.OwnNets.{AreOwn};
 ghost use Rattle.warp_alone.specs.Alone.{circuit_waves};
 
 use crate::playing::history_of;
@@ -15,6 +20,7 @@ use std::alloc::{AllocError, Global};
 use warp_core::{given_lists, own_nets};
 use warp_part::Part;
 use warp_rounds::Watch;
+use warp_stores::{Steps, Word};
 
 /// All changes of the values of a circuit's nets under a stimulus, by time, up to a horizon. The stimulus fits the circuit; the horizon
 /// is at most [`MOST_HORIZON`](warp_process::MOST_HORIZON). There is no answer where the changes have no form in which they can be had
@@ -33,12 +39,37 @@ pub fn changes_alone<W: Watch>(
     let cut = Cut::even(alloc, circuit, 1)?;
     cut.law();
     stimulus.law();
-    let lists = given_lists(alloc, circuit.nets(), &cut, stimulus, horizon)?;
-    let given = stops_by_time(alloc, lists.as_slice())?;
     let part = Part::of(alloc, circuit, &cut, 0)?;
     part.law();
-    let own = own_nets(alloc, &part)?;
-    let history = history_of(alloc, part, stimulus, horizon, watch)?;
+    let played = play_part(alloc, part, stimulus, horizon, watch)?;
+    let Played { own, history } = played;
+    let lists = given_lists(alloc, circuit.nets(), &cut, stimulus, horizon)?;
+    let given = stops_by_time(alloc, lists.as_slice())?;
     let all = by_time_of(alloc, horizon, own.as_slice(), history, given.as_slice())?;
     Ok(all)
+}
+
+// All that comes true in a part, and which net each of its own places is.
+#[derive(Drop)]
+struct Played {
+    own: Vec<Option<u32>>,
+    history: Steps<Word>,
+}
+
+// A part that is played up to a horizon, where nothing is received but the stimulus.
+fn play_part<W: Watch>(
+    alloc: Global,
+    part: Part,
+    stimulus: &Stimulus,
+    horizon: u64,
+    watch: &mut W,
+) -> Result<Played, AllocError>
+    requires { horizon ≤ most_horizon }
+    ensures own { IfOk result (λ played. AreOwn part played.own.items) }
+    ensures received { IfOk result (λ _. IsReceived (silent_view part stimulus.now horizon)) }
+    ensures told { IfOk result (λ played. TellLogs (played_view (silent_view part stimulus.now horizon) (horizon + 1)) played.history) }
+{
+    let own = own_nets(alloc, &part)?;
+    let history = history_of(alloc, part, stimulus, horizon, watch)?;
+    Ok(Played { own, history })
 }
