@@ -4,7 +4,7 @@
 //! memory linear in keys and numbers. [`Rows`] has lists one behind the other, of which each is read at its place, and
 //! grows by a list at a time.
 //!
-//! The definitions that contracts cite stand in `specs/Groups` and `specs/Rows`. `warp_gates` stands on it.
+//! The definitions that contracts cite stand in `specs/Groups` and `specs/Rows`.
 #![tactic(auto)]
 
 mod groups;

@@ -1,6 +1,6 @@
 //! Places in texts, and how they are told to people: file, line and column, the text of the line, and marks below it.
 //!
-//! The definitions that contracts cite stand in `specs/Places` and `specs/Told`. `warp_explain` stands on it.
+//! The definitions that contracts cite stand in `specs/Places` and `specs/Told`.
 #![tactic(auto)]
 
 mod place;

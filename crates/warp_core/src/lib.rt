@@ -5,7 +5,7 @@
 //! others have logged, so no block ever refuses what it is told. Where nothing is left to do the blocks are matched.
 //! [`drive`] plays rounds until then, at most one more than the horizon, for every order of the blocks.
 //!
-//! [`gather`] joins blocks that have finished into the [`Waves`](gate_vcd::Waves) of the circuit. It answers only
+//! [`gather`] joins blocks that have finished into the [`Waves`](net_waves::Waves) of the circuit. It answers only
 //! blocks that are matched: each is of its part of the cut, none has anything left to do, and each was told exactly
 //! what the others, and the stimulus, say. Of such blocks alone, whatever was played to reach them, the waves are those
 //! of the circuit's values by the transport-delay definition. Every other list of blocks is refused, for the first
