@@ -18,7 +18,7 @@ const JOINED: &str =
 
 const GATES: &str =
     "the gates are AND, NAND, OR, NOR, XOR, XNOR, NOT, BUFF, BUF and DFF; examples/verilog_to_bench makes a bench of \
-    any Verilog that yosys takes";
+    Verilog by yosys";
 
 /// What a fault of a bench is about.
 pub fn of_bench(
