@@ -102,7 +102,8 @@ fn first_of(nodes: &[u64], time: u64) -> usize
     descend(nodes, root, time)
 }
 
-/// The first node of the second half under a seat whose time is no later than a time.
+/// The first node of the second half under a seat whose time is no later than a time. The node is told and not the leaf, which is the same, so
+/// that no way down branches: which half it is can't be foreseen.
 fn descend(nodes: &[u64], seat: Seat, time: u64) -> usize
     requires tournament { IsTournament nodes.now }
     requires seat { IsSeat nodes.now seat }
@@ -115,7 +116,7 @@ fn descend(nodes: &[u64], seat: Seat, time: u64) -> usize
     while below.width > 1 {
         below = half_by(nodes, below, time);
     }
-    below.leaf
+    below.node
 }
 
 /// The half of a seat in which the first time stands that is no later than a time.
