@@ -27,12 +27,13 @@ use Rattle.warp_part.proofs.PartLists.{has_past}
 use Rattle.warp_part.proofs.Placing.{nothing_past}
 use Rattle.warp_process.specs.Lawful.{IsLawful}
 use Rattle.warp_process.specs.Played.{played_view}
-use Rattle.warp_process.specs.View.{View, given_by, effective_at, is_busy}
+use Rattle.warp_process.specs.View.{View, given_by, effective_at}
+use Rattle.warp_process.specs.Heard.{IsHeardFrom}
 use Rattle.part_engine.specs.Runs.{IsEngineOf, IsNextBrought}
 use Rattle.part_engine.specs.Inner.Bringing.{first_move, AreFirstMoves, move_to, heard_move}
 use Rattle.part_engine.proofs.Sources.{source_out, delay_placed, delay_some, content_at}
 use Rattle.warp_process.proofs.Playing.{played_lawful}
-use Rattle.part_engine.proofs.Heeding.{some_or_none, unheard, heard_busy, quiet_none}
+use Rattle.part_engine.proofs.Heeding.{some_or_none, unheard}
 use Rattle.part_engine.proofs.Gathering.{to_own, to_other, gathered}
 
 -- what is effective moves a place to it, and else it stays
@@ -98,10 +99,13 @@ module _ (v : View) (run : Run) (floor : ℕ) (of : IsEngineOf v floor run) wher
 
   -- ---- until a time nothing is brought
 
-  module _ (time : ℕ) (ahead : run.book.mark ≤ time) (quiet : (t : ℕ) → run.book.mark ≤ t → t < time → is_busy (played_view v run.book.mark) t ≡ false) (start : run.book.mark ≡ 0 → time ≡ 0) where
+  module _ (time : ℕ) (ahead : run.book.mark ≤ time) (quiet : (t : ℕ) → run.book.mark ≤ t → t < time → IsHeardFrom v 0 t → ⊥) (start : run.book.mark ≡ 0 → time ≡ 0) where
+    unheard_at : (i t : ℕ) → i < count → run.book.mark ≤ t → t < time → effective_at v (net_of_place v.part i) t ≡ None
+    unheard_at i t l low high = some_or_none (effective_at v (net_of_place v.part i) t) (λ some. quiet t low high (omega arith, (i, l, some)))
+
     out_still : (i t : ℕ) → i < count → Out i → run.book.mark ≤ t → t < time → shown i (suc t) ≡ shown i t
     out_still i t l out low high =
-        heard_next i t l out ∙ ap (λ (o : Option Logic). unwrap_or o (shown i t)) (quiet_none (played_view v run.book.mark) lawful i t l (quiet t low high))
+        heard_next i t l out ∙ ap (λ (o : Option Logic). unwrap_or o (shown i t)) (unheard_at i t l low high)
 
     own_still : (i t : ℕ) → Own i → run.book.mark ≤ t → t < time → shown i (suc t) ≡ shown i t
     own_still i zero own low high = absurd (let e = start (omega arith) in omega arith)
@@ -214,5 +218,5 @@ module _ (v : View) (run : Run) (floor : ℕ) (of : IsEngineOf v floor run) wher
             let from : max run.book.mark v.floor ≤ at = h.0.0 in
             elim (cases_lt at time) [
               | inr late ↦ n (ap (λ (t : ℕ). Some t) (let e : at ≡ time = omega (arith, late, until) in e))
-              | inl early ↦ true≢false (sym (heard_busy (played_view v run.book.mark) lawful h.0.1.0 at h.0.1.1 h.0.1.2) ∙ quiet at (omega (arith, from)) early)
+              | inl early ↦ quiet at (omega (arith, from)) early (omega arith, h.0.1)
             ]

@@ -3,6 +3,7 @@ ghost use Rattle.std.specs.Prelude.{◌≡◌, ◌≤◌, ◌<◌, ◌++◌, ℕ
 ghost use Rattle.std.specs.List.{All, flat_map};
 ghost use Rattle.warp_journal.specs.Books.{IsBrought};
 ghost use Rattle.warp_part.specs.Placing.{place_source, place_given};
+ghost use Rattle.warp_process.specs.Heard.{IsHeardFrom};
 ghost use Rattle.warp_process.specs.Played.{played_view};
 ghost use Rattle.warp_process.specs.View.{given_by, is_busy};
 ghost use Rattle.part_engine.specs.Runs.{IsEngine, IsNextBrought};
@@ -16,8 +17,8 @@ use warp_stores::Word;
 
 /// Puts into a list, in place of what it had, the words that are brought to an engine at a time by what a block has received:
 /// the values that nets of other blocks and inputs take, and at time 0 what flip-flops begin with. Before that time nothing
-/// happens from the engine's mark on, and time 0 isn't passed over. What is received is looked at only where that time is the
-/// least one at which something is brought from outside. An error is a refused growth.
+/// is brought from outside from the engine's mark on, and time 0 isn't passed over. What is received is looked at only where that
+/// time is the least one at which something is brought. An error is a refused growth.
 pub fn bring(
     heard: &Heard,
     engine: &Engine,
@@ -29,7 +30,7 @@ pub fn bring(
     requires ahead { engine.now.book.mark ≤ time }
     requires floor { heard.now.floor ≤ time }
     requires within { time ≤ heard.now.horizon }
-    requires quiet { (t : ℕ) → engine.now.book.mark ≤ t → t < time → is_busy (played_view heard.now engine.now.book.mark) t ≡ false }
+    requires quiet { (t : ℕ) → engine.now.book.mark ≤ t → t < time → IsHeardFrom heard.now 0 t → ⊥ }
     requires start { engine.now.book.mark ≡ 0 → time ≡ 0 }
     requires brought { IsNextBrought heard.now engine.now.book.mark brought }
     ensures { OnOk result (IsBrought (place_source heard.now.part) (place_given heard.now.part (given_by heard.now)) engine.now.book.mark time words.new.items) }

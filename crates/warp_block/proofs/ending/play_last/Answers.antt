@@ -1,10 +1,16 @@
 use Rattle.warp_part.specs.Placing.{place_source, place_given}
+use Rattle.warp_process.specs.Played.{played_view}
 use Rattle.warp_process.specs.View.{given_by}
+use Rattle.warp_process.proofs.Playing.{played_lawful}
+use Rattle.warp_block.proofs.Unheard.{quiet_unheard}
 use Rattle.warp_block.proofs.Stepping.{ran, brought_as, engine_on}
 use Rattle.warp_block.proofs.ending.play_last.Goals as goal
 
 pub bring-requires-clause-quiet : goal.bring-requires-clause-quiet
-bring-requires-clause-quiet c = rw c.horizon-time.ensures.horizon c.requires.quiet
+bring-requires-clause-quiet c = λ t a b.
+    let v = c.args.heard.now in
+    let run = c.args.engine.now in
+    quiet_unheard (played_view v run.book.mark) (played_lawful v run.book.mark c.requires.at.engine.received) t (c.requires.quiet t a (rw c.horizon-time.ensures.horizon at b))
 
 pub play-requires-clause-may : goal.play-requires-clause-may
 play-requires-clause-may c = record {

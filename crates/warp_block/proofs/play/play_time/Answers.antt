@@ -1,13 +1,22 @@
 use Rattle.std.proofs.Common.{sym, subst}
 use Rattle.event_times.specs.Marks.{Played}
 use Rattle.warp_part.specs.Placing.{place_source, place_given}
+use Rattle.warp_process.specs.Played.{played_view}
 use Rattle.warp_process.specs.View.{given_by}
+use Rattle.warp_process.proofs.Playing.{played_lawful}
+use Rattle.warp_block.proofs.Unheard.{quiet_unheard}
 use Rattle.warp_block.specs.Inner.Held.{IsAt}
-use Rattle.warp_block.proofs.Stepping.{ran, brought_as, least_floor, at_below, at_played, at_unplayed}
+use Rattle.warp_block.proofs.Stepping.{ran, brought_as, least_floor, least_quiet, at_below, at_played, at_unplayed}
 use Rattle.warp_block.proofs.play.play_time.Goals as goal
 
 pub bring-requires-clause-floor : goal.bring-requires-clause-floor
 bring-requires-clause-floor c = least_floor c.args.heard.now c.args.engine.now c.args.times.now c.requires.at c.args.time c.requires.next
+
+pub bring-requires-clause-quiet : goal.bring-requires-clause-quiet
+bring-requires-clause-quiet c = λ t a b.
+    let v = c.args.heard.now in
+    let run = c.args.engine.now in
+    quiet_unheard (played_view v run.book.mark) (played_lawful v run.book.mark c.requires.at.engine.received) t (least_quiet v run c.args.times.now c.requires.at c.args.time c.requires.next t a b)
 
 pub push-requires : goal.push-requires
 push-requires c = at_below c.args.heard.now c.args.engine.now c.args.times.now c.requires.at c.args.time c.requires.next.0.0
