@@ -1,14 +1,12 @@
 -- What an engine plays that is told nothing but the stimulus.
-use Rattle.std.proofs.Common.{◌≡◌, ◌≢◌, ℕ, ◌+◌, ◌<◌, ◌≤◌, max, true, false, Option, Some, None, inl, inr, ap, sym, ◌∙◌, arith}
-use Rattle.std.proofs.lemmas.Bool.{cases_lt, true≢false, false_from_ne_true}
+use Rattle.std.proofs.Common.{◌≡◌, ◌≢◌, ℕ, ◌+◌, ◌<◌, ◌≤◌, max, false, Option, Some, None, IfSome, inl, inr, ap, arith}
+use Rattle.std.proofs.lemmas.Bool.{cases_lt, false_from_ne_true}
 use Rattle.warp_part.specs.Placing.{place_source, place_given}
-use Rattle.warp_process.specs.Heard.{IsReceived}
+use Rattle.warp_process.specs.Heard.{IsHeardFrom}
 use Rattle.warp_process.specs.View.{View, IsLeast, IsEventTime, given_by, is_busy}
 use Rattle.warp_process.specs.Played.{played_view}
-use Rattle.warp_process.proofs.Playing.{played_lawful}
 use Rattle.warp_engine.specs.Runs.{Run, Ran}
 use Rattle.part_engine.specs.Runs.{IsEngineOf, IsNextBrought}
-use Rattle.part_engine.proofs.Heeding.{heard_busy}
 
 -- what the engine has played
 abbrev pub ran : (v : View) (run : Run) → IsEngineOf v 0 run → Ran run
@@ -22,32 +20,31 @@ not_first v (Some t) least other = false_from_ne_true (is_busy (played_view v 0)
     let same : t ≡ 0 = omega (arith, low) in
     other (ap (λ (k : ℕ). Some k) same)))
 
--- before the next event time nothing happens
-pub least_quiet : (v : View) (m time : ℕ) → IsLeast (IsEventTime (played_view v m)) (Some time) → (t : ℕ) → m ≤ t → t < time → is_busy (played_view v m) t ≡ false
-least_quiet v m time least t a b = false_from_ne_true (is_busy (played_view v m) t) (λ busy.
-    (let end = least.0.1 in
-    let low = least.1 t (a, omega (arith, b, end), busy) in
-    absurd (omega (arith, b, low))))
-
-module _ (v : View) (received : IsReceived v) (m time : ℕ) (least : IsLeast (IsEventTime (played_view v m)) (Some time)) where
+-- a time up to which something is brought at its end alone
+module _ (v : View) (m time : ℕ) (brought : Option ℕ) (next : IsNextBrought v m brought) (until : IfSome brought (λ at. m ≤ at → time ≤ at)) where
   -- nothing is brought before it
-  since : (at : ℕ) → IsNextBrought v m (Some at) → time ≤ at
-  since at h =
-      let from : max m v.floor ≤ at = h.0.0 in
-      let busy : is_busy (played_view v m) at ≡ true = heard_busy (played_view v m) (played_lawful v m received) h.0.1.0 at h.0.1.1 h.0.1.2 in
-      elim (cases_lt at time) [
-        | inl before ↦ absurd (true≢false (sym busy ∙ least_quiet v m time least at (omega (arith, from)) before))
-        | inr later ↦ later
-      ]
+  pub none_before : v.floor ≡ 0 → (t : ℕ) → m ≤ t → t < time → IsHeardFrom v 0 t → ⊥
+  none_before none t from to heard = go brought next until
+    where
+      go : (o : Option ℕ) → IsNextBrought v m o → IfSome o (λ at. m ≤ at → time ≤ at) → ⊥
+      go None h u = h t (omega (arith, from, none), heard.1)
+      go (Some at) h u =
+          let low : max m v.floor ≤ at = h.0.0 in
+          let first : at ≤ t = h.1 t (omega (arith, from, none), heard.1) in
+          let end : time ≤ at = u (omega (arith, low)) in
+          omega (arith, first, end, to)
 
   -- what is brought next stays so once it is played, if nothing was brought at it
-  pub past : (brought : Option ℕ) → IsNextBrought v m brought → (mark : ℕ) → mark ≡ time + 1 → brought ≢ Some time → IsNextBrought v mark brought
-  past None h mark is other = λ t heard. (let from : max mark v.floor ≤ t = heard.0 in let low = least.0.0 in h t (omega (arith, is, low, from), heard.1))
-  past (Some at) h mark is other =
-      let from : max m v.floor ≤ at = h.0.0 in
-      let low = least.0.0 in
-      let later : time < at = elim (cases_lt time at) [
-        | inl l ↦ l
-        | inr until ↦ absurd (other (let first = since at h in let same : at ≡ time = omega (arith, first, until) in ap (λ (k : ℕ). Some k) same))
-      ] in
-      ((omega (arith, later, is, from), h.0.1), λ t heard. (let l : max mark v.floor ≤ t = heard.0 in h.1 t (omega (arith, is, low, l), heard.1)))
+  pub past : m ≤ time → (mark : ℕ) → mark ≡ time + 1 → brought ≢ Some time → IsNextBrought v mark brought
+  past ahead mark is other = go brought next until other
+    where
+      go : (o : Option ℕ) → IsNextBrought v m o → IfSome o (λ at. m ≤ at → time ≤ at) → o ≢ Some time → IsNextBrought v mark o
+      go None h u n = λ t heard. (let from : max mark v.floor ≤ t = heard.0 in h t (omega (arith, is, ahead, from), heard.1))
+      go (Some at) h u n =
+          let low : max m v.floor ≤ at = h.0.0 in
+          let end : time ≤ at = u (omega (arith, low)) in
+          let later : time < at = elim (cases_lt time at) [
+            | inl l ↦ l
+            | inr back ↦ absurd (n (let same : at ≡ time = omega (arith, end, back) in ap (λ (k : ℕ). Some k) same))
+          ] in
+          ((omega (arith, later, is, low), h.0.1), λ t heard. (let l : max mark v.floor ≤ t = heard.0 in h.1 t (omega (arith, is, ahead, l), heard.1)))

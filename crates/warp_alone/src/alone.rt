@@ -24,7 +24,7 @@ use warp_stores::{Steps, Word};
 
 /// All changes of the values of a circuit's nets under a stimulus, by time, up to a horizon. The stimulus fits the circuit; the horizon
 /// is at most [`MOST_HORIZON`](warp_process::MOST_HORIZON). There is no answer where the changes have no form in which they can be had
-/// by time as they come. The watch is told how far it has come, time by time. An error is a refused growth.
+/// by time as they come. The watch is told now and then how far it has come. An error is a refused growth.
 pub fn changes_alone<W: Watch>(
     alloc: Global,
     circuit: &Circuit,

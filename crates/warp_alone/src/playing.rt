@@ -1,10 +1,10 @@
 //! Plays a part that is told nothing but the stimulus, from time 0 to the horizon.
-ghost use Rattle.std.specs.Prelude.{◌≡◌, ◌≢◌, ◌≤◌, ◌<◌, ◌+◌, ℕ, false, Some, IfOk, OnOk};
-ghost use Rattle.warp_process.specs.Heard.{IsReceived};
+ghost use Rattle.std.specs.Prelude.{◌≡◌, ◌≢◌, ◌≤◌, ◌<◌, ◌+◌, ℕ, Some, IfSome, IfOk, OnOk};
+ghost use Rattle.warp_process.specs.Heard.{IsReceived, IsHeardFrom};
 ghost use Rattle.warp_process.specs.Limits.{most_horizon};
 ghost use Rattle.warp_process.specs.Opening.{silent_view};
 ghost use Rattle.warp_process.specs.Played.{played_view};
-ghost use Rattle.warp_process.specs.View.{is_busy, given_by};
+ghost use Rattle.warp_process.specs.View.{given_by};
 ghost use Rattle.warp_journal.specs.Books.{IsBrought};
 ghost use Rattle.warp_part.specs.Placing.{place_source, place_given};
 ghost use Rattle.part_engine.specs.Runs.{IsEngineOf, IsNextBrought, begins_of};
@@ -101,7 +101,11 @@ fn bring_at_first(heard: &Heard, engine: &Engine, words: &mut Vec<Word>) -> Resu
     Ok(())
 }
 
-/// Plays all times from the mark to the horizon, and tells the watch before which all is played. An error is a refused growth. The words
+/// In how many parts the time up to the horizon is played, where nothing is brought meanwhile: behind each a watch is told how far the run
+/// has come.
+const PARTS: u64 = 128;
+
+/// Plays all times from the mark to the horizon, and tells the watch before which all is played, at the mark too. An error is a refused growth. The words
 /// are a place to work in.
 fn play_all<W: Watch>(
     heard: &Heard,
@@ -116,24 +120,34 @@ fn play_all<W: Watch>(
     ensures engine { OnOk result (IsEngineOf heard.now 0 engine.new) }
     ensures mark { OnOk result (engine.new.book.mark ≡ heard.now.horizon + 1) }
 {
-    let begins = begins(heard.part());
+    watch.floor(engine.mark());
     let mut brought = next_brought(heard, engine);
-    while let Some(time) = next_time(heard, engine, begins, brought) {
-        play_time(heard, engine, time, brought, words)?;
+    while engine.mark() <= heard.horizon() {
+        let time = next_stop(engine.mark(), brought, heard.horizon());
+        play_to(heard, engine, time, brought, words)?;
         brought = brought_after(heard, engine, time, brought);
         watch.floor(engine.mark());
     }
-    if engine.mark() > heard.horizon() {
-        return Ok(());
-    }
-    play_time(heard, engine, heard.horizon(), brought, words)?;
-    watch.floor(engine.mark());
     Ok(())
 }
 
-/// Plays a time up to which nothing happens, by the least one at which something is brought. An error is a refused growth. The words are
-/// a place to work in.
-fn play_time(
+/// A time up to which an engine plays at once: at most a part of the time up to the horizon, and no further than to the least time at which
+/// something is brought.
+fn next_stop(mark: u64, brought: Option<u64>, horizon: u64) -> u64
+    requires { mark ≤ horizon }
+    ensures from { mark ≤ result }
+    ensures to { result ≤ horizon }
+    ensures brought { IfSome brought (λ time. mark ≤ time → result ≤ time) }
+{
+    let part = mark.saturating_add(horizon / PARTS).min(horizon);
+    match brought {
+        Some(time) => part.min(time).max(mark),
+        None => part,
+    }
+}
+
+/// Plays all times up to one, before which nothing is brought. An error is a refused growth. The words are a place to work in.
+fn play_to(
     heard: &Heard,
     engine: &mut Engine,
     time: u64,
@@ -145,7 +159,7 @@ fn play_time(
     requires some { 0 < engine.old.book.mark }
     requires ahead { engine.old.book.mark ≤ time }
     requires within { time ≤ heard.now.horizon }
-    requires quiet { (t : ℕ) → engine.old.book.mark ≤ t → t < time → is_busy (played_view heard.now engine.old.book.mark) t ≡ false }
+    requires quiet { (t : ℕ) → engine.old.book.mark ≤ t → t < time → IsHeardFrom heard.now 0 t → ⊥ }
     requires brought { IsNextBrought heard.now engine.old.book.mark brought }
     ensures engine { OnOk result (IsEngineOf heard.now 0 engine.new) }
     ensures mark { OnOk result (engine.new.book.mark ≡ time + 1) }

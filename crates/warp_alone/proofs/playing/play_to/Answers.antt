@@ -2,7 +2,7 @@ use Rattle.warp_part.specs.Placing.{place_source, place_given}
 use Rattle.warp_process.specs.View.{given_by}
 use Rattle.warp_block.proofs.Stepping.{brought_as, engine_on}
 use Rattle.warp_alone.proofs.Stepping.{ran}
-use Rattle.warp_alone.proofs.playing.play_time.Goals as goal
+use Rattle.warp_alone.proofs.playing.play_to.Goals as goal
 
 pub play-requires-clause-may : goal.play-requires-clause-may
 play-requires-clause-may c = record {
