@@ -3,7 +3,8 @@ use crate::causes::{Kind, mistaken};
 use crate::finding::Said;
 use crate::look::Look;
 use crate::sentence::Piece;
-use crate::words::{Word, is_space, word_at, word_behind};
+use crate::stamps::{is_behind_declarations, last_stamp};
+use crate::words::{Word, word_at, word_behind};
 use Piece::{Number, Quoted, Text};
 use gate_vcd::{StimCause, is_numeral};
 use std::alloc::{AllocError, Global};
@@ -70,14 +71,6 @@ const CUT_OFF: &str = "the text ends there: the dump may be cut off";
 /// Whether a text ends with this word, and not with a line's end.
 fn is_cut_off(text: &[u8], word: &Word<'_>) -> bool {
     !text.ends_with(b"\n") && word_behind(text, word).text.is_empty()
-}
-
-/// Whether the declarations have ended before an offset.
-fn is_behind_declarations(text: &[u8], at: usize) -> bool {
-    let before = text.get(..at).unwrap_or(text);
-    before
-        .split(|byte| is_space(*byte))
-        .any(|word| word == b"$enddefinitions".as_slice())
 }
 
 /// Whether there is a digit in a word that std_logic has and a dump hasn't.
@@ -167,21 +160,6 @@ fn bad_var(alloc: Global, source: Source<'_>, word: &Word<'_>) -> Result<Said, A
         Text(" of this variable is no number"),
     ];
     said(alloc, word, &cause, "")
-}
-
-/// The last stamp before an offset; no word where there is none.
-pub(crate) fn last_stamp(text: &[u8], end: usize) -> Word<'_> {
-    let before = text.get(..end).unwrap_or(text);
-    let mut stamp = Word { at: 0, text: &[] };
-    let mut at = 0usize;
-    for word in before.split(|byte| is_space(*byte)) {
-        match word {
-            [b'#', digits @ ..] if is_numeral(digits) => stamp = Word { at, text: word },
-            _ => {}
-        }
-        at = at.saturating_add(word.len()).saturating_add(1);
-    }
-    stamp
 }
 
 fn stamp_falls<'a>(alloc: Global, source: Source<'a>, word: &Word<'a>) -> Result<Said, AllocError> {

@@ -32,25 +32,48 @@ pub fn of_input(
     if !matches!(look, Look::Dump | Look::Other) {
         return Ok(Found::InStimulus(misplaced(alloc, look, Kind::Stimulus)?));
     }
-    let name = name_of(alloc, bench.text, settings, net)?;
-    let name = name.as_str();
+    let circuit = circuit_of(alloc, bench.text, settings);
+    let input = circuit
+        .as_ref()
+        .map_or(Input::UNKNOWN, |circuit| Input::of(circuit, net));
     match cause {
         StimCause::NotScalar => {
-            let finding = not_scalar(alloc, stimulus.text, name)?;
+            let finding = not_scalar(alloc, stimulus.text, &input)?;
             Ok(Found::InStimulus(finding))
         }
-        _ => missing(alloc, bench, stimulus, name),
+        _ => missing(alloc, bench, stimulus, &input),
     }
 }
 
-/// The name of a net; empty where the circuit can't be had.
-fn name_of(alloc: Global, bench: &[u8], settings: &[u8], net: u64) -> Result<String, AllocError> {
-    match circuit_of(alloc, bench, settings) {
-        Some(circuit) if net < u64::from(circuit.nets()) => String::from_str(
-            alloc,
-            circuit.name(net as u32),
-        ),
-        _ => Ok(String::new(alloc)),
+/// An input, and the scope in which its variable stands, where the settings name one.
+#[derive(Clone, Copy)]
+struct Input<'c> {
+    name: &'c str,
+    scope: Option<&'c [u8]>,
+}
+
+impl<'c> Input<'c> {
+    /// One of a circuit that can't be had.
+    const UNKNOWN: Input<'static> = Input {
+        name: "",
+        scope: None,
+    };
+
+    /// The input of this number.
+    fn of(circuit: &'c Circuit, net: u64) -> Input<'c> {
+        let name = if net < u64::from(circuit.nets()) {
+            circuit.name(net as u32)
+        } else {
+            ""
+        };
+        Input {
+            name,
+            scope: circuit.scope().map(str::as_bytes),
+        }
+    }
+
+    fn bytes(&self) -> &'c [u8] {
+        self.name.as_bytes()
     }
 }
 
@@ -65,19 +88,69 @@ pub(crate) fn circuit_of(alloc: Global, bench: &[u8], settings: &[u8]) -> Option
     }
 }
 
-/// A vector that is declared in place of a scalar.
-fn not_scalar<'a>(alloc: Global, text: &'a [u8], name: &'a str) -> Result<Finding, AllocError> {
-    let input = Quoted(name.as_bytes());
-    let found = find_variable(text, Wanted::Named(name.as_bytes()));
-    let Some(Variable { size, name: word }) = found else {
-        let cause = [Text("no variable of one bit gives the input "), input];
-        return Finding::at(alloc, &front(text), &cause, &[]);
-    };
+/// An input that variables are named for, none of which gives its bit.
+fn not_scalar(alloc: Global, text: &[u8], input: &Input<'_>) -> Result<Finding, AllocError> {
+    match find_variable(alloc, text, input.scope, Wanted::Named(input.bytes()))? {
+        Some(variable) if variable.is_unvalued() => of_type(alloc, &variable, input.name),
+        Some(variable) if variable.has_one_bit() => with_range(alloc, &variable, input.name),
+        Some(variable) => vector(alloc, &variable, input.name),
+        None => {
+            let cause = [
+                Text("no variable of one bit gives the input "),
+                Quoted(input.bytes()),
+            ];
+            Finding::at(alloc, &front(text), &cause, &[])
+        }
+    }
+}
+
+/// A variable in place of a scalar whose values are no bits.
+fn of_type<'a>(
+    alloc: Global,
+    variable: &Variable<'a>,
+    name: &'a str,
+) -> Result<Finding, AllocError> {
     let cause = [
         Text("the input "),
-        input,
+        Quoted(name.as_bytes()),
+        Text(" is one bit, and this variable is of the type "),
+        Quoted(variable.kind.text),
+    ];
+    let help = [
+        Text("declare a variable of one bit, as $var wire 1 ! "),
+        Text(name),
+        Text(" $end"),
+    ];
+    Finding::at(alloc, &variable.name, &cause, &help)
+}
+
+/// A variable of one bit whose range makes another name of its own.
+fn with_range<'a>(
+    alloc: Global,
+    variable: &'a Variable<'a>,
+    name: &'a str,
+) -> Result<Finding, AllocError> {
+    let cause = [
+        Text("by its range this variable is the bit "),
+        Quoted(variable.reference()),
+        Text(", which isn't the input "),
+        Quoted(name.as_bytes()),
+    ];
+    let advice = "drop the range, or write it as [0:0]";
+    Finding::at(alloc, &variable.name, &cause, &[Text(advice)])
+}
+
+/// A vector that is declared in place of a scalar.
+fn vector<'a>(
+    alloc: Global,
+    variable: &Variable<'a>,
+    name: &'a str,
+) -> Result<Finding, AllocError> {
+    let cause = [
+        Text("the input "),
+        Quoted(name.as_bytes()),
         Text(" is one bit, which this variable of size "),
-        Quoted(size.text),
+        Quoted(variable.size.text),
         Text(" doesn't give"),
     ];
     let help = [
@@ -87,7 +160,7 @@ fn not_scalar<'a>(alloc: Global, text: &'a [u8], name: &'a str) -> Result<Findin
         Text(name),
         Text("[1]` and so on in the bench, or declare a variable of one bit"),
     ];
-    Finding::at(alloc, &word, &cause, &help)
+    Finding::at(alloc, &variable.name, &cause, &help)
 }
 
 /// No word, at a text's beginning.
@@ -95,22 +168,44 @@ fn front(text: &[u8]) -> Word<'_> {
     Word::of(text, 0, 0)
 }
 
-/// An input for which no variable is named.
+/// An input for which no variable is named in the scope that the settings name, or in any where they name none.
 fn missing(
     alloc: Global,
     bench: Source<'_>,
     stimulus: Source<'_>,
-    name: &str,
+    input: &Input<'_>,
 ) -> Result<Found, AllocError> {
-    if let Some(variable) = find_variable(stimulus.text, Wanted::Named(name.as_bytes())) {
-        let finding = in_another_scope(alloc, &variable, name)?;
+    let text = stimulus.text;
+    let name = input.bytes();
+    if let Some(variable) = find_variable(alloc, text, None, Wanted::Named(name))? {
+        let finding = in_another_scope(alloc, &variable, input.name)?;
         return Ok(Found::InStimulus(finding));
     }
-    if let Some(variable) = find_variable(stimulus.text, Wanted::InAnyCase(name.as_bytes())) {
-        let finding = in_another_case(alloc, &variable, name)?;
+    if let Some(variable) = find_variable(alloc, text, input.scope, Wanted::BeginsWith(name))? {
+        let finding = of_more_words(alloc, &variable, input.name)?;
         return Ok(Found::InStimulus(finding));
     }
-    undeclared(alloc, bench, stimulus, name)
+    if let Some(variable) = find_variable(alloc, text, input.scope, Wanted::InAnyCase(name))? {
+        let finding = in_another_case(alloc, &variable, input.name)?;
+        return Ok(Found::InStimulus(finding));
+    }
+    undeclared(alloc, bench, stimulus, input.name)
+}
+
+/// A variable whose name goes on behind the word that is meant, where its `$end` stands too late.
+fn of_more_words<'a>(
+    alloc: Global,
+    variable: &'a Variable<'a>,
+    name: &'a str,
+) -> Result<Finding, AllocError> {
+    let cause = [
+        Text("no variable is named "),
+        Quoted(name.as_bytes()),
+        Text(", and the words of this one up to its $end make the name "),
+        Quoted(variable.reference()),
+    ];
+    let advice = "behind the name stand its range, if it has one, and the word $end";
+    Finding::at(alloc, &variable.name, &cause, &[Text(advice)])
 }
 
 fn in_another_scope(
@@ -130,14 +225,14 @@ fn in_another_scope(
 
 fn in_another_case<'a>(
     alloc: Global,
-    variable: &Variable<'a>,
+    variable: &'a Variable<'a>,
     name: &'a str,
 ) -> Result<Finding, AllocError> {
     let cause = [
         Text("no variable is named "),
         Quoted(name.as_bytes()),
         Text(", and this one is "),
-        Quoted(variable.name.text),
+        Quoted(variable.reference()),
     ];
     let advice = "names keep their letters' case: rename one of the two";
     Finding::at(alloc, &variable.name, &cause, &[Text(advice)])
@@ -174,10 +269,16 @@ fn without_variable<'a>(
         Text(" has no variable for the input "),
         Quoted(name.as_bytes()),
     ];
+    let (front, end) = if name.starts_with('\\') {
+        ("\\", " $end, for one \\ in front is dropped")
+    } else {
+        ("", " $end")
+    };
     let help = [
         Text("declare it there, as $var wire 1 ! "),
+        Text(front),
         Text(name),
-        Text(" $end"),
+        Text(end),
     ];
     Finding::at(alloc, word, &cause, &help)
 }

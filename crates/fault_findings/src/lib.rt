@@ -23,6 +23,7 @@ mod only;
 mod schedule;
 mod sentence;
 mod settings;
+mod stamps;
 mod variables;
 mod words;
 

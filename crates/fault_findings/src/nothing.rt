@@ -1,10 +1,10 @@
 //! Why nothing of two dumps is compared.
 use crate::bits::{Bits, Both, scope_before};
 use crate::compared::Compared;
-use crate::dump::last_stamp;
 use crate::finding::Finding;
 use crate::near::path_to;
 use crate::sentence::{Piece, sentence};
+use crate::stamps::last_stamp;
 use crate::variables::{Wanted, find_variable};
 use crate::words::{Word, word_from};
 use Piece::{Bytes, Number, Quoted, Text};
@@ -91,11 +91,12 @@ fn no_bits<'a>(
             " is the first bit of the dump: --scope E=A names the scope of each dump, its levels joined by dots",
         ),
     ];
-    Finding::at(alloc, &variable_of(text, path), &cause, &help)
+    let word = variable_of(alloc, text, path)?;
+    Finding::at(alloc, &word, &cause, &help)
 }
 
 /// The name of a bit's variable, where it is declared; no word where it isn't found.
-fn variable_of<'a>(text: &'a [u8], path: &[u8]) -> Word<'a> {
+fn variable_of<'a>(alloc: Global, text: &'a [u8], path: &[u8]) -> Result<Word<'a>, AllocError> {
     let name = match path.iter().rposition(|byte| *byte == b'.') {
         Some(dot) => path.get(dot.saturating_add(1)..).unwrap_or(path),
         None => path,
@@ -104,9 +105,9 @@ fn variable_of<'a>(text: &'a [u8], path: &[u8]) -> Word<'a> {
         Some(bracket) => name.get(..bracket).unwrap_or(name),
         None => name,
     };
-    match find_variable(text, Wanted::Named(name)) {
-        Some(variable) => variable.name,
-        None => Word::of(text, 0, 0),
+    match find_variable(alloc, text, None, Wanted::Named(name))? {
+        Some(variable) => Ok(variable.name),
+        None => Ok(Word::of(text, 0, 0)),
     }
 }
 
@@ -127,7 +128,7 @@ fn without_pairs(
     let other = actual.place(alloc)?;
     let help = pairs_help(alloc, expected, actual)?;
     let name = expected.first();
-    let word = variable_of(texts.expected.text, name);
+    let word = variable_of(alloc, texts.expected.text, name)?;
     no_pairs(alloc, &word, name, (own.as_str(), other.as_str()), help)
 }
 
