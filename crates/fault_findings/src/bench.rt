@@ -20,13 +20,15 @@ const GATES: &str =
     "the gates are AND, NAND, OR, NOR, XOR, XNOR, NOT, BUFF, BUF and DFF; examples/verilog_to_bench makes a bench of \
     Verilog by yosys";
 
+const COMMENT: &str = "a comment begins with #";
+
 /// What a fault of a bench is about.
 pub fn of_bench(
     alloc: Global,
     source: Source<'_>,
     fault: &BenchFault,
 ) -> Result<Finding, AllocError> {
-    let look = Look::of(source.text);
+    let look = Look::of(alloc, source.text)?;
     if !matches!(look, Look::Bench | Look::Other) {
         return misplaced(alloc, look, Kind::Bench);
     }
@@ -107,6 +109,9 @@ fn letter_length(text: &[u8]) -> usize {
 
 fn bad_line(alloc: Global, source: Source<'_>, line: &Line<'_>) -> Result<Finding, AllocError> {
     let pieces = pieces(alloc, line)?;
+    if let Some(word) = foreign_comment(pieces.as_slice()) {
+        return no_comment(alloc, &word);
+    }
     let (found, state) = break_of(pieces.as_slice());
     match found {
         Some(word) => stray(alloc, &word, state),
@@ -115,6 +120,24 @@ fn bad_line(alloc: Global, source: Source<'_>, line: &Line<'_>) -> Result<Findin
             cut_line(alloc, &end, state, line.text.starts_with(b"%%"))
         }
     }
+}
+
+/// The first word of a line that is a comment in other languages.
+fn foreign_comment<'a>(pieces: &[Word<'a>]) -> Option<Word<'a>> {
+    match pieces {
+        [_, equals, ..] if equals.is("=") => None,
+        [first, ..] if begins_comment(first.text) => Some(*first),
+        _ => None,
+    }
+}
+
+fn begins_comment(word: &[u8]) -> bool {
+    matches!(word, [b'/', b'/' | b'*', ..] | [b'-', b'-', ..])
+}
+
+fn no_comment(alloc: Global, word: &Word<'_>) -> Result<Finding, AllocError> {
+    let cause = [Quoted(word.text), Text(" begins no comment in a bench")];
+    Finding::at(alloc, word, &cause, &[Text(COMMENT)])
 }
 
 /// A line that ends too early, also one that parts two texts.
@@ -144,7 +167,7 @@ fn stray(alloc: Global, word: &Word<'_>, state: State) -> Result<Finding, AllocE
     let advice = match word.text {
         [b';', ..] if state == State::End =>
             "a line of a bench has no semicolon; a comment begins with #",
-        [b'/', b'/', ..] => "a comment begins with #",
+        [b'/', b'/', ..] => COMMENT,
         _ => FORMS,
     };
     Finding::at(alloc, word, &cause, &[Text(advice)])

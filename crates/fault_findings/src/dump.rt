@@ -18,7 +18,7 @@ pub fn of_dump(
     cause: StimCause,
     at: usize,
 ) -> Result<Said, AllocError> {
-    let look = Look::of(source.text);
+    let look = Look::of(alloc, source.text)?;
     if !matches!(look, Look::Dump | Look::Other) {
         return mistaken(alloc, look, kind);
     }

@@ -28,7 +28,7 @@ pub fn of_input(
     cause: StimCause,
     net: u64,
 ) -> Result<Found, AllocError> {
-    let look = Look::of(stimulus.text);
+    let look = Look::of(alloc, stimulus.text)?;
     if !matches!(look, Look::Dump | Look::Other) {
         return Ok(Found::InStimulus(misplaced(alloc, look, Kind::Stimulus)?));
     }

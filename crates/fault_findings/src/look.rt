@@ -1,5 +1,7 @@
 //! What a text looks like that stands where another is expected.
-use crate::words::{Word, is_space, line_around, word_from};
+use crate::form::{State, break_of, pieces};
+use crate::words::{Line, Word, is_space, line_around, without_end, word_from};
+use std::alloc::{AllocError, Global};
 
 /// What a text looks like.
 #[derive(Clone, Copy, PartialEq, Eq)]
@@ -21,8 +23,16 @@ pub(crate) enum Look {
 const FST: [u8; 9] = [0, 0, 0, 0, 0, 0, 0, 1, 73];
 
 impl Look {
-    pub(crate) fn of(text: &[u8]) -> Look {
-        Look::of_bytes(text).unwrap_or(Look::of_words(text))
+    pub(crate) fn of(alloc: Global, text: &[u8]) -> Result<Look, AllocError> {
+        if let Some(look) = Look::of_bytes(text) {
+            return Ok(look);
+        }
+        let line = first_line(text);
+        match Look::of_line(&line) {
+            Look::Dump => Ok(dump_of(text)),
+            look if look.is_borne_out(alloc, text)? => Ok(look),
+            _ => Ok(Look::Other),
+        }
     }
 
     /// By bytes that no text begins with.
@@ -46,11 +56,10 @@ impl Look {
     }
 
     /// By the first line that says something.
-    fn of_words(text: &[u8]) -> Look {
-        let line = first_line(text);
+    fn of_line(line: &Line<'_>) -> Look {
         let first = word_from(line.text, 0);
         match first.text {
-            [b'$', word @ ..] if begins_dump(word) => dump_of(text),
+            [b'$', word @ ..] if begins_dump(word) => Look::Dump,
             [b'`', ..] | [b'/', b'/', ..] | [b'/', b'*', ..] | [b'(', b'*', ..] => Look::Verilog,
             [b'-', b'-', ..] => Look::Vhdl,
             [b'[', ..] => Look::Settings,
@@ -59,6 +68,17 @@ impl Look {
             _ if line.text.contains(&b'(') => Look::Bench,
             _ if line.text.contains(&b'=') => Look::Settings,
             _ => Look::Other,
+        }
+    }
+
+    /// Whether the whole text is what its first line looks like.
+    fn is_borne_out(self, alloc: Global, text: &[u8]) -> Result<bool, AllocError> {
+        match self {
+            Look::Verilog => Ok(has_unit(text, &VERILOG)),
+            Look::Vhdl => Ok(has_unit(text, &VHDL)),
+            Look::Bench => is_mostly_bench(alloc, text),
+            Look::Settings => Ok(toml::table_from_slice(alloc, text).is_ok()),
+            _ => Ok(true),
         }
     }
 
@@ -110,6 +130,42 @@ fn first_line(text: &[u8]) -> Word<'_> {
         }
     }
     line_around(text, at)
+}
+
+/// The words that begin lines of each Verilog text.
+const VERILOG: [&str; 5] = ["module", "endmodule", "package", "interface", "primitive"];
+
+/// The words that begin lines of each VHDL text.
+const VHDL: [&str; 5] = ["library", "use", "entity", "architecture", "package"];
+
+/// Whether a line begins with one of these words, in any letter case.
+fn has_unit(text: &[u8], words: &[&str]) -> bool {
+    for line in text.split(|byte| *byte == b'\n') {
+        let first = word_from(line, 0);
+        if words.iter().any(|word| first.is_like(word)) {
+            return true;
+        }
+    }
+    false
+}
+
+/// Whether at least half of the lines that say something have the form of a bench's lines.
+fn is_mostly_bench(alloc: Global, text: &[u8]) -> Result<bool, AllocError> {
+    let mut like = 0u64;
+    let mut unlike = 0u64;
+    for line in text.split_inclusive(|byte| *byte == b'\n') {
+        let content = Word {
+            at: 0,
+            text: without_end(line),
+        };
+        let pieces = pieces(alloc, &content)?;
+        match break_of(pieces.as_slice()) {
+            (None, State::End) => like = like.saturating_add(1),
+            (None, State::Nothing) => {}
+            _ => unlike = unlike.saturating_add(1),
+        }
+    }
+    Ok(unlike <= like)
 }
 
 /// The commands that stand at the beginning of dumps.

@@ -23,7 +23,7 @@ pub fn of_map(
     map: Source<'_>,
     fault: &MapFault,
 ) -> Result<Finding, AllocError> {
-    let look = Look::of(map.text);
+    let look = Look::of(alloc, map.text)?;
     if is_mistaken(look, fault.cause) {
         return misplaced(alloc, look, Kind::Map);
     }

@@ -21,7 +21,7 @@ pub fn of_only(
     names: Source<'_>,
     fault: &OnlyFault,
 ) -> Result<Finding, AllocError> {
-    let look = Look::of(names.text);
+    let look = Look::of(alloc, names.text)?;
     if look != Look::Other {
         return misplaced(alloc, look, Kind::Names);
     }

@@ -18,7 +18,7 @@ pub fn of_schedule(
     line: u64,
     is_large: bool,
 ) -> Result<Finding, AllocError> {
-    let look = Look::of(source.text);
+    let look = Look::of(alloc, source.text)?;
     if look != Look::Other {
         return misplaced(alloc, look, Kind::Schedule);
     }

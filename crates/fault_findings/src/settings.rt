@@ -32,7 +32,7 @@ pub fn of_settings(
     source: Source<'_>,
     fault: SettingsFault,
 ) -> Result<Finding, AllocError> {
-    let look = Look::of(source.text);
+    let look = Look::of(alloc, source.text)?;
     if !matches!(look, Look::Settings | Look::Bench | Look::Other) {
         return misplaced(alloc, look, Kind::Settings);
     }
