@@ -1,5 +1,8 @@
-//! Lines of names.
+//! Lines of words.
+use crate::finding::Finding;
+use crate::sentence::Piece;
 use crate::words::{Line, Word, is_space, without_end, word_from};
+use Piece::Text;
 use std::alloc::{AllocError, Global};
 use text_places::Source;
 
@@ -14,6 +17,22 @@ pub(crate) fn words_in<'a>(alloc: Global, line: &Line<'a>) -> Result<Vec<Word<'a
         at = at.saturating_add(text.len()).saturating_add(1);
     }
     Ok(words)
+}
+
+/// What is told of a line with a carriage return, which is a byte of it there, and no part of its end.
+pub(crate) fn stray_return(alloc: Global, line: &Line<'_>) -> Result<Option<Finding>, AllocError> {
+    let Some(place) = line.text.iter().position(|byte| *byte == b'\r') else {
+        return Ok(None);
+    };
+    let word = Word::of(line.text, place, 1);
+    let at = Word {
+        at: line.at.saturating_add(place),
+        text: word.text,
+    };
+    let cause = [Text("a carriage return stands here, and no line feed behind it")];
+    let advice = "let lines end by LF or CRLF";
+    let finding = Finding::at(alloc, &at, &cause, &[Text(advice)])?;
+    Ok(Some(finding))
 }
 
 /// A line of a text, and its number in the text's file.

@@ -2,7 +2,7 @@
 use crate::causes::{Kind, misplaced};
 use crate::finding::Finding;
 use crate::inputs::circuit_of;
-use crate::lines::{Named, first_named, words_in};
+use crate::lines::{Named, first_named, stray_return, words_in};
 use crate::look::Look;
 use crate::near::nearest;
 use crate::sentence::{Piece, sentence};
@@ -26,6 +26,9 @@ pub fn of_only(
         return misplaced(alloc, look, Kind::Names);
     }
     let line = line_of(names.text, fault.line);
+    if let Some(finding) = stray_return(alloc, &line)? {
+        return Ok(finding);
+    }
     let words = words_in(alloc, &line)?;
     match (fault.cause, words.as_slice()) {
         (OnlyCause::NamedTwice, [name, ..]) => named_twice(alloc, names, name),

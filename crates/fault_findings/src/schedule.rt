@@ -1,6 +1,7 @@
 //! What is wrong with a schedule.
 use crate::causes::{Kind, misplaced};
 use crate::finding::Finding;
+use crate::lines::stray_return;
 use crate::look::Look;
 use crate::sentence::Piece;
 use crate::words::{Word, line_of, word_behind, word_from};
@@ -25,9 +26,11 @@ pub fn of_schedule(
     let line = line_of(source.text, line);
     let first = first_word(source.text, line.at);
     if is_large {
-        too_large(alloc, source.text, &first)
-    } else {
-        no_event(alloc, source.text, &first, line.text.trim_ascii())
+        return too_large(alloc, source.text, &first);
+    }
+    match stray_return(alloc, &line)? {
+        Some(finding) => Ok(finding),
+        None => no_event(alloc, source.text, &first, line.text.trim_ascii()),
     }
 }
 

@@ -55,20 +55,22 @@ pub(crate) fn line_around(text: &[u8], at: usize) -> Line<'_> {
         None => 0,
     };
     let rest = text.get(start..).unwrap_or(&[]);
-    let length = rest
-        .iter()
-        .position(|byte| *byte == b'\n')
-        .unwrap_or(rest.len());
+    let length = match rest.iter().position(|byte| *byte == b'\n') {
+        Some(feed) => feed.saturating_add(1),
+        None => rest.len(),
+    };
     Word {
         at: start,
         text: without_end(rest.get(..length).unwrap_or(rest)),
     }
 }
 
-/// A line without its line feed, and without the carriage return before it.
+/// A line without its line feed, and without the carriage return before that.
 pub(crate) fn without_end(line: &[u8]) -> &[u8] {
-    let line = line.strip_suffix(b"\n").unwrap_or(line);
-    line.strip_suffix(b"\r").unwrap_or(line)
+    match line.strip_suffix(b"\n") {
+        Some(front) => front.strip_suffix(b"\r").unwrap_or(front),
+        None => line,
+    }
 }
 
 pub(crate) fn is_space(byte: u8) -> bool {
