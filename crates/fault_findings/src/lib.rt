@@ -20,6 +20,7 @@ mod map;
 mod near;
 mod nothing;
 mod only;
+mod quotes;
 mod schedule;
 mod sentence;
 mod settings;

@@ -2,10 +2,10 @@
 use crate::causes::{Kind, misplaced};
 use crate::finding::Finding;
 use crate::inputs::circuit_of;
-use crate::keys::key_at;
+use crate::keys::{Key, key_at};
 use crate::look::Look;
 use crate::sentence::Piece;
-use crate::words::Word;
+use crate::words::{Word, behind_mark};
 use Piece::{Quoted, Text};
 use gate_netlist::{Circuit, Driver, SettingsFault};
 use std::alloc::{AllocError, Global};
@@ -22,8 +22,8 @@ const KINDS: [&str; 9] = [
 
 const TABLES: [&str; 5] = ["gate", "net", "block", "clocks", "init"];
 
-/// A key of settings, by the name of its table, empty at the top.
-type Key<'t> = (&'t str, &'t str);
+/// How many parts of a name are looked at, at most.
+const MOST_PARTS: usize = 80;
 
 /// What a fault of settings is about.
 pub fn of_settings(
@@ -32,7 +32,7 @@ pub fn of_settings(
     source: Source<'_>,
     fault: SettingsFault,
 ) -> Result<Finding, AllocError> {
-    let look = Look::of(alloc, source.text)?;
+    let look = Look::of(alloc, behind_mark(source.text))?;
     if !matches!(look, Look::Settings | Look::Bench | Look::Other) {
         return misplaced(alloc, look, Kind::Settings);
     }
@@ -42,8 +42,8 @@ pub fn of_settings(
         Err(error) => return no_toml(alloc, source, &error),
     };
     let circuit = circuit_of(alloc, bench.text, &[]);
-    let key = key_of(&table, circuit.as_ref(), fault).unwrap_or(("", ""));
-    told(alloc, source, key, fault)
+    let key = key_of(&table, circuit.as_ref(), fault).unwrap_or(Key::at_top(""));
+    told(alloc, source, &table, key, fault)
 }
 
 fn no_toml(
@@ -63,48 +63,160 @@ fn no_toml(
 fn told(
     alloc: Global,
     source: Source<'_>,
+    settings: &Table,
     key: Key<'_>,
     fault: SettingsFault,
 ) -> Result<Finding, AllocError> {
-    let (table, name) = key;
-    let word = key_at(source.text, table, name);
-    if name.contains('\r') {
-        return with_return(alloc, &word, name);
+    let word = key_at(alloc, source.text, key)?;
+    if key.name.contains('\r') {
+        return with_return(alloc, &word, key.name);
     }
-    let meant = if name.is_empty() { table } else { name };
-    let (before, behind) = cause_of(table, fault);
-    let cause = [Text(before), Quoted(meant.as_bytes()), Text(behind)];
-    Finding::at(alloc, &word, &cause, &[Text(advice_of(table, fault))])
+    let value = value_of(settings, key);
+    if matches!(fault, SettingsFault::BadClock) && !is_table(value) {
+        return bad_clock(alloc, &word, key, value.and_then(Value::as_str));
+    }
+    let (before, behind) = cause_of(key.table, fault);
+    let cause = [Text(before), Quoted(key.name.as_bytes()), Text(behind)];
+    match whole_name(alloc, key, value)? {
+        Some(name) => Finding::at(alloc, &word, &cause, &in_quotes(name.as_str())),
+        None => Finding::at(alloc, &word, &cause, &[Text(advice_of(key.table, fault))]),
+    }
+}
+
+fn value_of<'t>(settings: &'t Table, key: Key<'_>) -> Option<&'t Value> {
+    match key.table {
+        Some(table) => settings
+            .get(table)
+            .and_then(Value::as_table)
+            .and_then(|members| members.get(key.name)),
+        None => settings.get(key.name),
+    }
+}
+
+fn is_table(value: Option<&Value>) -> bool {
+    matches!(value, Some(Value::Table(_)))
+}
+
+/// The first member of a value that is a table.
+fn first_member<'t>(value: &'t Value) -> Option<(&'t str, &'t Value)> {
+    match value.as_table().and_then(|members| members.iter().next()) {
+        Some((name, value)) => Some((name.as_str(), value)),
+        None => None,
+    }
+}
+
+/// The name of a net that is meant by a member whose value is a table, where its dots have parted the name.
+fn whole_name(
+    alloc: Global,
+    key: Key<'_>,
+    value: Option<&Value>,
+) -> Result<Option<String>, AllocError> {
+    let Some((part, mut value)) = value.and_then(first_member) else {
+        return Ok(None);
+    };
+    if matches!(key.table, None | Some("gate")) {
+        return Ok(None);
+    }
+    let mut name = String::from_str(alloc, key.name)?;
+    push_part(&mut name, part)?;
+    for _ in 0..MOST_PARTS {
+        let Some((part, inner)) = first_member(value) else {
+            return Ok(Some(name));
+        };
+        push_part(&mut name, part)?;
+        value = inner;
+    }
+    Ok(Some(name))
+}
+
+fn push_part(name: &mut String, part: &str) -> Result<(), AllocError> {
+    name.push_str(".")?;
+    name.push_str(part)
+}
+
+/// What to do about a name with dots.
+fn in_quotes<'a>(name: &'a str) -> [Piece<'a>; 3] {
+    [
+        Text("a name with a dot is written in quotes, as \""),
+        Text(name),
+        Text("\""),
+    ]
+}
+
+/// A clock, or the key that gives it, that is no net.
+fn bad_clock<'a>(
+    alloc: Global,
+    word: &Word<'_>,
+    key: Key<'a>,
+    clock: Option<&'a str>,
+) -> Result<Finding, AllocError> {
+    let flop = Quoted(key.name.as_bytes());
+    let advice = "[clocks] names nets of the bench, or the clock that the key `clock` gives";
+    let Some(clock) = clock else {
+        let cause = [Text("the clock of "), flop, Text(" is no text")];
+        return Finding::at(
+            alloc,
+            word,
+            &cause,
+            &[Text("clocks are texts, between quotes")],
+        );
+    };
+    let clock = Quoted(clock.as_bytes());
+    match key.table {
+        Some(_) => {
+            let end = Text(" is no net, and none is added for it");
+            let cause = [Text("the clock "), clock, Text(" of "), flop, end];
+            Finding::at(alloc, word, &cause, &[Text(advice)])
+        }
+        None => {
+            let end = Text(
+                ", the clock of flip-flops, is no net, and no bench has a net of this name",
+            );
+            let advice =
+                "a name is of the letters, digits and signs of ASCII, without blanks, # ( ) , and =";
+            Finding::at(alloc, word, &[clock, end], &[Text(advice)])
+        }
+    }
 }
 
 fn names_flops(table: &str) -> bool {
     table == "clocks" || table == "init"
 }
 
-/// What stands before a key and behind it in the sentence of a cause.
-fn cause_of(table: &str, fault: SettingsFault) -> (&'static str, &'static str) {
-    match fault {
-        SettingsFault::UnknownKey => ("", " is no key of settings, or has a value of another type"),
-        SettingsFault::UnknownNet if names_flops(table) => ("the bench has no flip-flop ", ""),
-        SettingsFault::UnknownNet => ("the bench has no gate and no flip-flop ", ""),
-        SettingsFault::BadDelay => ("the delay of ", " is no whole number from 1 to 1,000,000"),
-        SettingsFault::BadCut => ("the block of ", " is no whole number from 0 to 1023"),
-        SettingsFault::BadClock => ("the clock of ", " is no net, and none is added for it"),
+/// What stands before a key of a table and behind it in the sentence of a cause.
+fn cause_of(table: Option<&str>, fault: SettingsFault) -> (&'static str, &'static str) {
+    match (fault, table) {
+        (SettingsFault::UnknownKey, Some(_)) => ("[gate] has no key ", ""),
+        (SettingsFault::UnknownKey, None) => (
+            "",
+            " is no key of settings, or has a value of another type",
+        ),
+        (SettingsFault::UnknownNet, Some(table)) if names_flops(table) => (
+            "the bench has no flip-flop ",
+            "",
+        ),
+        (SettingsFault::UnknownNet, _) => ("the bench has no gate and no flip-flop ", ""),
+        (SettingsFault::BadDelay, _) => (
+            "the delay of ",
+            " is no whole number from 1 to 1,000,000",
+        ),
+        (SettingsFault::BadCut, _) => ("the block of ", " is no whole number from 0 to 1023"),
+        (SettingsFault::BadClock, _) => ("the clock of ", " is no text"),
         _ => ("the content of ", " is not \"0\", \"1\" or \"x\""),
     }
 }
 
-fn advice_of(table: &str, fault: SettingsFault) -> &'static str {
-    match fault {
-        SettingsFault::UnknownKey =>
+fn advice_of(table: Option<&str>, fault: SettingsFault) -> &'static str {
+    match (fault, table) {
+        (SettingsFault::UnknownKey, Some(_)) =>
+            "the keys of [gate] are AND, NAND, OR, NOR, XOR, XNOR, NOT, BUFF and DFF, in these letters",
+        (SettingsFault::UnknownKey, None) =>
             "the keys are default, clock, scope, and the tables gate, net, block, clocks and init",
-        SettingsFault::UnknownNet if names_flops(table) =>
+        (SettingsFault::UnknownNet, Some(table)) if names_flops(table) =>
             "[clocks] and [init] name flip-flops by their nets",
-        SettingsFault::UnknownNet =>
+        (SettingsFault::UnknownNet, _) =>
             "[net] and [block] name nets that gates and flip-flops set; an input has no delay and no block",
-        SettingsFault::BadClock =>
-            "[clocks] names nets of the bench, or the clock that the key `clock` gives",
-        SettingsFault::BadInit => "contents are texts, between quotes",
+        (SettingsFault::BadInit, _) => "contents are texts, between quotes",
         _ => "",
     }
 }
@@ -128,8 +240,10 @@ fn key_of<'t>(
 ) -> Option<Key<'t>> {
     match fault {
         SettingsFault::UnknownKey => unknown_at_top(table).or(first_meant(table, circuit, fault)),
-        SettingsFault::BadDelay if has_bad_default(table) => Some(("", "default")),
-        SettingsFault::BadClock => first_meant(table, circuit, fault).or(Some(("", "clock"))),
+        SettingsFault::BadDelay if has_bad_default(table) => Some(Key::at_top("default")),
+        SettingsFault::BadClock => first_meant(table, circuit, fault).or(Some(Key::at_top(
+            "clock",
+        ))),
         _ => first_meant(table, circuit, fault),
     }
 }
@@ -139,7 +253,7 @@ fn unknown_at_top(table: &Table) -> Option<Key<'_>> {
     for (key, value) in table.iter() {
         let name = key.as_str();
         if !TOP.contains(&name) || !has_type(name, value) {
-            return Some((name, ""));
+            return Some(Key::at_top(name));
         }
     }
     None
@@ -162,7 +276,7 @@ fn first_meant<'t>(
         if let Some(Value::Table(members)) = table.get(*name) {
             for (key, value) in members.iter() {
                 if is_meant(table, circuit, fault, *name, key.as_str(), value) {
-                    return Some((*name, key.as_str()));
+                    return Some(Key::in_table(*name, key.as_str()));
                 }
             }
         }

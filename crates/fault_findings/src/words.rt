@@ -73,6 +73,11 @@ pub(crate) fn without_end(line: &[u8]) -> &[u8] {
     }
 }
 
+/// A text without the byte order mark at its beginning.
+pub(crate) fn behind_mark(text: &[u8]) -> &[u8] {
+    text.strip_prefix(&[0xEF, 0xBB, 0xBF]).unwrap_or(text)
+}
+
 pub(crate) fn is_space(byte: u8) -> bool {
     matches!(byte, 9..=13 | 32)
 }
