@@ -39,7 +39,7 @@ pub(crate) fn put_out(front: &mut Front, place: u32, value: Logic, puts: &mut Ve
 }
 
 /// What the gate of an edge makes of the values.
-#[inline]
+#[inline(always)]
 pub(crate) fn output_of(
     front: Front,
     edge: u32,

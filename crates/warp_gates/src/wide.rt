@@ -9,6 +9,8 @@ ghost use Rattle.warp_gates.specs.Inner.Wide.{is_folded};
 use gate_values::{Kind, Logic, table};
 
 /// What a gate makes of the values at its inputs. It takes as long as it has inputs, and no memory.
+#[cold]
+#[inline(never)]
 #[tactic(auto, unfolding(gate_values::specs::Tables::table_of))]
 pub(crate) fn wide_output(kind: Kind, inputs: &[u32], values: &[Logic]) -> Logic
     requires some { HasInputs kind (length inputs.now) }

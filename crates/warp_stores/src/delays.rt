@@ -66,6 +66,7 @@ impl Delays {
     }
 
     /// Puts a word that a step made into a queue. An error is a refused growth; then all stays.
+    #[inline(always)]
     pub fn put(&mut self, queue: usize, step: u64, word: Word) -> Result<(), AllocError>
         requires queue { queue < length self.old }
         requires time { step < TIMES }
@@ -84,6 +85,7 @@ impl Delays {
     }
 
     /// The same, also where it is the first word ahead, or the first of its step.
+    #[inline(never)]
     fn put_first(&mut self, queue: usize, step: u64, word: Word) -> Result<(), AllocError>
         requires queue { queue < length self.old }
         requires time { step < TIMES }

@@ -206,6 +206,7 @@ fn copies(alloc: Global, lists: &[Vec<Change>]) -> Result<Vec<Vec<Change>>, Allo
 }
 
 /// Puts a word of a time behind the list of its place.
+#[inline(always)]
 pub(crate) fn push_one(
     lists: &mut Vec<Vec<Change>>,
     time: u64,

@@ -45,6 +45,7 @@ pub(crate) fn widen_all(lists: &mut Vec<Vec<Change>>, more: &[usize], time: u64,
 }
 
 /// Gives the list of a place, where it is full at a time, such room.
+#[inline(always)]
 pub(crate) fn widen_full(lists: &mut Vec<Vec<Change>>, place: usize, time: u64, last: u64)
     requires { place < length lists.old.items }
     ensures { lists_of lists.new.items ≡ lists_of lists.old.items }
@@ -53,6 +54,7 @@ pub(crate) fn widen_full(lists: &mut Vec<Vec<Change>>, place: usize, time: u64, 
 }
 
 /// Gives a list that comes to be longer by so many changes such room.
+#[inline(always)]
 fn widen(list: &mut Vec<Change>, more: usize, time: u64, last: u64)
     ensures { list.new.items ≡ list.old.items }
 {
@@ -61,7 +63,16 @@ fn widen(list: &mut Vec<Change>, more: usize, time: u64, last: u64)
     if need <= list.capacity() {
         return;
     }
-    let _ = grow(list, room_for(len, need, time, last));
+    widen_to(list, need, time, last);
+}
+
+/// Gives a list that comes to have more changes than it has room for such room.
+#[cold]
+#[inline(never)]
+fn widen_to(list: &mut Vec<Change>, need: usize, time: u64, last: u64)
+    ensures { list.new.items ≡ list.old.items }
+{
+    let _ = grow(list, room_for(list.len(), need, time, last));
 }
 
 /// Gives a list room for so many changes, or for more. A short one moves into what the calling thread makes: to grow what another
