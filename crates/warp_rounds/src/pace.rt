@@ -20,10 +20,13 @@ const NEWER: u64 = 16;
 /// A round that would have less work, however often it goes over the blocks, isn't worth other threads than the caller's.
 const LITTLE: u64 = 2048;
 
-/// About how many changes a turn makes at most, where several blocks have work.
-const TURN: u64 = 1 << 13;
+/// About how many changes a turn makes at most, where several blocks have work: of several workers, so that what a block tells is soon
+/// work for another one, and of one worker, who would only take more turns.
+const TURN: u64 = 1 << 12;
 
-/// About how many it makes at most, where one block has most of the work.
+const LONE_TURN: u64 = 1 << 13;
+
+/// About how many it makes at most, where one block has nearly all of the work.
 const LONG_TURN: u64 = 1 << 14;
 
 /// A round with less work goes over the blocks more often, so that its workers have something to do between two meetings.
@@ -284,10 +287,10 @@ impl Tally {
     }
 
     /// Whether one worker alone had better do as much again, where the blocks were gone over so often: it would be little even if
-    /// they were gone over as often as can be, or one turn had most of it.
+    /// they were gone over as often as can be, or one turn had nearly all of it.
     pub(crate) fn is_for_one(self, laps: u32) -> bool {
         let more = u64::from(MOST_LAPS / laps.max(1));
-        self.work.saturating_mul(more) < LITTLE || self.most > self.work / 2
+        self.work.saturating_mul(more) < LITTLE || self.most > self.work / 8 * 7
     }
 }
 
@@ -300,21 +303,24 @@ fn undone_in(turned: &Turned) -> u64 {
 }
 
 /// How far blocks go in a round: up to a time above what all have come to, whoever may still take back what they were told, in
-/// about so many changes a turn, and in so many laps.
+/// about so many changes a turn, where several have work in so many, and in so many laps.
 #[derive(Clone, Copy)]
 pub(crate) struct Lead {
     time: u64,
     changes: u64,
+    turn: u64,
     laps: u32,
 }
 
 impl Lead {
-    /// That of the first round over so many blocks. One block alone goes as far as its window lets it.
-    pub(crate) fn first(blocks: usize) -> Lead {
-        let changes = if blocks > 1 { TURN } else { u64::MAX };
+    /// That of the first round over so many blocks by so many workers. One block alone goes as far as its window lets it.
+    pub(crate) fn first(blocks: usize, workers: u32) -> Lead {
+        let turn = if workers > 1 { TURN } else { LONE_TURN };
+        let changes = if blocks > 1 { turn } else { u64::MAX };
         Lead {
             time: FIRST,
             changes,
+            turn,
             laps: 1,
         }
     }
@@ -326,6 +332,7 @@ impl Lead {
         Lead {
             time: self.time_after(tally),
             changes: self.changes_after(is_for_one),
+            turn: self.turn,
             laps: self.laps_after(tally),
         }
     }
@@ -351,7 +358,7 @@ impl Lead {
         if is_for_one {
             return (self.changes * 2).min(LONG_TURN);
         }
-        (self.changes / 2).max(TURN)
+        (self.changes / 2).max(self.turn)
     }
 
     /// How many laps the next round of several workers has.

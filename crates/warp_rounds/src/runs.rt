@@ -224,7 +224,7 @@ fn play_rounds<G: Gate + Sync, W: Watch, R: Threads + Wait + Sync>(
 }
 
 // Plays rounds until the floor is past the horizon: by all workers, but by one alone where the round before had little work, or
-// most of it in one turn. The answer is how many; it is none where another worker met a fault, which that one hands back.
+// nearly all of it in one turn. The answer is how many; it is none where another worker met a fault, which that one hands back.
 fn rounds_of<G: Gate + Sync, W: Watch, R: Threads + Wait + Sync>(
     rt: &R,
     alloc: Global,
@@ -243,7 +243,7 @@ fn rounds_of<G: Gate + Sync, W: Watch, R: Threads + Wait + Sync>(
     let mut desk = Desk::new(alloc);
     let mut floor = 0;
     let mut rounds: u64 = 0;
-    let mut lead = Lead::first(sites.len());
+    let mut lead = Lead::first(sites.len(), term.workers);
     let mut is_alone = false;
     while floor <= term.horizon {
         let workers = if is_alone || sites.is_empty() {
