@@ -10,6 +10,7 @@ pub mod Arrays
 pub mod Coding
 pub mod PackedWalk
 pub mod KeyWalk
+pub mod PieceLaws
 pub mod Places
 pub mod TokenLaws
 pub mod NumberLaws

@@ -9,12 +9,11 @@ use Rattle.byte_sinks.specs.Lots.{Lot, Passes}
 use Rattle.net_waves.specs.Timeline.{AtMost, Before, IsRising, is_same, count}
 use Rattle.net_waves.specs.Stops.{AreStopsOf}
 use Rattle.net_waves.specs.Packed.{Packed, IsPacked, told, words_at, told_below, all_told, times}
-use Rattle.gate_vcd.specs.Inner.Walk.{walked, last_stop}
+use Rattle.gate_vcd.specs.Inner.Walk.{walked, last_stop, GoesOn}
 use Rattle.net_waves.proofs.Compared.{cases_below}
 use Rattle.net_waves.proofs.Counting.{is_same-is, one-self, All-at}
 use Rattle.net_waves.proofs.TimelineLaws.{AtMost-refl}
-use Rattle.byte_sinks.proofs.Passing.{passes_then}
-use Rattle.gate_vcd.proofs.Walking.{walked-append, last_stop-append, All-parts}
+use Rattle.gate_vcd.proofs.Walking.{walked-append, last_stop-append, All-parts, goes_then}
 use Rattle.net_waves.proofs.MergeLaws.{head_is}
 use Rattle.gate_vcd.proofs.Stops.{all_stops, all_stops-rising, known_below}
 use Rattle.gate_vcd.proofs.WaveValues.{stops_are}
@@ -54,21 +53,22 @@ known-below P p (suc n) t a h =
     ]
 
 -- of the nets that there are
-pub told-known : (lists : List (List Change)) (p : Packed) (horizon t : ℕ) → all_told p ≡ all_stops (wave_value lists) (length lists) (suc horizon) → length lists ≤ 1000000 → t < times p → AllByRecursion (λ (s : Stop). s.net < 1000000) (map (told t) (words_at p t))
-told-known lists p horizon t all few known =
-    known-below (λ (s : Stop). s.net < 1000000) p (times p) t
-    (subst (AllByRecursion (λ (s : Stop). s.net < 1000000)) (sym all) (known_below (wave_value lists) (length lists) 1000000 (suc horizon) few)) known
+pub told-known : (p : Packed) (t : ℕ) → AllByRecursion (λ (s : Stop). s.net < 1000000) (all_told p) → t < times p → AllByRecursion (λ (s : Stop). s.net < 1000000) (map (told t) (words_at p t))
+told-known p t all known = known-below (λ (s : Stop). s.net < 1000000) p (times p) t all known
 
--- what is told below a time has been written
-pub record AreTold (old new : Held) (from to : Lot) (last : ℕ) (p : Packed) (t : ℕ) : Type 0 where
-  pub text : Passes old new from (walked 0 (told_below p t)) to
+pub all-known : (lists : List (List Change)) (p : Packed) (horizon : ℕ) → all_told p ≡ all_stops (wave_value lists) (length lists) (suc horizon) → length lists ≤ 1000000 → AllByRecursion (λ (s : Stop). s.net < 1000000) (all_told p)
+all-known lists p horizon all few = subst (AllByRecursion (λ (s : Stop). s.net < 1000000)) (sym all) (known_below (wave_value lists) (length lists) 1000000 (suc horizon) few)
+
+-- what is told from one time on, and below another, has been written
+pub record AreTold (old new : Held) (from to : Lot) (last : ℕ) (p : Packed) (first t : ℕ) : Type 0 where
+  pub text : GoesOn old new from (walked 0 (told_below p first)) (walked 0 (told_below p t)) to
   pub end : last ≡ last_stop 0 (told_below p t)
 
 -- a time more
-pub told-more : (old mid new : Held) (from mid_lot to : Lot) (last next : ℕ) (p : Packed) (t : ℕ) → AreTold old mid from mid_lot last p t → Passes mid new mid_lot (walked last (map (told t) (words_at p t))) to → next ≡ last_stop last (map (told t) (words_at p t)) → AreTold old new from to next p (suc t)
-told-more old mid new from mid_lot to last next p t are put end =
+pub told-more : (old mid new : Held) (from mid_lot to : Lot) (last next : ℕ) (p : Packed) (first t : ℕ) → AreTold old mid from mid_lot last p first t → Passes mid new mid_lot (walked last (map (told t) (words_at p t))) to → next ≡ last_stop last (map (told t) (words_at p t)) → AreTold old new from to next p first (suc t)
+told-more old mid new from mid_lot to last next p first t are put end =
     let here = map (told t) (words_at p t) in
     record {
-      text = rw (walked-append 0 (told_below p t) here, ← are.end) (passes_then are.text put);
+      text = rw (walked-append 0 (told_below p t) here, ← are.end) (goes_then _ _ _ _ _ _ _ _ _ are.text put);
       end = end ∙ ap (λ (u : ℕ). last_stop u here) are.end ∙ sym (last_stop-append 0 (told_below p t) here);
     }

@@ -6,7 +6,7 @@ use Rattle.gate_values.specs.declared.logic.Logic.{Logic}
 use Rattle.byte_sinks.specs.Sink.{Held}
 use Rattle.byte_sinks.specs.Lots.{Lot, Passes}
 use Rattle.gate_vcd.specs.Dump.{stamp, value_line}
-use Rattle.gate_vcd.specs.Inner.Walk.{stop_lines, walked, last_stop, IsWalked}
+use Rattle.gate_vcd.specs.Inner.Walk.{stop_lines, walked, last_stop, IsWalked, GoesOn}
 use Rattle.net_waves.specs.declared.timeline.Stop.{Stop}
 use Rattle.byte_sinks.proofs.Passing.{passes_then, passes_none}
 use Rattle.net_waves.proofs.Compared.{eq_false}
@@ -71,3 +71,15 @@ walked_chunk old mid new from mid_lot to first last chunk rest more all w e put 
 
 pub chunk_known : (old mid : Held) (from mid_lot : Lot) (first last : ℕ) (chunk rest more all : List Stop) → IsWalked old mid from mid_lot first last rest all → rest ≡ chunk ++ more → AllByRecursion (λ (s : Stop). s.net < 1000000) chunk
 chunk_known old mid from mid_lot first last chunk rest more all w e = (All-parts (λ (s : Stop). s.net < 1000000) chunk more (subst (AllByRecursion (λ (s : Stop). s.net < 1000000)) e w.known)).0
+
+-- nothing was put
+pub goes_none : (sink : Held) (lot : Lot) (text : List ℕ) → GoesOn sink sink lot text text lot
+goes_none sink lot text = record { text = []; went = passes_none sink lot; all = append-nil text }
+
+-- more was put
+pub goes_then : (old mid new : Held) (from mid_lot to : Lot) (first so_far more : List ℕ) → GoesOn old mid from first so_far mid_lot → Passes mid new mid_lot more to → GoesOn old new from first (so_far ++ more) to
+goes_then old mid new from mid_lot to first so_far more goes put = record {
+  text = goes.text ++ more;
+  went = passes_then goes.went put;
+  all = sym (append_assoc first goes.text more) ∙ ap (λ r. r ++ more) goes.all;
+}

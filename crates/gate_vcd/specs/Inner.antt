@@ -6,6 +6,7 @@ pub mod Held
 pub mod Items
 pub mod Known
 pub mod Merged
+pub mod Pieces
 pub mod Reading
 pub mod Runs
 pub mod Scalars

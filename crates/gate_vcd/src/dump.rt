@@ -13,10 +13,10 @@ ghost use Rattle.byte_sinks.specs.Lots.{Passes};
 ghost use Rattle.net_waves.specs.Waves.{wave_of, wave_value, IsWave, IsUntil};
 ghost use Rattle.gate_vcd.specs.Dump.{header, var_lines, first_lines, moments, dump_text, vcd_text};
 ghost use Rattle.net_waves.specs.ByTime.{stops_in};
-ghost use Rattle.net_waves.specs.Packed.{told, all_told};
+ghost use Rattle.net_waves.specs.Packed.{told, told_below, all_told, times};
 ghost use Rattle.net_waves.specs.Keys.{stops_of_keys};
 ghost use Rattle.net_waves.specs.Stops.{AreStopsOf};
-ghost use Rattle.gate_vcd.specs.Inner.Walk.{stop_lines, walked, last_stop, tail_line};
+ghost use Rattle.gate_vcd.specs.Inner.Walk.{stop_lines, walked, last_stop, tail_line, GoesOn};
 
 use crate::fault::WriteFault;
 use crate::lines::{put_scope, put_stamp, put_timescale, put_value, put_var};
@@ -203,7 +203,13 @@ fn put_dump_once<S: Sink>(
 }
 
 /// Puts the lines above the first value.
-fn put_header<S: Sink>(sink: &mut S, lot: &mut Lot, top: &str, circuit: &Circuit, scale: Timescale)
+pub(crate) fn put_header<S: Sink>(
+    sink: &mut S,
+    lot: &mut Lot,
+    top: &str,
+    circuit: &Circuit,
+    scale: Timescale,
+)
     ensures text { Passes (S.held sink.old) (S.held sink.new) lot.old (header top.now circuit.now.names scale) lot.new }
     ensures short { length (header top.now circuit.now.names scale) ≤ 2 ^ 90 }
 {
@@ -224,7 +230,7 @@ fn put_vars<S: Sink>(sink: &mut S, lot: &mut Lot, circuit: &Circuit)
 }
 
 /// Puts the value of each net at 0.
-fn put_first_values<S: Sink>(sink: &mut S, lot: &mut Lot, waves: &Waves, nets: u32)
+pub(crate) fn put_first_values<S: Sink>(sink: &mut S, lot: &mut Lot, waves: &Waves, nets: u32)
     requires all { length waves.now ≡ nets }
     requires few { nets ≤ 1000000 }
     ensures { Passes (S.held sink.old) (S.held sink.new) lot.old (first_lines (wave_value waves.now) nets) lot.new }
@@ -310,11 +316,30 @@ fn put_words<S: Sink>(sink: &mut S, lot: &mut Lot, packed: &Packed, horizon: u64
     ensures { Passes (S.held sink.old) (S.held sink.new) lot.old (moments (wave_value lists) (length lists) horizon horizon) lot.new }
 {
     packed.law();
-    let mut last = 0;
-    for time in 0..packed.times() {
+    let last = put_times(sink, lot, 0, packed, 0, packed.times());
+    put_tail(sink, lot, last, horizon);
+}
+
+/// Puts the stops that words tell from a time on, and before an end, which follow one at the time `last`. Returns the last time.
+pub(crate) fn put_times<S: Sink>(
+    sink: &mut S,
+    lot: &mut Lot,
+    mut last: u64,
+    packed: &Packed,
+    from: usize,
+    end: usize,
+) -> u64
+    requires known { AllByRecursion (λ (s : Stop). s.net < 1000000) (all_told packed.now) }
+    requires rising { from ≤ end }
+    requires within { end ≤ times packed.now }
+    requires last { last ≡ last_stop 0 (told_below packed.now from) }
+    ensures text { GoesOn (S.held sink.old) (S.held sink.new) lot.old (walked 0 (told_below packed.now from)) (walked 0 (told_below packed.now end)) lot.new }
+    ensures last { result ≡ last_stop 0 (told_below packed.now end) }
+{
+    for time in from..end {
         last = put_told(sink, lot, last, time as u64, packed.words(time));
     }
-    put_tail(sink, lot, last, horizon);
+    last
 }
 
 /// Puts the stops that words tell at a time, which follow one at the time `last`. Returns the last time.
@@ -340,17 +365,16 @@ fn put_keyed<S: Sink>(sink: &mut S, lot: &mut Lot, keyed: &Keyed, horizon: u64)
     ensures { Passes (S.held sink.old) (S.held sink.new) lot.old (moments (wave_value lists) (length lists) horizon horizon) lot.new }
 {
     keyed.law();
-    let last = put_keys(sink, lot, keyed.keys());
+    let last = put_keys(sink, lot, 0, keyed.keys());
     put_tail(sink, lot, last, horizon);
 }
 
-/// Puts the stops of keys. Returns the last time, or 0.
-fn put_keys<S: Sink>(sink: &mut S, lot: &mut Lot, keys: &[u64]) -> u64
+/// Puts the stops of keys, which follow one at the time `last`. Returns the last time.
+pub(crate) fn put_keys<S: Sink>(sink: &mut S, lot: &mut Lot, mut last: u64, keys: &[u64]) -> u64
     requires { AllByRecursion (λ (s : Stop). s.net < 1000000) (stops_of_keys keys.now) }
-    ensures text { Passes (S.held sink.old) (S.held sink.new) lot.old (walked 0 (stops_of_keys keys.now)) lot.new }
-    ensures last { result ≡ last_stop 0 (stops_of_keys keys.now) }
+    ensures text { Passes (S.held sink.old) (S.held sink.new) lot.old (walked last (stops_of_keys keys.now)) lot.new }
+    ensures last { result ≡ last_stop last (stops_of_keys keys.now) }
 {
-    let mut last = 0;
     for key in keys {
         let stop = stop_of(*key);
         put_stop(sink, lot, last, stop);
@@ -360,7 +384,7 @@ fn put_keys<S: Sink>(sink: &mut S, lot: &mut Lot, keys: &[u64]) -> u64
 }
 
 /// Puts what changes after 0, which is in runs, and the horizon.
-fn put_runs<S: Sink>(sink: &mut S, lot: &mut Lot, timeline: &Timeline, horizon: u64)
+pub(crate) fn put_runs<S: Sink>(sink: &mut S, lot: &mut Lot, timeline: &Timeline, horizon: u64)
     ghost lists: { List (List Change) }
     requires few { length lists ≤ 1000000 }
     requires until { (n : ℕ) → IsUntil horizon (wave_of lists n) }
@@ -409,7 +433,7 @@ fn put_stop<S: Sink>(sink: &mut S, lot: &mut Lot, last: u64, stop: Stop)
 }
 
 /// Puts the time of the horizon, where it is later than the last change.
-fn put_tail<S: Sink>(sink: &mut S, lot: &mut Lot, last: u64, horizon: u64)
+pub(crate) fn put_tail<S: Sink>(sink: &mut S, lot: &mut Lot, last: u64, horizon: u64)
     ensures { Passes (S.held sink.old) (S.held sink.new) lot.old (tail_line last horizon) lot.new }
 {
     if last < horizon {

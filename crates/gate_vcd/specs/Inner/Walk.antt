@@ -33,3 +33,9 @@ pub record IsWalked (old new : Held) (from to : Lot) (first last : ℕ) (rest al
   pub whole : text ++ walked last rest ≡ walked first all
   pub end : last_stop last rest ≡ last_stop first all
   pub known : AllByRecursion (λ (s : Stop). s.net < 1000000) rest
+
+-- What was put goes on from one text to a longer one.
+pub record GoesOn (old new : Held) (from : Lot) (first whole : List ℕ) (to : Lot) : Type 0 where
+  pub text : List ℕ
+  pub went : Passes old new from text to
+  pub all : first ++ text ≡ whole
