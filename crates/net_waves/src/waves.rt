@@ -185,6 +185,15 @@ impl Waves {
         &self.by_time
     }
 
+    /// The lists, and all changes by time.
+    pub fn into_parts(self) -> (Vec<Vec<Change>>, ByTime)
+        ensures lists { lists_in result.0.items ≡ self }
+        ensures by_time { AreStopsOf self (stops_in result.1) }
+    {
+        let Waves { lists, by_time } = self;
+        (lists, by_time)
+    }
+
     /// All changes by time, without the lists.
     pub fn into_by_time(self) -> ByTime
         ensures { AreStopsOf self (stops_in result) }
