@@ -2,8 +2,9 @@
 //!
 //! [`read_stimulus`] answers what a stimulus text gives the inputs of a circuit, or its first fault, with
 //! its place. [`write_vcd`] writes the waves of a circuit, which are those of `net_waves`, as the one text of a
-//! dump into a `Sink` of `byte_sinks`. The definitions stand in `specs/`: `Tokens`, `Declarations`, `Changes`, `Vectors`,
-//! `Inputs` and `Stimulus` for what is read, `Codes` and `Dump` for what is written.
+//! dump into a `Sink` of `byte_sinks`, and [`dump_by`] has several threads make that text in pieces. The definitions
+//! stand in `specs/`: `Tokens`, `Declarations`, `Changes`, `Vectors`, `Inputs` and `Stimulus` for what is read,
+//! `Codes` and `Dump` for what is written.
 //!
 //! Readers of dumps for other ends share the parts of this one: [`Words`], the commands of the declarations
 //! ([`Declared`], [`body_of`], [`declare`]), the vectors ([`vector_of`]), and the changes ([`read_sources`]).

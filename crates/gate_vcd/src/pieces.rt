@@ -20,13 +20,20 @@ use crate::stimulus::Stimulus;
 use crate::timescale::Timescale;
 use byte_sinks::{Grow, Lot, Sink};
 use gate_netlist::Circuit;
+use gate_values::Change;
 use net_waves::{ByTime, Keyed, Packed, Timeline, Waves, stop_of};
 use std::alloc::{AllocError, Global};
 use std::thread;
-use std::thread::Threads;
+use std::thread::{Threads, join};
 
 /// A piece of fewer changes is not worth the start of a thread.
 const SHARE: usize = 65_536;
+
+/// The line of a time has fewer bytes.
+const LINE: usize = 32;
+
+/// To give fewer lists back is not worth the start of a thread.
+const LISTS: usize = 4096;
 
 /// The dump of waves that nobody needs any more, as [`write_vcd_once`] writes it, made by up to so many threads side by side, at least one.
 /// An error is a refused growth.
@@ -106,7 +113,7 @@ fn front_of(
     taken(sink, lot)
 }
 
-/// A text, and behind it what changes after 0 in waves, and the horizon.
+/// A text, and behind it what changes after 0 in waves, and the horizon. The waves' lists are given back on the way.
 fn with_moments<R: Threads + Sync>(
     rt: &R,
     alloc: Global,
@@ -123,19 +130,37 @@ fn with_moments<R: Threads + Sync>(
     ensures { IfOk result (λ text. text.items ≡ front.items ++ moments (wave_value lists) (length lists) horizon horizon) }
 {
     waves.law();
-    match waves.into_by_time() {
-        ByTime::Words(packed) => with_words(rt, alloc, workers, front, &packed, horizon),
-        ByTime::Keys(keyed) => with_keys(rt, alloc, workers, front, &keyed, horizon),
-        ByTime::Runs(timeline) => with_runs(alloc, front, &timeline, horizon),
+    let (spent, by_time) = waves.into_parts();
+    match by_time {
+        ByTime::Words(packed) => with_words(rt, alloc, workers, front, spent, &packed, horizon),
+        ByTime::Keys(keyed) => with_keys(rt, alloc, workers, front, spent, &keyed, horizon),
+        ByTime::Runs(timeline) => {
+            drop(spent);
+            with_runs(alloc, front, &timeline, horizon)
+        }
     }
 }
 
-/// A text, and behind it what changes after 0, which words tell, and the horizon.
+/// What is made while a thread beside gives spent lists back, where they are not few.
+fn beside<R: Threads, A, F: FnOnce() -> A>(rt: &R, spent: Vec<Vec<Change>>, make: F) -> A
+    requires { F.pre make }
+    ensures { F.post make result }
+{
+    if spent.len() < LISTS {
+        drop(spent);
+        return make();
+    }
+    let ((), made) = join(rt, || drop(spent), make);
+    made
+}
+
+/// A text, and behind it what changes after 0, which words tell, and the horizon. Spent lists are given back on the way.
 fn with_words<R: Threads + Sync>(
     rt: &R,
     alloc: Global,
     workers: u32,
     front: Vec<u8>,
+    spent: Vec<Vec<Change>>,
     packed: &Packed,
     horizon: u64,
 ) -> Result<Vec<u8>, AllocError>
@@ -149,7 +174,15 @@ fn with_words<R: Threads + Sync>(
 {
     packed.law();
     let cuts = times_cut(alloc, packed, workers)?;
-    let text = with_times(rt, alloc, front, packed, cuts.as_slice())?;
+    let cuts = cuts.as_slice();
+    let text = beside(
+        rt,
+        spent,
+        || -> Result<Vec<u8>, AllocError>
+            requires { AllByRecursion (λ (s : Stop). s.net < 1000000) (all_told packed.now) × AreCuts cuts.now (times packed.now) }
+            ensures { IfOk result (λ text. text.items ≡ front.items ++ times_text packed.entry.now cuts.entry.now (length cuts.entry.now - 1)) }
+        { with_times(rt, alloc, front, packed, cuts) },
+    )?;
     with_tail(alloc, text, last_before(packed, packed.times()), horizon)
 }
 
@@ -245,12 +278,13 @@ fn share_of(changes: usize, workers: u32) -> usize
     changes.div_ceil(workers as usize).max(SHARE)
 }
 
-/// A text, and behind it what changes after 0, which is in keys, and the horizon.
+/// A text, and behind it what changes after 0, which is in keys, and the horizon. Spent lists are given back on the way.
 fn with_keys<R: Threads + Sync>(
     rt: &R,
     alloc: Global,
     workers: u32,
     front: Vec<u8>,
+    spent: Vec<Vec<Change>>,
     keyed: &Keyed,
     horizon: u64,
 ) -> Result<Vec<u8>, AllocError>
@@ -265,7 +299,15 @@ fn with_keys<R: Threads + Sync>(
     keyed.law();
     let keys = keyed.keys();
     let cuts = keys_cut(alloc, keys.len(), workers)?;
-    let text = with_stops(rt, alloc, front, keys, cuts.as_slice())?;
+    let cuts = cuts.as_slice();
+    let text = beside(
+        rt,
+        spent,
+        || -> Result<Vec<u8>, AllocError>
+            requires { AllByRecursion (λ (s : Stop). s.net < 1000000) (stops_of_keys keys.now) × AreCuts cuts.now (length keys.now) }
+            ensures { IfOk result (λ text. text.items ≡ front.items ++ keys_text keys.entry.now cuts.entry.now (length cuts.entry.now - 1)) }
+        { with_stops(rt, alloc, front, keys, cuts) },
+    )?;
     with_tail(alloc, text, last_of(keys), horizon)
 }
 
@@ -372,11 +414,11 @@ fn with_tail(
     Ok(text)
 }
 
-/// A text, and pieces behind it, one after another. An error is that of a piece, or a refused growth.
+/// A text, and pieces behind it, one after another, with room for a line more. An error is that of a piece, or a refused growth.
 fn joined(mut text: Vec<u8>, pieces: &[Result<Vec<u8>, AllocError>]) -> Result<Vec<u8>, AllocError>
     ensures { (so_far : ℕ → List ℕ) → ArePieces so_far pieces.now → IfOk result (λ whole. whole.items ≡ text.items ++ so_far (length pieces.now)) }
 {
-    text.reserve(size_of(pieces))?;
+    text.reserve(size_of(pieces).saturating_add(LINE))?;
     for piece in pieces {
         match piece {
             Ok(bytes) => text.extend_from_slice(bytes.as_slice())?,

@@ -1,5 +1,7 @@
-use Rattle.std.proofs.Common.{◌≡◌, suc, length, take, ap, ◌∙◌, subst, IfOk, List, ℕ, arith, ◌++◌}
+use Rattle.std.proofs.Common.{rules, ◌<◌, ◌≡◌, suc, length, take, ap, ◌∙◌, subst, IfOk, List, ℕ, arith, ◌++◌}
 use Rattle.std.proofs.lemmas.List.{take_all}
+use Rattle.std.specs.List.{AllByRecursion}
+use Rattle.net_waves.specs.declared.timeline.Stop.{Stop}
 use Rattle.net_waves.specs.Waves.{wave_value}
 use Rattle.net_waves.specs.Keys.{stops_of_keys}
 use Rattle.gate_vcd.specs.Inner.Walk.{walked, last_stop}
@@ -8,10 +10,12 @@ use Rattle.gate_vcd.proofs.KeyWalk.{keys-all, keys-known}
 use Rattle.gate_vcd.proofs.PieceLaws.{text-moments}
 use Rattle.gate_vcd.proofs.pieces.with_keys.Goals as goal
 
-pub with_stops-requires-clause-known : goal.with_stops-requires-clause-known
-with_stops-requires-clause-known g c κs within =
+pub beside-requires : goal.beside-requires
+beside-requires g c =
     let all = keys-all g.lists c.args.keyed.now c.args.horizon c.law.ensures c.requires.1.1.1.1.1.0 c.requires.1.1.1.1.0 c.requires.1.1.1.0 in
-    rw c.keys-keys.ensures (keys-known g.lists c.args.keyed.now c.args.horizon all c.requires.1.1.0)
+    let known : AllByRecursion (λ (s : Stop). s.net < 1000000) (stops_of_keys c.keys-keys.result.now) = rw c.keys-keys.ensures (keys-known g.lists c.args.keyed.now c.args.horizon all c.requires.1.1.0) in
+    let cuts = c.in_ok-cuts.ensures in
+    search rules
 
 pub returns : goal.returns
 returns g c =
@@ -19,7 +23,7 @@ returns g c =
     let front = c.args.front.items in
     let all : stops_of_keys keys ≡ all_stops (wave_value g.lists) (length g.lists) (suc c.args.horizon) =
     keys-all g.lists keys c.args.horizon c.law.ensures c.requires.1.1.1.1.1.0 c.requires.1.1.1.1.0 c.requires.1.1.1.0 in
-    let made = rw (c.as_slice.ensures.value, c.keys-keys.ensures) at c.in_ok-text.ensures in
+    let made = rw (c.as_slice-cuts.ensures.value, c.keys-keys.ensures) at c.in_ok-text.ensures in
     let end = rw c.keys-keys.ensures at c.in_ok-cuts.ensures.last in
     let text : c.in_ok-text.text.items ≡ front ++ walked 0 (stops_of_keys keys) =
     made ∙ ap (λ (k : ℕ). front ++ walked 0 (stops_of_keys (take k keys))) end ∙ ap (λ ks. front ++ walked 0 (stops_of_keys ks)) (take_all (length keys) keys (omega arith)) in
