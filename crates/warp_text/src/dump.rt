@@ -16,6 +16,7 @@ use gate_values::Logic;
 use gate_vcd::{Stimulus, WriteFault, write_changes, write_vcd_once};
 use net_waves::{ByTime, Waves};
 use std::alloc::{AllocError, Global};
+use std::thread::Threads;
 use warp_alone::changes_alone;
 use warp_rounds::Watch;
 
@@ -36,6 +37,24 @@ pub fn dump_of(
         Ok(()) => Ok(sink.into_vec()),
         Err(_) => Err(AllocError),
     }
+}
+
+/// The same dump, made by up to so many threads side by side, at least one.
+pub fn dump_by<R: Threads + Sync>(
+    rt: &R,
+    alloc: Global,
+    workers: u32,
+    circuit: &Circuit,
+    stimulus: &Stimulus,
+    waves: Waves,
+    horizon: u64,
+) -> Result<Vec<u8>, AllocError>
+    requires workers { 1 ≤ workers }
+    requires near { horizon ≤ most_horizon }
+    requires waves { AreCircuitWaves circuit.now stimulus.now horizon waves }
+    ensures { IfOk result (λ dump. dump.items ≡ vcd_text (codes "top") circuit.now stimulus.now (value_under circuit.now stimulus.now) horizon) }
+{
+    gate_vcd::dump_by(rt, alloc, workers, "top", circuit, stimulus, waves, horizon)
 }
 
 /// Writes the dump of a circuit's changes, which are had by time, with each net's value at time 0.

@@ -11,7 +11,7 @@ ghost use Rattle.warp_text.specs.Answer.{IsAnswer, IsCounted, IsListed};
 ghost use Rattle.warp_text.specs.Stats.{dumped, Accounts, IsAccountOf, AreCountsOf};
 ghost use Rattle.warp_text.specs.Inner.Answer.{IsCircuitAnswer, IsDumped};
 
-use crate::dump::{alone_dump, dump_of};
+use crate::dump::{alone_dump, dump_by};
 use crate::fault::Fault;
 use crate::nets::nets_text;
 use crate::options::Options;
@@ -161,7 +161,15 @@ fn dump_under<G: Gate + Sync, W: Watch, R: Threads + Wait + Sync>(
 {
     let stimulus = read_stimulus(alloc, stimulus, circuit)?;
     let ran = run_blocks(rt, alloc, circuit, &stimulus, options, gate, watch)?;
-    let dump = dump_of(alloc, circuit, &stimulus, ran.waves, options.until())?;
+    let dump = dump_by(
+        rt,
+        alloc,
+        options.workers(),
+        circuit,
+        &stimulus,
+        ran.waves,
+        options.until(),
+    )?;
     Ok(Simulated {
         dump,
         stats: ran.stats,
@@ -234,7 +242,15 @@ fn plain_dump<W: Watch, R: Threads + Wait + Sync>(
         }
     }
     let ran = run_blocks(rt, alloc, circuit, &stimulus, options, &NoGate, watch)?;
-    Ok(dump_of(alloc, circuit, &stimulus, ran.waves, options.until())?)
+    Ok(dump_by(
+        rt,
+        alloc,
+        options.workers(),
+        circuit,
+        &stimulus,
+        ran.waves,
+        options.until(),
+    )?)
 }
 
 /// The dump of what is answered.

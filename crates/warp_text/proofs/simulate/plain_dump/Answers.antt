@@ -11,4 +11,4 @@ returns-in-Some g c =
 pub returns : goal.returns
 returns g c =
     let (r, read, means) = c.in_ok-stimulus.ensures in
-    (r, read, (rw c.until-2.ensures at c.in_ok-dump_of.ensures) ∙ dump-means (codes "top") c.args.circuit.now r c.in_ok-stimulus.stimulus c.args.options.now.until means)
+    (r, read, (rw c.until-2.ensures at c.in_ok-dump_by.ensures) ∙ dump-means (codes "top") c.args.circuit.now r c.in_ok-stimulus.stimulus c.args.options.now.until means)
