@@ -1,5 +1,5 @@
 -- What is told so far, with one change more.
-use Rattle.std.proofs.Common.{◌≡◌, ◌∙◌, ℕ, ◌+◌, ◌<◌, ◌≤◌, Option, Some, None, List, [], ◌∷◌, ◌++◌, map, take, length, get_or, refl, ap, sym, subst, arith, append_assoc}
+use Rattle.std.proofs.Common.{◌≡◌, ◌∙◌, ℕ, ◌+◌, ◌<◌, ◌≤◌, Option, Some, None, IfNone, List, [], ◌∷◌, ◌++◌, map, take, length, get_or, refl, ap, sym, subst, arith}
 use Rattle.std.proofs.lemmas.List.{map-append, take_more, take_all}
 use Rattle.std.proofs.lemmas.List.Elements.{filter_map-append}
 use Rattle.net_waves.specs.declared.timeline.NetMove.{NetMove}
@@ -7,80 +7,142 @@ use Rattle.net_waves.specs.declared.timeline.Stop.{Stop}
 use Rattle.net_waves.specs.Timeline.{count, stop_by}
 use Rattle.net_waves.proofs.Counting.{count-append}
 use Rattle.warp_stores.specs.Words.{Move}
-use Rattle.warp_stores.specs.Dated.{Dated, at}
+use Rattle.warp_stores.specs.Dated.{Dated, at, first_time}
 use Rattle.history_waves.specs.Histories.{stop_of, own_stops, AreBoth}
-use Rattle.history_waves.specs.Inner.Pending.{AreUpTo, ArePending}
+use Rattle.history_waves.specs.Stories.{Telling, count_in, AreAll}
+use Rattle.history_waves.specs.Inner.Pending.{count_at, AreGiven, AreOwnMoves, AreListed, AreUpTo, AreMore, AreTold, AreTaken, AreLeft, AreRead}
 
 own_append : (own : List (Option ℕ)) (a b : List (Dated Move)) → own_stops own (a ++ b) ≡ own_stops own a ++ own_stops own b
 own_append own a b = filter_map-append (stop_of own) a b
 
-module _ (own : List (Option ℕ)) (given : List Stop) (n : ℕ) (words : List (Dated Move)) where
-  -- nothing of a time is listed yet
-  pub pend_none : (time : ℕ) (all : List Stop) → AreUpTo own given n words all → ArePending own given n words time [] all
-  pend_none time all up s = omega (arith, up s)
+-- what words tell, and what others do
+pub own_count : (own : List (Option ℕ)) (s : Stop) (a b : List (Dated Move)) → count s (own_stops own (a ++ b)) ≡ count s (own_stops own a) + count s (own_stops own b)
+own_count own s a b = ap (count s) (own_append own a b) ∙ count-append s (own_stops own a) (own_stops own b)
 
-  -- what is listed is told
-  pub pend_told : (time : ℕ) (moves : List NetMove) (old new : List Stop) → new ≡ old ++ map (stop_by time) moves → ArePending own given n words time moves old → AreUpTo own given n words new
-  pend_told time moves old new e up s = rw e (omega (arith, up s, count-append s old (map (stop_by time) moves)))
+-- a move more
+moves_more : (s : Stop) (time : ℕ) (moves : List NetMove) (m : NetMove) → count_at s time (moves ++ m ∷ []) ≡ count_at s time moves + count s (stop_by time m ∷ [])
+moves_more s time moves m = ap (count s) (map-append (stop_by time) moves (m ∷ [])) ∙ count-append s (map (stop_by time) moves) (stop_by time m ∷ [])
 
-  -- a change more is listed
-  listed : (s : Stop) (time : ℕ) (moves : List NetMove) (m : NetMove) → count s (map (stop_by time) (moves ++ m ∷ [])) ≡ count s (map (stop_by time) moves) + count s (stop_by time m ∷ [])
-  listed s time moves m = ap (count s) (map-append (stop_by time) moves (m ∷ [])) ∙ count-append s (map (stop_by time) moves) (stop_by time m ∷ [])
+-- one that is given
+pub given_more : (given : List Stop) (from n time : ℕ) (old new : List NetMove) (d : Stop) (m : NetMove) → n < length given → stop_by time m ≡ get_or given n d → AreGiven given from n time old new
+    → AreGiven given from (n + 1) time old (new ++ m ∷ [])
+given_more given from n time old new d m l same are s =
+    let more : count s (take (n + 1) given) ≡ count s (take n given) + count s (get_or given n d ∷ []) = ap (count s) (take_more given n d l) ∙ count-append s (take n given) (get_or given n d ∷ []) in
+    let one : count s (stop_by time m ∷ []) ≡ count s (get_or given n d ∷ []) = ap (λ (x : Stop). count s (x ∷ [])) same in
+    omega (arith, are s, moves_more s time new m, more, one)
 
-  -- one that is given
-  pub pend_given : (time : ℕ) (moves : List NetMove) (all : List Stop) (d : Stop) (m : NetMove) → n < length given → stop_by time m ≡ get_or given n d → ArePending own given n words time moves all
-      → ArePending own given (n + 1) words time (moves ++ m ∷ []) all
-  pend_given time moves all d m l same up s =
-      let more : count s (take (n + 1) given) ≡ count s (take n given) + count s (get_or given n d ∷ []) = ap (count s) (take_more given n d l) ∙ count-append s (take n given) (get_or given n d ∷ []) in
-      let one : count s (stop_by time m ∷ []) ≡ count s (get_or given n d ∷ []) = ap (λ (x : Stop). count s (x ∷ [])) same in
-      omega (arith, up s, listed s time moves m, more, one)
+-- one of an own net
+pub own_one : (own : List (Option ℕ)) (time : ℕ) (moves : List NetMove) (w : Move) (m : NetMove) → get_or own w.place None ≡ Some m.net → w.after ≡ m.value → AreOwnMoves own ((time, w) ∷ []) time moves (moves ++ m ∷ [])
+own_one own time moves w m mine same s =
+    let told : own_stops own ((time, w) ∷ []) ≡ stop_by time m ∷ [] = rw (mine, same) refl in
+    moves_more s time moves m ∙ ap (λ (ss : List Stop). count_at s time moves + count s ss) (sym told)
 
-  -- one of an own net
-  pub pend_own : (time : ℕ) (moves : List NetMove) (all : List Stop) (w : Move) (m : NetMove) → get_or own w.place None ≡ Some m.net → w.after ≡ m.value → ArePending own given n words time moves all
-      → ArePending own given n (words ++ (time, w) ∷ []) time (moves ++ m ∷ []) all
-  pend_own time moves all w m mine same up s =
-      let told : own_stops own ((time, w) ∷ []) ≡ stop_by time m ∷ [] = rw (mine, same) refl in
-      let more : count s (own_stops own (words ++ (time, w) ∷ [])) ≡ count s (own_stops own words) + count s (stop_by time m ∷ []) =
-      ap (count s) (own_append own words ((time, w) ∷ []) ∙ ap (λ (ss : List Stop). own_stops own words ++ ss) told) ∙ count-append s (own_stops own words) (stop_by time m ∷ []) in
-      omega (arith, up s, listed s time moves m, more)
+-- a word of another net tells nothing
+pub own_other : (own : List (Option ℕ)) (time : ℕ) (moves : List NetMove) (d : Dated Move) → get_or own d.1.place None ≡ None → AreOwnMoves own (d ∷ []) time moves moves
+own_other own time moves d other s =
+    let told : own_stops own (d ∷ []) ≡ [] = rw other refl in
+    let none : count s (own_stops own (d ∷ [])) ≡ 0 = ap (count s) told in
+    omega (arith, none)
 
-  -- a word of another net tells nothing
-  pub pend_other : (time : ℕ) (moves : List NetMove) (all : List Stop) (d : Dated Move) → get_or own d.1.place None ≡ None → ArePending own given n words time moves all
-      → ArePending own given n (words ++ d ∷ []) time moves all
-  pend_other time moves all d other up s =
-      let told : own_stops own (d ∷ []) ≡ [] = rw other refl in
-      let more : count s (own_stops own (words ++ d ∷ [])) ≡ count s (own_stops own words) + count s [] =
-      ap (count s) (own_append own words (d ∷ []) ∙ ap (λ (ss : List Stop). own_stops own words ++ ss) told) ∙ count-append s (own_stops own words) [] in
-      omega (arith, up s, more)
+-- one word more of those of a time
+pub at_more : (time : ℕ) (words : List Move) (i : ℕ) (d : Move) → i < length words → at time (take (i + 1) words) ≡ at time (take i words) ++ (time, get_or words i d) ∷ []
+at_more time words i d l = ap (at time) (take_more words i d l) ∙ map-append (λ (w : Move). (time, w)) (take i words) (get_or words i d ∷ [])
 
-  -- all that is given is told
-  pub up_all : (all : List Stop) → length given ≤ n → AreUpTo own given n words all → AreBoth own given words all
-  up_all all l up s = rw (← take_all n given l) (up s)
+-- all of them
+pub at_all : (time : ℕ) (words : List Move) (n : ℕ) → length words ≤ n → at time (take n words) ≡ at time words
+at_all time words n l = ap (at time) (take_all n words l)
+
+module _ (own : List (Option ℕ)) (time : ℕ) (words : List Move) (i : ℕ) (w : Move) (l : i < length words) (is : w ≡ get_or words i w) where
+  -- what one word more tells
+  word_more : (s : Stop) → count s (own_stops own (at time (take (i + 1) words))) ≡ count s (own_stops own (at time (take i words))) + count s (own_stops own ((time, w) ∷ []))
+  word_more s =
+      ap (λ (ws : List (Dated Move)). count s (own_stops own ws)) (at_more time words i w l ∙ ap (λ (x : Move). at time (take i words) ++ (time, x) ∷ []) (sym is))
+      ∙ own_count own s (at time (take i words)) ((time, w) ∷ [])
+
+  pub own_more : (first old new : List NetMove) → AreOwnMoves own (at time (take i words)) time first old → AreOwnMoves own ((time, w) ∷ []) time old new → AreOwnMoves own (at time (take (i + 1) words)) time first new
+  own_more first old new before one s = omega (arith, before s, one s, word_more s)
+
+  -- with given ones before it
+  pub listed_more : (given : List Stop) (from n next : ℕ) (first old mid new : List NetMove) → AreListed own given from n (at time (take i words)) time first old → AreGiven given n next time old mid
+      → AreOwnMoves own ((time, w) ∷ []) time mid new → AreListed own given from next (at time (take (i + 1) words)) time first new
+  listed_more given from n next first old mid new before more one s = omega (arith, before s, more s, one s, word_more s)
+
+-- moves that are appended
+pub appended_moves : (s : Stop) (time : ℕ) (moves : List NetMove) (old new : List Stop) → new ≡ old ++ map (stop_by time) moves → count s new ≡ count s old + count_at s time moves
+appended_moves s time moves old new e = ap (count s) e ∙ count-append s old (map (stop_by time) moves)
+
+-- given changes of a time more
+pub more_given : (given : List Stop) (from n next time : ℕ) (moves : List NetMove) (first old new : List Stop) → AreMore given from n first old → AreGiven given n next time [] moves → new ≡ old ++ map (stop_by time) moves
+    → AreMore given from next first new
+more_given given from n next time moves first old new before more e s = omega (arith, before s, more s, appended_moves s time moves old new e)
+
+-- all changes of a time
+pub told_time : (own : List (Option ℕ)) (given : List Stop) (from some next time : ℕ) (words : List (Dated Move)) (mid moves : List NetMove) (old new : List Stop) → AreListed own given from some words time [] mid
+    → AreGiven given some next time mid moves → new ≡ old ++ map (stop_by time) moves → AreTold own given from next words old new
+told_time own given from some next time words mid moves old new listed more e s = omega (arith, listed s, more s, appended_moves s time moves old new e)
+
+-- what is told by then
+pub up_more : (own : List (Option ℕ)) (given : List Stop) (told before next : ℕ) (read words : List (Dated Move)) (old mid new : List Stop) → AreUpTo own given told read old → AreMore given told before old mid
+    → AreTold own given before next words mid new → AreUpTo own given next (read ++ words) new
+up_more own given told before next read words old mid new up more all s = omega (arith, up s, more s, all s, own_count own s read words)
 
 -- nothing is told yet
 pub up_none : (own : List (Option ℕ)) (given all : List Stop) → all ≡ [] → AreUpTo own given 0 [] all
 up_none own given all e s = rw e refl
 
--- one word more of those of a time
-pub at_more : (time : ℕ) (before : List (Dated Move)) (words : List Move) (i : ℕ) (d : Move) → i < length words
-    → before ++ at time (take (i + 1) words) ≡ (before ++ at time (take i words)) ++ (time, get_or words i d) ∷ []
-at_more time before words i d l =
-    ap (λ (ws : List Move). before ++ at time ws) (take_more words i d l)
-    ∙ ap (λ (ws : List (Dated Move)). before ++ ws) (map-append (λ (w : Move). (time, w)) (take i words) (get_or words i d ∷ []))
-    ∙ sym (append_assoc before (at time (take i words)) ((time, get_or words i d) ∷ []))
+-- all that is given is told
+pub up_all : (own : List (Option ℕ)) (given : List Stop) (told n : ℕ) (words : List (Dated Move)) (old new : List Stop) → AreUpTo own given told words old → AreMore given told n old new → length given ≤ n → AreBoth own given words new
+up_all own given told n words old new up more l s =
+    let whole : count s (take n given) ≡ count s given = ap (count s) (take_all n given l) in
+    omega (arith, up s, more s, whole)
 
--- all of them
-pub at_all : (time : ℕ) (before : List (Dated Move)) (words : List Move) (n : ℕ) → length words ≤ n → before ++ at time (take n words) ≡ before ++ at time words
-at_all time before words n l = ap (λ (ws : List Move). before ++ at time ws) (take_all n words l)
+-- the words of a time, which are told, and those that are left
+pub taken_time : (own : List (Option ℕ)) (given : List Stop) (from next time : ℕ) (ws : List Move) (left all : List (Dated Move)) (old new : List NetMove) → at time ws ++ left ≡ all → AreListed own given from next (at time ws) time old new
+    → AreTaken given from next time (record { own = own; words = all } ∷ []) (record { own = own; words = left } ∷ []) old new
+taken_time own given from next time ws left all old new e listed s =
+    let whole : count s (own_stops own all) ≡ count s (own_stops own (at time ws)) + count s (own_stops own left) = ap (λ (ds : List (Dated Move)). count s (own_stops own ds)) (sym e) ∙ own_count own s (at time ws) left in
+    omega (arith, listed s, whole)
 
-module _ (own : List (Option ℕ)) (given : List Stop) (told time : ℕ) (moves : List NetMove) (all : List Stop) (before : List (Dated Move)) (words : List Move) where
-  -- what one word more tells is listed
-  pub pend_more : (i : ℕ) (w : Move) → i < length words → w ≡ get_or words i w → ArePending own given told ((before ++ at time (take i words)) ++ (time, w) ∷ []) time moves all
-      → ArePending own given told (before ++ at time (take (i + 1) words)) time moves all
-  pend_more i w l e up =
-      subst (λ (ws : List (Dated Move)). ArePending own given told ws time moves all)
-      (sym (at_more time before words i w l ∙ ap (λ (x : Move). (before ++ at time (take i words)) ++ (time, x) ∷ []) (sym e))) up
+-- what some histories tell, and what others do
+pub count_in-append : (s : Stop) (a b : List Telling) → count_in s (a ++ b) ≡ count_in s a + count_in s b
+count_in-append s [] b = omega arith
+count_in-append s (t ∷ a) b = omega (arith, count_in-append s a b)
 
-  -- what all words tell is listed
-  pub pend_all : (n : ℕ) → length words ≤ n → ArePending own given told (before ++ at time (take n words)) time moves all → ArePending own given told (before ++ at time words) time moves all
-  pend_all n l up = subst (λ (ws : List (Dated Move)). ArePending own given told ws time moves all) (at_all time before words n l) up
+none_left : (ds : List (Dated Move)) → first_time ds ≡ None → ds ≡ []
+none_left [] e = refl
+none_left (d ∷ ds) e = absurd (some_none d.0 e)
+  where
+    some_none : (x : ℕ) → ◌≡◌ {A = Option ℕ} (Some x) None → ⊥
+    some_none x e = cc
+
+-- nothing is left of one history more
+read_more : (tellings : List Telling) (i : ℕ) (t : Telling) → i < length tellings → t ≡ get_or tellings i t → first_time t.words ≡ None → AreRead (take i tellings) → AreRead (take (i + 1) tellings)
+read_more tellings i t l is none read s =
+    let more : count_in s (take (i + 1) tellings) ≡ count_in s (take i tellings) + count_in s (t ∷ []) =
+    ap (count_in s) (take_more tellings i t l ∙ ap (λ (x : Telling). take i tellings ++ x ∷ []) (sym is)) ∙ count_in-append s (take i tellings) (t ∷ []) in
+    let one : count s (own_stops t.own t.words) ≡ 0 = ap (λ (ds : List (Dated Move)). count s (own_stops t.own ds)) (none_left t.words none) in
+    omega (arith, more, one, read s)
+
+pub head_more : (tellings : List Telling) (i : ℕ) (t : Telling) (first head : Option ℕ) → i < length tellings → t ≡ get_or tellings i t → head ≡ first_time t.words → IfNone first (AreRead (take i tellings))
+    → (new : Option ℕ) → IfNone new ((first ≡ None) × (head ≡ None)) → IfNone new (AreRead (take (i + 1) tellings))
+head_more tellings i t first head l is same read (Some time) none = tt
+head_more tellings i t first head l is same read None none = read_more tellings i t l is (sym same ∙ none.1) (subst (λ (o : Option ℕ). IfNone o (AreRead (take i tellings))) none.0 read)
+
+pub head_all : (tellings : List Telling) (n : ℕ) → length tellings ≤ n → (first : Option ℕ) → IfNone first (AreRead (take n tellings)) → IfNone first (AreRead tellings)
+head_all tellings n l (Some time) read = tt
+head_all tellings n l None read = subst AreRead (take_all n tellings l) read
+
+-- all changes of a time more
+pub left_time : (given : List Stop) (from before next time : ℕ) (old new : List Telling) (moves : List NetMove) (first mid last : List Stop) → AreMore given from before first mid → AreTaken given before next time old new [] moves
+    → last ≡ mid ++ map (stop_by time) moves → AreLeft given from next old new first last
+left_time given from before next time old new moves first mid last more taken e s = omega (arith, more s, taken s, appended_moves s time moves mid last e)
+
+pub left_more : (given : List Stop) (from told next : ℕ) (first old new : List Telling) (none mid last : List Stop) → AreLeft given from told first old none mid → AreLeft given told next old new mid last → AreLeft given from next first new none last
+left_more given from told next first old new none mid last before more s = omega (arith, before s, more s)
+
+-- nothing is left
+pub left_all : (given : List Stop) (told n : ℕ) (first left : List Telling) (none mid last : List Stop) → none ≡ [] → AreLeft given 0 told first left none mid → AreRead left → AreMore given told n mid last → length given ≤ n → AreAll given first last
+left_all given told n first left none mid last e up read more l s =
+    let whole : count s (take n given) ≡ count s given = ap (count s) (take_all n given l) in
+    let begun : count s none ≡ 0 = ap (count s) e in
+    omega (arith, up s, more s, read s, whole, begun)

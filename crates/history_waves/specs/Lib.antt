@@ -1,2 +1,4 @@
 pub mod Histories
+pub mod Stories
+pub mod Shown
 pub mod Inner

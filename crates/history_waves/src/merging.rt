@@ -1,10 +1,8 @@
 //! The changes of one time: given ones, and those of own nets.
 
-ghost use Rattle.std.specs.Prelude.{◌≡◌, ◌≤◌, ◌++◌, ◌∷◌, ℕ, List, [], Option, None, OnOk, IfOk, length, get_or};
-ghost use Rattle.net_waves.specs.declared.timeline.Stop.{Stop};
-ghost use Rattle.warp_stores.specs.Words.{Move};
-ghost use Rattle.warp_stores.specs.Dated.{Dated, at};
-ghost use Rattle.history_waves.specs.Inner.Pending.{ArePending};
+ghost use Rattle.std.specs.Prelude.{◌≡◌, ◌≤◌, ◌∷◌, [], None, OnOk, IfOk, length, get_or};
+ghost use Rattle.warp_stores.specs.Dated.{at};
+ghost use Rattle.history_waves.specs.Inner.Pending.{AreGiven, AreOwnMoves, AreListed};
 
 use net_waves::{NetMove, Stop};
 use std::alloc::AllocError;
@@ -21,7 +19,7 @@ pub(crate) fn list_given(
 ) -> Result<usize, AllocError>
     requires { from ≤ length given.now }
     ensures within { IfOk result (λ next. (from ≤ next) × (next ≤ length given.now)) }
-    ensures listed { IfOk result (λ next. (own : List (Option ℕ)) (words : List (Dated Move)) (all : List Stop) → ArePending own given.now from words time moves.old.items all → ArePending own given.now next words time moves.new.items all) }
+    ensures listed { IfOk result (λ next. AreGiven given.now from next time moves.old.items moves.new.items) }
 {
     let mut next = from;
     while next < given.len() && given[next].time == time && given[next].net < below {
@@ -51,8 +49,7 @@ fn list_word(
     word: Word,
     moves: &mut Vec<NetMove>,
 ) -> Result<(), AllocError>
-    ensures { OnOk result ((given : List Stop) (told : ℕ) (before : List (Dated Move)) (all : List Stop) → ArePending own.now given told before time moves.old.items all
-        → ArePending own.now given told (before ++ (time, word) ∷ []) time moves.new.items all) }
+    ensures { OnOk result (AreOwnMoves own.now ((time, word) ∷ []) time moves.old.items moves.new.items) }
 {
     match net_at(own, word.place()) {
         Some(net) => {
@@ -73,8 +70,7 @@ fn list_own(
     words: &[Word],
     moves: &mut Vec<NetMove>,
 ) -> Result<(), AllocError>
-    ensures { OnOk result ((given : List Stop) (told : ℕ) (before : List (Dated Move)) (all : List Stop) → ArePending own.now given told before time moves.old.items all
-        → ArePending own.now given told (before ++ at time words.now) time moves.new.items all) }
+    ensures { OnOk result (AreOwnMoves own.now (at time words.now) time moves.old.items moves.new.items) }
 {
     for word in words {
         list_word(own, time, *word, moves)?;
@@ -82,7 +78,7 @@ fn list_own(
     Ok(())
 }
 
-/// Lists both, by nets, where given changes and words stand so; answers how many of the given ones are listed by then. An error is a
+/// Lists these, and before each the given changes of lesser nets; answers how many of the given ones are listed by then. An error is a
 /// refused growth.
 fn list_both(
     own: &[Option<u32>],
@@ -93,9 +89,8 @@ fn list_both(
     moves: &mut Vec<NetMove>,
 ) -> Result<usize, AllocError>
     requires { from ≤ length given.now }
-    ensures within { IfOk result (λ next. next ≤ length given.now) }
-    ensures listed { IfOk result (λ next. (before : List (Dated Move)) (all : List Stop) → ArePending own.now given.now from before time moves.old.items all
-        → ArePending own.now given.now next (before ++ at time words.now) time moves.new.items all) }
+    ensures within { IfOk result (λ next. (from ≤ next) × (next ≤ length given.now)) }
+    ensures listed { IfOk result (λ next. AreListed own.now given.now from next (at time words.now) time moves.old.items moves.new.items) }
 {
     let mut next = from;
     for word in words {
@@ -103,8 +98,7 @@ fn list_both(
         next = list_given(given, next, time, below, moves)?;
         list_word(own, time, *word, moves)?;
     }
-    let all = list_given(given, next, time, u32::MAX, moves)?;
-    Ok(all)
+    Ok(next)
 }
 
 /// The same, also where no given change is of the time. An error is a refused growth.
@@ -117,13 +111,11 @@ pub(crate) fn list_time(
     moves: &mut Vec<NetMove>,
 ) -> Result<usize, AllocError>
     requires { from ≤ length given.now }
-    ensures within { IfOk result (λ next. next ≤ length given.now) }
-    ensures listed { IfOk result (λ next. (before : List (Dated Move)) (all : List Stop) → ArePending own.now given.now from before time moves.old.items all
-        → ArePending own.now given.now next (before ++ at time words.now) time moves.new.items all) }
+    ensures within { IfOk result (λ next. (from ≤ next) × (next ≤ length given.now)) }
+    ensures listed { IfOk result (λ next. AreListed own.now given.now from next (at time words.now) time moves.old.items moves.new.items) }
 {
     if from < given.len() && given[from].time == time {
-        let next = list_both(own, time, words, given, from, moves)?;
-        return Ok(next);
+        return list_both(own, time, words, given, from, moves);
     }
     list_own(own, time, words, moves)?;
     Ok(from)

@@ -1,11 +1,10 @@
 //! From a history to all changes by time.
 
-ghost use Rattle.std.specs.Prelude.{◌≡◌, ◌≤◌, ◌++◌, [], ℕ, List, Option, true, IfOk, IfSome, length};
+ghost use Rattle.std.specs.Prelude.{◌≡◌, ◌≤◌, [], true, IfOk, IfSome, length};
 ghost use Rattle.net_waves.specs.ByTime.{stops_in};
-ghost use Rattle.warp_stores.specs.Words.{Move};
-ghost use Rattle.warp_stores.specs.Dated.{Dated, at};
+ghost use Rattle.warp_stores.specs.Dated.{at};
 ghost use Rattle.history_waves.specs.Histories.{AreBoth};
-ghost use Rattle.history_waves.specs.Inner.Pending.{AreUpTo};
+ghost use Rattle.history_waves.specs.Inner.Pending.{AreMore, AreTold};
 
 use crate::merging::{list_given, list_time};
 use net_waves::{ByTime, NetMove, Stop};
@@ -27,17 +26,24 @@ pub fn by_time_of(
 ) -> Result<Option<ByTime>, AllocError>
     ensures { IfOk result (λ all. IfSome all (λ by_time. AreBoth own.now given.now history (stops_in by_time))) }
 {
-    let mut by_time = if horizon < FAR {
-        ByTime::in_words(alloc)
-    } else {
-        ByTime::in_keys(alloc)
-    };
+    let mut by_time = no_changes(alloc, horizon);
     let mut queue = history.into_queue();
     let mut moves = Vec::new(alloc);
     if tell_all(alloc, own, &mut queue, given, &mut moves, &mut by_time)? {
         return Ok(Some(by_time));
     }
     Ok(None)
+}
+
+/// No changes, in the form in which those up to a horizon are had.
+pub(crate) fn no_changes(alloc: Global, horizon: u64) -> ByTime
+    ensures { stops_in result ≡ [] }
+{
+    if horizon < FAR {
+        ByTime::in_words(alloc)
+    } else {
+        ByTime::in_keys(alloc)
+    }
 }
 
 /// Appends the given changes and those of own nets that a queue tells, by time, and tells whether each came behind the one before. An
@@ -77,7 +83,7 @@ fn tell_all(
 
 /// Appends the given changes before a time, from a number on; answers how many are appended by then, none where one doesn't come behind
 /// the one before. An error is a refused growth. The moves are a place to work in.
-fn tell_given(
+pub(crate) fn tell_given(
     given: &[Stop],
     from: usize,
     until: u64,
@@ -85,8 +91,7 @@ fn tell_given(
     by_time: &mut ByTime,
 ) -> Result<Option<usize>, AllocError>
     requires { from ≤ length given.now }
-    ensures { IfOk result (λ next. IfSome next (λ next. (next ≤ length given.now) × ((own : List (Option ℕ)) (words : List (Dated Move)) → AreUpTo own given.now from words (stops_in by_time.old)
-        → AreUpTo own given.now next words (stops_in by_time.new)))) }
+    ensures { IfOk result (λ next. IfSome next (λ next. (next ≤ length given.now) × AreMore given.now from next (stops_in by_time.old) (stops_in by_time.new))) }
 {
     let mut next = from;
     while next < given.len() && given[next].time < until {
@@ -113,11 +118,11 @@ fn tell_time(
     by_time: &mut ByTime,
 ) -> Result<Option<usize>, AllocError>
     requires { from ≤ length given.now }
-    ensures { IfOk result (λ next. IfSome next (λ next. (next ≤ length given.now) × ((before : List (Dated Move)) → AreUpTo own.now given.now from before (stops_in by_time.old)
-        → AreUpTo own.now given.now next (before ++ at time words.now) (stops_in by_time.new)))) }
+    ensures { IfOk result (λ next. IfSome next (λ next. (next ≤ length given.now) × AreTold own.now given.now from next (at time words.now) (stops_in by_time.old) (stops_in by_time.new))) }
 {
     moves.clear();
-    let next = list_time(own, time, words, given, from, moves)?;
+    let some = list_time(own, time, words, given, from, moves)?;
+    let next = list_given(given, some, time, u32::MAX, moves)?;
     if by_time.append_all(time, moves.as_slice())? {
         return Ok(Some(next));
     }

@@ -3,7 +3,7 @@ use Rattle.gate_values.specs.declared.logic.Logic.TheVariants.{Zero}
 use Rattle.net_waves.specs.declared.timeline.NetMove.{NetMove}
 use Rattle.net_waves.specs.declared.timeline.Stop.{Stop}
 use Rattle.net_waves.specs.Timeline.{stop_by}
-use Rattle.history_waves.proofs.Pending.{pend_given}
+use Rattle.history_waves.proofs.Pending.{given_more}
 use Rattle.history_waves.proofs.merging.list_given.Goals as goal
 
 pub loop-next-preserved : goal.loop-next-preserved
@@ -16,5 +16,5 @@ loop-next-preserved c =
     let same : stop_by c.args.time m ≡ get_or given n none = ap (λ (t : ℕ). record { time = t; net = m.net; value = m.value }) (sym c.if-given-next.true) in (
       omega (arith, h.0),
       omega (arith, c.loop-next-test.true),
-      λ own words all up. rw c.in_ok-push.ensures.items (pend_given own given n words c.args.time c.loop-next.moves.items all none m c.loop-next-test.true same (h.2 own words all up)),
+      rw c.in_ok-push.ensures.items (given_more given c.args.from n c.args.time c.args.moves.now.items c.loop-next.moves.items none m c.loop-next-test.true same h.2),
     )

@@ -1,16 +1,11 @@
-use Rattle.std.proofs.Common.{◌++◌, take, arith}
-use Rattle.warp_stores.specs.Dated.{at}
-use Rattle.history_waves.proofs.Pending.{pend_more, pend_all}
+use Rattle.std.proofs.Common.{arith}
+use Rattle.history_waves.proofs.Pending.{own_more, at_all}
 use Rattle.history_waves.proofs.merging.list_own.Goals as goal
 
 pub loop-word-preserved : goal.loop-word-preserved
-loop-word-preserved c = λ given told before all up.
-    let words = c.args.words.now in
-    let i = c.loop-word.word-index in
-    pend_more c.args.own.now given told c.args.time c.list_word.new.moves.items all before words i c.word-item.result c.loop-word-test.true c.word-item.is
-    (c.in_ok-list_word.ensures given told (before ++ at c.args.time (take i words)) all (c.loop-word.invariant given told before all up))
+loop-word-preserved c =
+    own_more c.args.own.now c.args.time c.args.words.now c.loop-word.word-index c.word-item.result c.loop-word-test.true c.word-item.is
+    c.args.moves.now.items c.loop-word.moves.items c.list_word.new.moves.items c.loop-word.invariant c.in_ok-list_word.ensures
 
 pub returns : goal.returns
-returns c = λ given told before all up.
-    pend_all c.args.own.now given told c.args.time c.loop-word.moves.items all before c.args.words.now c.loop-word.word-index (omega (arith, c.loop-word-test.false))
-    (c.loop-word.invariant given told before all up)
+returns c = rw (← at_all c.args.time c.args.words.now c.loop-word.word-index (omega (arith, c.loop-word-test.false))) c.loop-word.invariant

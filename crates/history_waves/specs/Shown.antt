@@ -1,0 +1,2 @@
+-- What contracts see of the types of this crate: the value that each shows of its fields.
+pub mod Story
