@@ -1,5 +1,5 @@
 -- What the lists hold after all blocks have given their logs.
-use Rattle.std.proofs.Common.{◌≡◌, ◌≢◌, ℕ, zero, suc, ◌+◌, ◌-◌, ◌<◌, ◌≤◌, true, false, cond, IfSome, IsTrue, Option, Some, None, List, [], ◌∷◌, length, get_or, inl, inr, refl, ap, sym, ◌∙◌, subst, arith, All}
+use Rattle.std.proofs.Common.{◌≡◌, ◌≢◌, ℕ, zero, suc, ◌+◌, ◌-◌, ◌<◌, ◌≤◌, true, false, cond, IfSome, IsTrue, Option, Some, None, List, [], ◌∷◌, length, inl, inr, refl, ap, sym, ◌∙◌, subst, arith, All}
 use Rattle.std.proofs.lemmas.Bool.{cases_Bool, cases_lt, cond-true, cond-false, ne_eqb, true≢false}
 use Rattle.std.proofs.lemmas.List.{get_or_default, get_or_past}
 use Rattle.gate_values.specs.declared.logic.Change.{Change}
@@ -8,6 +8,7 @@ use Rattle.gate_netlist.specs.Circuit.{Design, CutFits, nets_of}
 use Rattle.gate_netlist.specs.Cut.{Ownership, IsOwnership, is_owner, owner_of}
 use Rattle.gate_vcd.specs.Given.{Given, AreItsChanges, changes_of}
 use Rattle.net_waves.specs.Waves.{wave_of, IsWave}
+use Rattle.net_waves.proofs.Compared.{cases_eq}
 use Rattle.warp_process.specs.Limits.{most_horizon}
 use Rattle.warp_part.specs.Portion.{Portion, owns}
 use Rattle.warp_part.specs.PartOf.{is_own}
@@ -16,7 +17,7 @@ use Rattle.warp_process.specs.Lawful.{IsLawful}
 use Rattle.warp_part.proofs.PartBuilding.{nets_within}
 use Rattle.warp_core.specs.Matched.{no_process, seen_at, IsBlockOf, EachBlock, told_by, told_of}
 use Rattle.warp_core.specs.Gather.{AreCounted}
-use Rattle.warp_core.specs.Inner.Gather.{after_block, after_blocks}
+use Rattle.warp_core.specs.Inner.Gather.{after_block, after_blocks, AreApart}
 use Rattle.warp_core.proofs.Parts.{owner_owns, other_owns}
 use Rattle.warp_core.proofs.Finished.{given_wave, log_wave}
 
@@ -28,32 +29,28 @@ after_one v old new own others n = elim (cases_Bool (owns v.part n)) [
   | inr other ↦ others n other ∙ sym (cond-false (owns v.part n) (log_of v n) (old n) other)
 ]
 
--- what all of some blocks are is the one that was taken from behind, where there was one
-pub all_one : (P : Process → Type 0) (ps : List Process) (p : Process) (n : ℕ) → All P ps → n ≡ 1 → n ≡ length ps → Some p ≡ Some (get_or ps (n - 1) p) → P p
-all_one P ps p n all one same is =
-    let first : n - 1 ≡ 0 = omega (arith, one) in
-    let here : get_or ps 0 p ≡ p = ap (λ (i : ℕ). get_or ps i p) (sym first) ∙ sym (some_is p (get_or ps (n - 1) p) is) in
-    subst P here (all 0 p (omega (arith, one, same)))
-  where
-    some_is : (a b : Process) → Some a ≡ Some b → a ≡ b
-    some_is a b e = cc
-
--- what the only block gives, which was taken from behind, is what all give
-pub after_only : (ps : List Process) (p : Process) (n : ℕ) → n ≡ 1 → n ≡ length ps → Some p ≡ Some (get_or ps (n - 1) p) → (lists : ℕ → List Change) (m : ℕ) → after_block p.seen lists m ≡ after_blocks ps lists m
-after_only [] p n one same is lists m = absurd (omega (arith, one, same))
-after_only (q ∷ r ∷ ps) p n one same is lists m = absurd (omega (arith, one, same))
-after_only (q ∷ []) p n one same is lists m =
-    let first : n - 1 ≡ 0 = omega (arith, one) in
-    let here : q ≡ p = ap (λ (i : ℕ). get_or (q ∷ []) i p) (sym first) ∙ sym (some_is p (get_or (q ∷ []) (n - 1) p) is) in
-    ap (λ (r : Process). after_block r.seen lists m) (sym here)
-  where
-    some_is : (a b : Process) → Some a ≡ Some b → a ≡ b
-    some_is a b e = cc
-
 -- the same lists before, the same lists after
 pub after_same : (ps : List Process) (f g : ℕ → List Change) → ((n : ℕ) → f n ≡ g n) → (n : ℕ) → after_blocks ps f n ≡ after_blocks ps g n
 after_same [] f g e n = e n
 after_same (p ∷ ps) f g e n = after_same ps (after_block p.seen f) (after_block p.seen g) (λ m. ap (λ (list : List Change). cond (owns p.seen.part m) (log_of p.seen m) list) (e m)) n
+
+-- lists that say nothing of the own nets of blocks, none of which two own, say nothing of those of the others after one has given its logs
+pub none_rest : (p : Process) (ps : List Process) (old new : ℕ → List Change) → AreApart (p ∷ ps) → All (λ (q : Process). (n : ℕ) → owns q.seen.part n ≡ true → old n ≡ []) (p ∷ ps)
+    → ((n : ℕ) → owns p.seen.part n ≡ false → new n ≡ old n) → All (λ (q : Process). (n : ℕ) → owns q.seen.part n ≡ true → new n ≡ []) ps
+none_rest p ps old new apart none others i q l n own = elim (cases_Bool (owns p.seen.part n)) [
+  | inl is ↦ absurd (true≢false (sym own ∙ apart.0 i q l n is))
+  | inr other ↦ others n other ∙ none (suc i) q (omega (arith, l)) n own
+]
+
+-- blocks of which no two own a net
+apart_from : (ps : List Process) → ((b c n : ℕ) → b < length ps → c < length ps → b ≢ c → owns (seen_at ps b).part n ≡ true → owns (seen_at ps c).part n ≡ false) → AreApart ps
+apart_from [] h = tt
+apart_from (p ∷ ps) h = (
+  (λ i q l n own.
+      subst (λ (r : Process). owns r.seen.part n ≡ false) (sym (get_or_default ps i q no_process l))
+      (h 0 (suc i) n (omega arith) (omega (arith, l)) (λ e. absurd (omega (arith, e))) own)),
+  apart_from ps (λ b c n lb lc ne own. h (suc b) (suc c) n (omega (arith, lb)) (omega (arith, lc)) (λ e. ne (omega (arith, e))) own),
+)
 
 -- a net that no block owns keeps its list
 after_none : (ps : List Process) (lists : ℕ → List Change) (n : ℕ) → ((b : ℕ) → b < length ps → owns (seen_at ps b).part n ≡ false) → after_blocks ps lists n ≡ lists n
@@ -91,6 +88,17 @@ module _ (d : Design) (cut : Ownership) (g : Given) (horizon : ℕ) (blocks : Li
           let l = owner_within n b e in
           after_own blocks lists n b (omega (arith, l, count)) (ap (λ (p : Portion). owns p n) (parts b l).part ∙ owner_owns d cut fits b n e)
           (λ c k apart. other_block n c k (ap (is_owner c) e ∙ ne_eqb b c (λ same. apart (sym same))))
+
+  -- no two blocks own a net
+  pub blocks_apart : AreApart blocks
+  blocks_apart = apart_from blocks (λ b c n lb lc ne own. go b c n lb lc ne own (owner_of cut n) refl)
+    where
+      go : (b c n : ℕ) → b < length blocks → c < length blocks → b ≢ c → owns (seen_at blocks b).part n ≡ true → (o : Option ℕ) → owner_of cut n ≡ o → owns (seen_at blocks c).part n ≡ false
+      go b c n lb lc ne own None e = other_block n c lc (ap (is_owner c) e)
+      go b c n lb lc ne own (Some o) e = elim (cases_eq o c) [
+        | inl same ↦ absurd (true≢false (sym own ∙ other_block n b lb (ap (is_owner b) e ∙ ne_eqb o b (λ mine. ne (sym mine ∙ same)))))
+        | inr apart ↦ other_block n c lc (ap (is_owner c) e ∙ ne_eqb o c apart)
+      ]
 
   -- lists that say nothing of a net that has an owner say nothing of a block's own nets
   pub none_given : (lists : List (List Change)) → length lists ≡ nets_of d → ((n : ℕ) → n < nets_of d → owner_of cut n ≢ None → wave_of lists n ≡ [])

@@ -1,11 +1,12 @@
--- The changes that a block's history tells beside those that are given are the changes of the lists that have its logs.
-use Rattle.std.proofs.Common.{◌≡◌, ◌≢◌, ◌∙◌, ℕ, ◌+◌, ◌<◌, inl, inr, Bool, true, false, cond, ◌&&◌, nat_eq, Option, Some, None, IfSome, List, [], ◌∷◌, length, get_or, refl, ap, sym, subst, arith}
+-- The changes that blocks' histories tell beside those that are given are the changes of the lists that have their logs.
+use Rattle.std.proofs.Common.{◌≡◌, ◌≢◌, ◌∙◌, ℕ, ◌+◌, ◌<◌, inl, inr, Bool, true, false, cond, ◌&&◌, nat_eq, Option, Some, None, IfSome, IfOk, Result, Ok, Err, List, [], ◌∷◌, ◌++◌, length, get_or, refl, ap, sym, subst, arith}
 use Rattle.std.proofs.lemmas.Bool.{cases_Bool, cases_lt, true≢false}
 use Rattle.std.proofs.lemmas.List.{get_or_past}
 use Rattle.gate_values.specs.declared.logic.Change.{Change}
 use Rattle.gate_values.specs.declared.logic.Logic.TheVariants.{X}
-use Rattle.gate_values.specs.Behaviour.{Source, Outside}
+use Rattle.gate_values.specs.Behaviour.{Outside}
 use Rattle.gate_values.specs.Changes.{pair_at}
+use Rattle.std.specs.declared.alloc.AllocError.{AllocError}
 use Rattle.net_waves.specs.declared.timeline.Stop.{Stop}
 use Rattle.net_waves.specs.declared.by_time.ByTime.{ByTime}
 use Rattle.net_waves.specs.ByTime.{stops_in}
@@ -18,12 +19,15 @@ use Rattle.net_waves.proofs.Waving.{count-here}
 use Rattle.warp_stores.specs.Words.{Move}
 use Rattle.warp_stores.specs.Dated.{Dated}
 use Rattle.warp_stores.specs.Lists.{changes_at}
-use Rattle.history_waves.specs.Histories.{own_stops, AreBoth}
-use Rattle.warp_part.specs.Portion.{Portion, IsPortion, slot_of, at_slot, is_driven, owns}
+use Rattle.history_waves.specs.Histories.{own_stops}
+use Rattle.history_waves.specs.Stories.{Telling, AreAll}
+use Rattle.history_waves.proofs.Pending.{count_in-append}
+use Rattle.warp_part.specs.Portion.{IsPortion, slot_of, at_slot, is_driven, owns}
 use Rattle.warp_part.proofs.Slots.{slot_is, slot_at}
 use Rattle.warp_process.specs.View.{View, log_of}
 use Rattle.warp_block.specs.Histories.{TellLogs}
 use Rattle.warp_core.specs.OwnNets.{AreOwn}
+use Rattle.warp_core.specs.Inner.Gather.{has, AreTelling}
 
 one_other : (s x : Stop) → s.net ≢ x.net → one s x ≡ 0
 one_other s x h = rw (eq_false s.net x.net h) (go (nat_eq s.time x.time))
@@ -109,26 +113,34 @@ module _ (v : View) (portion : IsPortion v.part) (own : List (Option ℕ)) (are 
         (λ j there. let found = own_place j s.net there in true≢false (sym found.0 ∙ (sym (ap (λ o. is_driven (at_slot v.part.sources Outside o)) found.1) ∙ other)))
         words
 
-  -- what is given, and what the words tell, are the changes of the lists that have the logs
-  pub told_in_step : (words : List (Dated Move)) → TellLogs v words → ((n : ℕ) → IsWave (log_of v n)) → (before after : List (List Change)) (given all : List Stop) → AreStopsOf before given → AreBoth own given words all
+  -- what the words tell comes to the lists that get the logs
+  pub told_more : (words : List (Dated Move)) → TellLogs v words → ((n : ℕ) → IsWave (log_of v n)) → (before after : List (List Change))
       → ((n : ℕ) → owns v.part n ≡ true → wave_of before n ≡ []) → ((n : ℕ) → owns v.part n ≡ true → wave_of after n ≡ log_of v n) → ((n : ℕ) → owns v.part n ≡ false → wave_of after n ≡ wave_of before n)
-      → AreStopsOf after all
-  told_in_step words tell waves before after given all step both none logs others s = elim (cases_Bool (owns v.part s.net)) [
+      → (tellings : List Telling) (first : List (List Change)) → AreTelling tellings first before → AreTelling (tellings ++ record { own = own; words = words } ∷ []) first after
+  told_more words tell waves before after none logs others tellings first told s = elim (cases_Bool (owns v.part s.net)) [
     | inl driven ↦ (
-        let first : count s given ≡ 0 = step s ∙ ap (λ (cs : List Change). marked s.value (pair_at cs s.time)) (none s.net driven) in
+        let empty : has s before ≡ 0 = ap (λ (cs : List Change). marked s.value (pair_at cs s.time)) (none s.net driven) in
         let more = own_told words tell waves s driven in
-        let is : marked s.value (pair_at (wave_of after s.net) s.time) ≡ marked s.value (pair_at (log_of v s.net) s.time) = ap (λ (cs : List Change). marked s.value (pair_at cs s.time)) (logs s.net driven) in
-        omega (arith, both s, first, more, is))
+        let is : has s after ≡ marked s.value (pair_at (log_of v s.net) s.time) = ap (λ (cs : List Change). marked s.value (pair_at cs s.time)) (logs s.net driven) in
+        omega (arith, told s, empty, more, is, count_in-append s tellings (record { own = own; words = words } ∷ [])))
     | inr other ↦ (
-        let first = step s in
         let more = other_told words tell waves s other in
-        let is : marked s.value (pair_at (wave_of after s.net) s.time) ≡ marked s.value (pair_at (wave_of before s.net) s.time) = ap (λ (cs : List Change). marked s.value (pair_at cs s.time)) (others s.net other) in
-        omega (arith, both s, first, more, is))
+        let is : has s after ≡ has s before = ap (λ (cs : List Change). marked s.value (pair_at cs s.time)) (others s.net other) in
+        omega (arith, told s, more, is, count_in-append s tellings (record { own = own; words = words } ∷ [])))
   ]
 
-  -- so are those by time, where they are had
-  pub told_when : (words : List (Dated Move)) → TellLogs v words → ((n : ℕ) → IsWave (log_of v n)) → (before after : List (List Change)) (given : List Stop) → AreStopsOf before given
-      → ((n : ℕ) → owns v.part n ≡ true → wave_of before n ≡ []) → ((n : ℕ) → owns v.part n ≡ true → wave_of after n ≡ log_of v n) → ((n : ℕ) → owns v.part n ≡ false → wave_of after n ≡ wave_of before n)
-      → (all : Option ByTime) → IfSome all (λ by_time. AreBoth own given words (stops_in by_time)) → IfSome all (λ by_time. AreStopsOf after (stops_in by_time))
-  told_when words tell waves before after given step none logs others None both = tt
-  told_when words tell waves before after given step none logs others (Some by_time) both = told_in_step words tell waves before after given (stops_in by_time) step both none logs others
+-- what is given, and what histories tell, are the changes of the lists that they tell of
+pub told_in_step : (before after : List (List Change)) (given all : List Stop) (tellings : List Telling) → AreStopsOf before given → AreTelling tellings before after → AreAll given tellings all → AreStopsOf after all
+told_in_step before after given all tellings step told both s = omega (arith, step s, told s, both s)
+
+-- so are those by time, where they are had
+pub told_when : (given : List Stop) (tellings : List Telling) (old new : List (List Change)) → AreStopsOf old given → AreTelling tellings old new
+    → (all : Option ByTime) → IfSome all (λ by_time. AreAll given tellings (stops_in by_time)) → IfSome all (λ by_time. AreStopsOf new (stops_in by_time))
+told_when given tellings old new step told None both = tt
+told_when given tellings old new step told (Some by_time) both = told_in_step old new given (stops_in by_time) tellings step told both
+
+-- unless memory is wanted
+pub told_ok : (given : List Stop) (tellings : List Telling) (old new : List (List Change)) → AreStopsOf old given → AreTelling tellings old new
+    → (all : Result (Option ByTime) AllocError) → IfOk all (λ all. IfSome all (λ by_time. AreAll given tellings (stops_in by_time))) → IfOk all (λ all. IfSome all (λ by_time. AreStopsOf new (stops_in by_time)))
+told_ok given tellings old new step told (Ok all) both = told_when given tellings old new step told all both
+told_ok given tellings old new step told (Err error) both = tt

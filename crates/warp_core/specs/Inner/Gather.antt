@@ -1,6 +1,12 @@
 -- Blocks give their logs away, one after another.
-use Rattle.std.specs.Prelude.{ℕ, if◌then◌else◌, List, [], ◌∷◌}
+use Rattle.std.specs.Prelude.{◌≡◌, ℕ, ◌+◌, true, false, if◌then◌else◌, List, [], ◌∷◌, ⊤}
+use Rattle.std.specs.List.{All}
 use Rattle.gate_values.specs.declared.logic.Change.{Change}
+use Rattle.gate_values.specs.Changes.{pair_at}
+use Rattle.net_waves.specs.declared.timeline.Stop.{Stop}
+use Rattle.net_waves.specs.Stops.{marked}
+use Rattle.net_waves.specs.Waves.{wave_of}
+use Rattle.history_waves.specs.Stories.{Telling, count_in}
 use Rattle.warp_part.specs.Portion.{owns}
 use Rattle.warp_process.specs.View.{View, Process, log_of}
 
@@ -12,3 +18,16 @@ after_block v lists n = if owns v.part n then log_of v n else lists n
 abbrev pub after_blocks : List Process → (ℕ → List Change) → ℕ → List Change
 after_blocks [] lists = lists
 after_blocks (p ∷ ps) lists = after_blocks ps (after_block p.seen lists)
+
+-- no two of some blocks own a net
+abbrev pub AreApart : List Process → Type 0
+AreApart [] = ⊤
+AreApart (p ∷ ps) = All (λ q. (n : ℕ) → owns p.seen.part n ≡ true → owns q.seen.part n ≡ false) ps × AreApart ps
+
+-- how often lists have a change: once, or not at all
+abbrev pub has : Stop → List (List Change) → ℕ
+has s lists = marked s.value (pair_at (wave_of lists s.net) s.time)
+
+-- histories tell what came to lists
+abbrev pub AreTelling : List Telling → List (List Change) → List (List Change) → Type 0
+AreTelling tellings old new = (s : Stop) → has s new ≡ has s old + count_in s tellings

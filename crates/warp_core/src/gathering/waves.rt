@@ -1,8 +1,9 @@
-//! Waves from the logs of blocks. Each log moves into its place; no change of it is copied. The history of a block that has the whole
-//! circuit gives the changes by time, up to a horizon that isn't far; else they are put in order by who asks for the lists.
+//! Waves from the logs of blocks. Each log moves into its place; no change of it is copied. The histories of the blocks give the changes
+//! by time, up to a horizon that isn't far; else they are put in order by who asks for the lists.
 
-ghost use Rattle.std.specs.Prelude.{◌≡◌, ◌≢◌, ◌<◌, ◌≤◌, ◌+◌, ℕ, true, [], None, IfOk, IfSome, length, vec_len};
+ghost use Rattle.std.specs.Prelude.{◌≡◌, ◌≢◌, ◌<◌, ◌≤◌, ◌+◌, ℕ, List, true, false, [], None, IsTrue, IfOk, IfSome, length, vec_len};
 ghost use Rattle.std.specs.List.{All};
+ghost use Rattle.gate_values.specs.declared.logic.Change.{Change};
 ghost use Rattle.gate_values.specs.Changes.{before_time};
 ghost use Rattle.gate_netlist.specs.Circuit.{nets_of, CutFits};
 ghost use Rattle.gate_netlist.specs.Cut.{owner_of};
@@ -14,15 +15,16 @@ ghost use Rattle.warp_part.specs.Portion.{owns};
 ghost use Rattle.warp_process.specs.Limits.{most_horizon};
 ghost use Rattle.warp_core.specs.Matched.{IsBlockOf, EachBlock, told_of};
 ghost use Rattle.warp_core.specs.Gather.{AreCounted};
-ghost use Rattle.warp_core.specs.Inner.Gather.{after_block, after_blocks};
+ghost use Rattle.warp_process.specs.View.{log_of};
+ghost use Rattle.warp_core.specs.Inner.Gather.{after_blocks, AreApart, AreTelling};
 ghost use Rattle.warp_core.specs.OwnNets.{AreOwn};
 
 use super::told::given_until;
 use gate_netlist::{Circuit, Cut};
 use gate_values::Change;
 use gate_vcd::Stimulus;
-use history_waves::{FAR, by_time_of};
-use net_waves::{ByTime, stops_by_time};
+use history_waves::{FAR, Story, by_time_of_all};
+use net_waves::{ByTime, Stop, stops_by_time};
 use std::alloc::{AllocError, Global};
 use warp_block::Block;
 use warp_part::Part;
@@ -102,7 +104,7 @@ fn given_list(
     }
 }
 
-/// What blocks and the lists say of all nets, where no list says anything of a net that a block owns.
+/// What blocks and the lists say of all nets, where no list says anything of a net that a block owns, and no two blocks own a net.
 fn gather_logs(
     alloc: Global,
     horizon: u64,
@@ -113,18 +115,15 @@ fn gather_logs(
     requires few { vec_len lists ≤ 1000000 }
     requires waves { (n : ℕ) → IsWave (wave_of (lists_in lists.items) n) }
     requires none { All (λ p. (n : ℕ) → owns p.seen.part n ≡ true → wave_of (lists_in lists.items) n ≡ []) blocks.items }
+    requires apart { AreApart blocks.items }
     ensures len { IfOk result (λ all. vec_len all.lists ≡ vec_len lists) }
     ensures given { IfOk result (λ all. (n : ℕ) → wave_of (lists_in all.lists.items) n ≡ after_blocks blocks.items (wave_of (lists_in lists.items)) n) }
     ensures by_time { IfOk result (λ all. IfSome all.by_time (λ by_time. AreStopsOf (lists_in all.lists.items) (stops_in by_time))) }
 {
-    let mut blocks = blocks;
-    let mut lists = lists;
-    if horizon < FAR && blocks.len() == 1 {
-        if let Some(block) = blocks.pop() {
-            let all = give_one(alloc, horizon, block, lists)?;
-            return Ok(all);
-        }
+    if horizon < FAR {
+        return tell_logs(alloc, horizon, blocks, lists);
     }
+    let mut lists = lists;
     give_all(blocks, &mut lists);
     Ok(Gathered {
         lists,
@@ -132,35 +131,93 @@ fn gather_logs(
     })
 }
 
-/// What a block and the lists say of all nets, where no list says anything of a net that the block owns: its logs move, and its history
-/// tells the changes by time.
-fn give_one(
+/// The same, where the histories of blocks tell their logs by time, if they do. An error is a refused growth.
+fn tell_logs(
     alloc: Global,
     horizon: u64,
-    block: Block,
+    blocks: Vec<Block>,
     lists: Vec<Vec<Change>>,
 ) -> Result<Gathered, AllocError>
-    requires places { All (λ net. net < vec_len lists) block.seen.part.nets }
+    requires places { All (λ p. All (λ net. net < vec_len lists) p.seen.part.nets) blocks.items }
     requires few { vec_len lists ≤ 1000000 }
     requires waves { (n : ℕ) → IsWave (wave_of (lists_in lists.items) n) }
-    requires none { (n : ℕ) → owns block.seen.part n ≡ true → wave_of (lists_in lists.items) n ≡ [] }
+    requires none { All (λ p. (n : ℕ) → owns p.seen.part n ≡ true → wave_of (lists_in lists.items) n ≡ []) blocks.items }
+    requires apart { AreApart blocks.items }
     ensures len { IfOk result (λ all. vec_len all.lists ≡ vec_len lists) }
-    ensures given { IfOk result (λ all. (n : ℕ) → wave_of (lists_in all.lists.items) n ≡ after_block block.seen (wave_of (lists_in lists.items)) n) }
+    ensures given { IfOk result (λ all. (n : ℕ) → wave_of (lists_in all.lists.items) n ≡ after_blocks blocks.items (wave_of (lists_in lists.items)) n) }
     ensures by_time { IfOk result (λ all. IfSome all.by_time (λ by_time. AreStopsOf (lists_in all.lists.items) (stops_in by_time))) }
 {
     let mut lists = lists;
     let given = stops_by_time(alloc, lists.as_slice())?;
+    let stories = give_stories(alloc, blocks, &mut lists)?;
+    let by_time = told_by(alloc, horizon, stories, given.as_slice())?;
+    Ok(Gathered { lists, by_time })
+}
+
+/// The changes that are given, and those that stories tell, by time, if there are stories. An error is a refused growth.
+fn told_by(
+    alloc: Global,
+    horizon: u64,
+    stories: Option<Vec<Story>>,
+    given: &[Stop],
+) -> Result<Option<ByTime>, AllocError>
+    ensures { (old new : List (List Change)) → AreStopsOf old given.now → IfSome stories (λ told. AreTelling told.items old new) → IfOk result (λ all. IfSome all (λ by_time. AreStopsOf new (stops_in by_time))) }
+{
+    match stories {
+        Some(stories) => by_time_of_all(alloc, horizon, stories, given),
+        None => Ok(None),
+    }
+}
+
+/// Gives away the logs of blocks, in order, and answers their histories, if each has one that tells its logs. An error is a refused growth.
+fn give_stories(
+    alloc: Global,
+    blocks: Vec<Block>,
+    lists: &mut Vec<Vec<Change>>,
+) -> Result<Option<Vec<Story>>, AllocError>
+    requires places { All (λ p. All (λ net. net < vec_len lists.old) p.seen.part.nets) blocks.items }
+    requires none { All (λ p. (n : ℕ) → owns p.seen.part n ≡ true → wave_of (lists_in lists.old.items) n ≡ []) blocks.items }
+    requires apart { AreApart blocks.items }
+    ensures len { IfOk result (λ _. vec_len lists.new ≡ vec_len lists.old) }
+    ensures given { IfOk result (λ _. (n : ℕ) → wave_of (lists_in lists.new.items) n ≡ after_blocks blocks.items (wave_of (lists_in lists.old.items)) n) }
+    ensures told { IfOk result (λ told. IfSome told (λ stories. AreTelling stories.items (lists_in lists.old.items) (lists_in lists.new.items))) }
+{
+    let mut stories = Vec::new(alloc);
+    let mut tell_all = true;
+    for block in blocks {
+        if !give_story(alloc, block, lists, &mut stories)? {
+            tell_all = false;
+        }
+    }
+    if tell_all {
+        return Ok(Some(stories));
+    }
+    Ok(None)
+}
+
+/// Gives away the logs of a block, puts its history behind others, and tells whether it has one that tells its logs. An error is a refused
+/// growth.
+fn give_story(
+    alloc: Global,
+    block: Block,
+    lists: &mut Vec<Vec<Change>>,
+    stories: &mut Vec<Story>,
+) -> Result<bool, AllocError>
+    requires places { All (λ net. net < vec_len lists.old) block.seen.part.nets }
+    requires none { (n : ℕ) → owns block.seen.part n ≡ true → wave_of (lists_in lists.old.items) n ≡ [] }
+    ensures len { IfOk result (λ _. vec_len lists.new ≡ vec_len lists.old) }
+    ensures own { IfOk result (λ _. (n : ℕ) → IsTrue (owns block.seen.part n) → wave_of (lists_in lists.new.items) n ≡ log_of block.seen n) }
+    ensures others { IfOk result (λ _. (n : ℕ) → owns block.seen.part n ≡ false → wave_of (lists_in lists.new.items) n ≡ wave_of (lists_in lists.old.items) n) }
+    ensures told { IfOk result (λ told. told ≡ true → (first : _) → AreTelling stories.old.items first (lists_in lists.old.items) → AreTelling stories.new.items first (lists_in lists.new.items)) }
+{
     block.law();
-    let Some((part, history)) = block.give_history(&mut lists) else {
-        return Ok(Gathered {
-            lists,
-            by_time: None,
-        });
+    let Some((part, history)) = block.give_history(lists) else {
+        return Ok(false);
     };
     part.law();
     let own = own_nets(alloc, &part)?;
-    let by_time = by_time_of(alloc, horizon, own.as_slice(), history, given.as_slice())?;
-    Ok(Gathered { lists, by_time })
+    stories.push(Story::new(own, history))?;
+    Ok(true)
 }
 
 /// Of each place of a part its net, if the part owns it. An error is a refused growth.

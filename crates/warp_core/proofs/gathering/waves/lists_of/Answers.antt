@@ -1,10 +1,10 @@
-use Rattle.std.proofs.Common.{◌≡◌, Vec, length, ap, ◌∙◌, arith}
+use Rattle.std.proofs.Common.{◌≡◌, Vec, length, ◌∙◌, arith}
 use Rattle.std.specs.declared.alloc.Global.{Global}
 use Rattle.std.proofs.lemmas.List.{length-map}
 use Rattle.gate_values.specs.declared.logic.Change.{Change}
 use Rattle.gate_netlist.specs.Circuit.{nets_of}
 use Rattle.net_waves.specs.Waves.{lists_in}
-use Rattle.warp_core.proofs.GivenLogs.{blocks_within, none_given, all_told, all_waves}
+use Rattle.warp_core.proofs.GivenLogs.{blocks_within, blocks_apart, none_given, all_told, all_waves}
 use Rattle.warp_core.proofs.gathering.waves.lists_of.Goals as goal
 
 pub gather_logs-requires-clause-places : goal.gather_logs-requires-clause-places
@@ -19,6 +19,10 @@ gather_logs-requires-clause-none c =
     length-map lists (λ (v : Vec Change Global). v.items) ∙ (omega (arith, c.in_ok-lists.lists.ok.0, c.in_ok-lists.ensures.nets, c.nets.ensures.count)) in
     none_given c.args.circuit.now c.args.cut.now c.args.stimulus.now c.args.horizon c.args.blocks.items c.requires.cut c.law.ensures c.requires.count c.requires.parts
     (lists_in lists) same (λ n l. c.in_ok-lists.ensures.none n (omega (arith, l, c.nets.ensures.count)))
+
+pub gather_logs-requires-clause-apart : goal.gather_logs-requires-clause-apart
+gather_logs-requires-clause-apart c =
+    blocks_apart c.args.circuit.now c.args.cut.now c.args.stimulus.now c.args.horizon c.args.blocks.items c.requires.cut c.law.ensures c.requires.count c.requires.parts
 
 pub returns-clause-waves : goal.returns-clause-waves
 returns-clause-waves c =
