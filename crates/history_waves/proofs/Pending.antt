@@ -1,5 +1,5 @@
 -- What is told so far, with one change more.
-use Rattle.std.proofs.Common.{◌≡◌, ◌∙◌, ℕ, ◌+◌, ◌<◌, ◌≤◌, Option, Some, None, IfNone, List, [], ◌∷◌, ◌++◌, map, take, length, get_or, refl, ap, sym, subst, arith}
+use Rattle.std.proofs.Common.{◌≡◌, ◌∙◌, ℕ, zero, suc, set, ◌+◌, ◌<◌, ◌≤◌, Option, Some, None, IfNone, List, [], ◌∷◌, ◌++◌, map, take, length, get_or, refl, ap, sym, subst, arith}
 use Rattle.std.proofs.lemmas.List.{map-append, take_more, take_all}
 use Rattle.std.proofs.lemmas.List.Elements.{filter_map-append}
 use Rattle.net_waves.specs.declared.timeline.NetMove.{NetMove}
@@ -107,6 +107,26 @@ taken_time own given from next time ws left all old new e listed s =
 pub count_in-append : (s : Stop) (a b : List Telling) → count_in s (a ++ b) ≡ count_in s a + count_in s b
 count_in-append s [] b = omega arith
 count_in-append s (t ∷ a) b = omega (arith, count_in-append s a b)
+
+-- what histories tell of which one is another
+count_in-set : (s : Stop) (ts : List Telling) (i : ℕ) (t d : Telling) → i < length ts
+    → count_in s (set ts i t) + count s (own_stops (get_or ts i d).own (get_or ts i d).words) ≡ count_in s ts + count s (own_stops t.own t.words)
+count_in-set s [] i t d l = absurd (omega (arith, l))
+count_in-set s (x ∷ ts) zero t d l = omega arith
+count_in-set s (x ∷ ts) (suc i) t d l = (let rest = count_in-set s ts i t d (omega (arith, l)) in omega (arith, rest))
+
+-- one of some histories tells it no more
+pub taken_one : (given : List Stop) (from next time : ℕ) (ts : List Telling) (i : ℕ) (new d : Telling) (moves after : List NetMove) → i < length ts
+    → AreTaken given from next time (get_or ts i d ∷ []) (new ∷ []) moves after → AreTaken given from next time ts (set ts i new) moves after
+taken_one given from next time ts i new d moves after l taken s =
+    let other = count_in-set s ts i new d l in
+    let one = taken s in
+    omega (arith, one, other)
+
+-- one after another
+pub taken_then : (given : List Stop) (from mid next time : ℕ) (a b c : List Telling) (old moves new : List NetMove)
+    → AreTaken given from mid time a b old moves → AreTaken given mid next time b c moves new → AreTaken given from next time a c old new
+taken_then given from mid next time a b c old moves new first second s = omega (arith, first s, second s)
 
 none_left : (ds : List (Dated Move)) → first_time ds ≡ None → ds ≡ []
 none_left [] e = refl

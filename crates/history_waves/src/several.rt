@@ -10,6 +10,8 @@ use crate::story::Story;
 use crate::telling::{no_changes, tell_given};
 use net_waves::{ByTime, NetMove, Stop};
 use std::alloc::{AllocError, Global};
+use std::cmp::Reverse;
+use std::collections::BinaryHeap;
 use warp_stores::Word;
 
 /// Places to work in: the words of a time, and the changes that they tell.
@@ -18,6 +20,9 @@ struct Desk {
     words: Vec<Word>,
     moves: Vec<NetMove>,
 }
+
+/// When each of some stories goes on, the soonest first: the time of its first word, and its number.
+type Heads = BinaryHeap<Reverse<(u64, usize)>>;
 
 /// All changes by time, up to a horizon: those that are given, which stand in the order of time, and those that histories tell; none
 /// where they don't come one behind the other, or one has no word or key. An error is a refused growth.
@@ -35,11 +40,23 @@ pub fn by_time_of_all(
         words: Vec::new(alloc),
         moves: Vec::new(alloc),
     };
+    let mut heads = heads_of(alloc, stories.as_slice())?;
     let left = stories.as_mut_slice();
-    if tell_stories(horizon, left, given, &mut desk, &mut by_time)? {
+    if tell_stories(horizon, left, &mut heads, given, &mut desk, &mut by_time)? {
         return Ok(Some(by_time));
     }
     Ok(None)
+}
+
+/// When each story goes on. An error is a refused growth.
+fn heads_of(alloc: Global, stories: &[Story]) -> Result<Heads, AllocError> {
+    let mut heads = BinaryHeap::with_capacity(alloc, stories.len())?;
+    for place in 0..stories.len() {
+        if let Some(time) = stories[place].head() {
+            heads.push(Reverse((time, place)))?;
+        }
+    }
+    Ok(heads)
 }
 
 /// Appends the given changes and those that stories tell, by time, and tells whether each came behind the one before. An error is a
@@ -47,6 +64,7 @@ pub fn by_time_of_all(
 fn tell_stories(
     horizon: u64,
     stories: &mut [Story],
+    heads: &mut Heads,
     given: &[Stop],
     desk: &mut Desk,
     by_time: &mut ByTime,
@@ -56,10 +74,10 @@ fn tell_stories(
 {
     let mut told = 0;
     for _ in 0..horizon.saturating_add(1) {
-        let Some(time) = first_head(stories) else {
+        let Some(time) = soonest(heads) else {
             break;
         };
-        match tell_next(time, stories, given, told, desk, by_time)? {
+        match tell_next(time, stories, heads, given, told, desk, by_time)? {
             Some(next) => told = next,
             None => return Ok(false),
         }
@@ -71,6 +89,12 @@ fn tell_stories(
         Some(all) => Ok(all == given.len()),
         None => Ok(false),
     }
+}
+
+/// When a story goes on first.
+fn soonest(heads: &Heads) -> Option<u64> {
+    let Reverse((time, _)) = heads.peek()?;
+    Some(*time)
 }
 
 /// The least time of the first words of stories; none where no word is left.
@@ -100,6 +124,7 @@ fn sooner(time: Option<u64>, other: Option<u64>) -> Option<u64>
 fn tell_next(
     time: u64,
     stories: &mut [Story],
+    heads: &mut Heads,
     given: &[Stop],
     from: usize,
     desk: &mut Desk,
@@ -111,7 +136,7 @@ fn tell_next(
     let Some(before) = tell_given(given, from, time, &mut desk.moves, by_time)? else {
         return Ok(None);
     };
-    let next = list_next(time, stories, given, before, desk)?;
+    let next = list_next(time, stories, heads, given, before, desk)?;
     if by_time.append_all(time, desk.moves.as_slice())? {
         return Ok(Some(next));
     }
@@ -123,6 +148,7 @@ fn tell_next(
 fn list_next(
     time: u64,
     stories: &mut [Story],
+    heads: &mut Heads,
     given: &[Stop],
     from: usize,
     desk: &mut Desk,
@@ -132,7 +158,7 @@ fn list_next(
     ensures taken { IfOk result (λ next. AreTaken given.now from next time stories.old stories.new [] desk.new.moves.items) }
 {
     desk.moves.clear();
-    let some = list_each(time, stories, given, from, desk)?;
+    let some = list_each(time, stories, heads, given, from, desk)?;
     let next = list_given(given, some, time, u32::MAX, &mut desk.moves)?;
     sort(desk.moves.as_mut_slice(), time);
     Ok(next)
@@ -143,6 +169,7 @@ fn list_next(
 fn list_each(
     time: u64,
     stories: &mut [Story],
+    heads: &mut Heads,
     given: &[Stop],
     from: usize,
     desk: &mut Desk,
@@ -151,11 +178,47 @@ fn list_each(
     ensures within { IfOk result (λ next. next ≤ length given.now) }
     ensures taken { IfOk result (λ next. AreTaken given.now from next time stories.old stories.new desk.old.moves.items desk.new.moves.items) }
 {
-    let Some((story, others)) = stories.split_first_mut() else {
+    let mut next = from;
+    for _ in 0..stories.len() {
+        let Some(place) = taken_at(heads, time) else {
+            break;
+        };
+        next = list_one(place, time, stories, heads, given, next, desk)?;
+    }
+    Ok(next)
+}
+
+/// Takes out a story that goes on at a time, if that is when one goes on first.
+fn taken_at(heads: &mut Heads, time: u64) -> Option<usize> {
+    if soonest(heads) != Some(time) {
+        return None;
+    }
+    let Reverse((_, place)) = heads.pop()?;
+    Some(place)
+}
+
+/// The same of one story, which is put in again where it goes on.
+fn list_one(
+    place: usize,
+    time: u64,
+    stories: &mut [Story],
+    heads: &mut Heads,
+    given: &[Stop],
+    from: usize,
+    desk: &mut Desk,
+) -> Result<usize, AllocError>
+    requires { from ≤ length given.now }
+    ensures within { IfOk result (λ next. next ≤ length given.now) }
+    ensures taken { IfOk result (λ next. AreTaken given.now from next time stories.old stories.new desk.old.moves.items desk.new.moves.items) }
+{
+    if place >= stories.len() {
         return Ok(from);
-    };
-    let next = story.tell(time, given, from, &mut desk.words, &mut desk.moves)?;
-    list_each(time, others, given, next, desk)
+    }
+    let next = stories[place].tell(time, given, from, &mut desk.words, &mut desk.moves)?;
+    if let Some(head) = stories[place].head() {
+        heads.push(Reverse((head, place)))?;
+    }
+    Ok(next)
 }
 
 /// Puts moves of a time by nets, if they don't stand so.
