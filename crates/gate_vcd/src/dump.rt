@@ -242,7 +242,7 @@ pub(crate) fn put_first_values<S: Sink>(sink: &mut S, lot: &mut Lot, waves: &Wav
 }
 
 /// Puts the value of each net at 0, which is given.
-fn put_values<S: Sink>(sink: &mut S, lot: &mut Lot, firsts: &[Logic])
+pub(crate) fn put_values<S: Sink>(sink: &mut S, lot: &mut Lot, firsts: &[Logic])
     ghost value: { ℕ → ℕ → Logic }
     requires few { length firsts.now ≤ 1000000 }
     requires firsts { (n : ℕ) → n < length firsts.now → get_or firsts.now n X ≡ value n 0 }

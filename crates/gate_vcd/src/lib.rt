@@ -45,7 +45,7 @@ pub use fault::{StimCause, StimFault, WriteFault};
 pub use keyword::{Keyword, keyword_of, opens_command};
 pub use laws::{dump_laws, refusal_laws};
 pub use numbers::{is_numeral, number_up_to};
-pub use pieces::dump_by;
+pub use pieces::{changes_dump_by, dump_by};
 pub use reading::read_stimulus;
 pub use scopes::Scopes;
 pub use source::Source;

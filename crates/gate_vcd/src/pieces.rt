@@ -1,26 +1,30 @@
 //! The dump of waves, made in pieces by several threads.
 
-ghost use Rattle.std.specs.Prelude.{◌≡◌, ℕ, ◌+◌, ◌-◌, ◌<◌, ◌≤◌, ◌^◌, ◌++◌, List, [], false, length, codes, IfOk};
+ghost use Rattle.std.specs.Prelude.{◌≡◌, ℕ, ◌+◌, ◌-◌, ◌<◌, ◌≤◌, ◌^◌, ◌++◌, List, [], false, length, get_or, codes, IfOk};
 ghost use Rattle.std.specs.List.{AllByRecursion};
 ghost use Rattle.gate_values.specs.declared.logic.Change.{Change};
+ghost use Rattle.gate_values.specs.declared.logic.Logic.{Logic};
+ghost use Rattle.gate_values.specs.declared.logic.Logic.TheVariants.{X};
 ghost use Rattle.gate_netlist.specs.Circuit.{nets_of};
 ghost use Rattle.net_waves.specs.declared.timeline.Stop.{Stop};
 ghost use Rattle.net_waves.specs.Waves.{wave_of, wave_value, IsWave, IsUntil};
 ghost use Rattle.net_waves.specs.Packed.{told_below, all_told, times};
 ghost use Rattle.net_waves.specs.Keys.{stops_of_keys};
+ghost use Rattle.net_waves.specs.ByTime.{stops_in};
 ghost use Rattle.net_waves.specs.Stops.{AreStopsOf};
 ghost use Rattle.gate_vcd.specs.Dump.{header, first_lines, moments, vcd_text};
 ghost use Rattle.gate_vcd.specs.Inner.Walk.{last_stop, tail_line, GoesOn};
 ghost use Rattle.gate_vcd.specs.Inner.Pieces.{AreCuts, ArePieces, times_text, keys_text};
 
 use crate::dump::{
-    put_first_values, put_header, put_keys, put_runs, put_tail, put_times, write_vcd_once,
+    put_first_values, put_header, put_keys, put_runs, put_tail, put_times, put_values,
+    write_changes, write_vcd_once,
 };
 use crate::stimulus::Stimulus;
 use crate::timescale::Timescale;
 use byte_sinks::{Grow, Lot, Sink};
 use gate_netlist::Circuit;
-use gate_values::Change;
+use gate_values::{Change, Logic};
 use net_waves::{ByTime, Keyed, Packed, Timeline, Waves, stop_of};
 use std::alloc::{AllocError, Global};
 use std::thread;
@@ -131,14 +135,111 @@ fn with_moments<R: Threads + Sync>(
 {
     waves.law();
     let (spent, by_time) = waves.into_parts();
+    with_changes(rt, alloc, workers, front, spent, &by_time, horizon)
+}
+
+/// A text, and behind it what changes after 0 in some lists, which is had by time, and the horizon. Spent lists are given back on the way.
+fn with_changes<R: Threads + Sync>(
+    rt: &R,
+    alloc: Global,
+    workers: u32,
+    front: Vec<u8>,
+    spent: Vec<Vec<Change>>,
+    by_time: &ByTime,
+    horizon: u64,
+) -> Result<Vec<u8>, AllocError>
+    ghost lists: { List (List Change) }
+    requires few { length lists ≤ 1000000 }
+    requires until { (n : ℕ) → IsUntil horizon (wave_of lists n) }
+    requires waves { (n : ℕ) → IsWave (wave_of lists n) }
+    requires stops { AreStopsOf lists (stops_in by_time.now) }
+    requires workers { 1 ≤ workers }
+    ensures { IfOk result (λ text. text.items ≡ front.items ++ moments (wave_value lists) (length lists) horizon horizon) }
+{
     match by_time {
-        ByTime::Words(packed) => with_words(rt, alloc, workers, front, spent, &packed, horizon),
-        ByTime::Keys(keyed) => with_keys(rt, alloc, workers, front, spent, &keyed, horizon),
+        ByTime::Words(packed) => with_words(rt, alloc, workers, front, spent, packed, horizon),
+        ByTime::Keys(keyed) => with_keys(rt, alloc, workers, front, spent, keyed, horizon),
         ByTime::Runs(timeline) => {
             drop(spent);
-            with_runs(alloc, front, &timeline, horizon)
+            with_runs(alloc, front, timeline, horizon)
         }
     }
+}
+
+/// The dump of changes that are had by time alone, and of the value of each net at time 0, as [`write_changes`] writes it, made by up to so
+/// many threads side by side, at least one. An error is a refused growth.
+pub fn changes_dump_by<R: Threads + Sync>(
+    rt: &R,
+    alloc: Global,
+    workers: u32,
+    circuit: &Circuit,
+    stimulus: &Stimulus,
+    firsts: &[Logic],
+    by_time: &ByTime,
+    horizon: u64,
+) -> Result<Vec<u8>, AllocError>
+    ghost lists: { List (List Change) }
+    requires workers { 1 ≤ workers }
+    requires nets { length lists ≡ nets_of circuit.now }
+    requires waves { (n : ℕ) → IsWave (wave_of lists n) }
+    requires until { (n : ℕ) → IsUntil horizon (wave_of lists n) }
+    requires firsts { (length firsts.now ≡ length lists) × ((n : ℕ) → n < length lists → get_or firsts.now n X ≡ wave_value lists n 0) }
+    requires stops { AreStopsOf lists (stops_in by_time.now) }
+    requires near { horizon ≤ 10 ^ 12 }
+    ensures { IfOk result (λ text. text.items ≡ vcd_text (codes "top") circuit.now stimulus.now (wave_value lists) horizon) }
+{
+    if workers < 2 {
+        return changes_dump(alloc, circuit, stimulus, firsts, by_time, horizon);
+    }
+    circuit.law();
+    let front = front_with(alloc, circuit, stimulus.timescale(), firsts)?;
+    let spent = Vec::new(alloc);
+    with_changes(rt, alloc, workers, front, spent, by_time, horizon)
+}
+
+/// The same dump, made by one thread.
+fn changes_dump(
+    alloc: Global,
+    circuit: &Circuit,
+    stimulus: &Stimulus,
+    firsts: &[Logic],
+    by_time: &ByTime,
+    horizon: u64,
+) -> Result<Vec<u8>, AllocError>
+    ghost lists: { List (List Change) }
+    requires nets { length lists ≡ nets_of circuit.now }
+    requires waves { (n : ℕ) → IsWave (wave_of lists n) }
+    requires until { (n : ℕ) → IsUntil horizon (wave_of lists n) }
+    requires firsts { (length firsts.now ≡ length lists) × ((n : ℕ) → n < length lists → get_or firsts.now n X ≡ wave_value lists n 0) }
+    requires stops { AreStopsOf lists (stops_in by_time.now) }
+    requires near { horizon ≤ 10 ^ 12 }
+    ensures { IfOk result (λ text. text.items ≡ vcd_text (codes "top") circuit.now stimulus.now (wave_value lists) horizon) }
+{
+    let mut sink = Grow::new(alloc);
+    match write_changes(&mut sink, circuit, stimulus, firsts, by_time, horizon) {
+        Ok(()) => Ok(sink.into_vec()),
+        Err(_) => Err(AllocError),
+    }
+}
+
+/// The text of a dump up to the values at 0, which are given.
+fn front_with(
+    alloc: Global,
+    circuit: &Circuit,
+    scale: Timescale,
+    firsts: &[Logic],
+) -> Result<Vec<u8>, AllocError>
+    ghost value: { ℕ → ℕ → Logic }
+    requires few { length firsts.now ≤ 1000000 }
+    requires firsts { (n : ℕ) → n < length firsts.now → get_or firsts.now n X ≡ value n 0 }
+    ensures { IfOk result (λ front. front.items ≡ header (codes "top") circuit.now.names scale ++ (first_lines value (length firsts.now) ++ codes "$end\n")) }
+{
+    let mut sink = Grow::new(alloc);
+    let mut lot = Lot::new();
+    put_header(&mut sink, &mut lot, "top", circuit, scale);
+    put_values(&mut sink, &mut lot, firsts);
+    lot.put_text(&mut sink, "$end\n");
+    taken(sink, lot)
 }
 
 /// What is made while a thread beside gives spent lists back, where they are not few.

@@ -1,0 +1,4 @@
+use Rattle.gate_vcd.proofs.pieces.changes_dump.Given as goal
+
+abbrev pub ghost-write_changes : goal.ghost-write_changes
+ghost-write_changes g a = g.lists
