@@ -30,7 +30,8 @@ use Rattle.warp_process.specs.Played.{played_view}
 use Rattle.warp_process.specs.View.{View, given_by, effective_at}
 use Rattle.warp_process.specs.Heard.{IsHeardFrom}
 use Rattle.part_engine.specs.Runs.{IsEngineOf, IsNextBrought}
-use Rattle.part_engine.specs.Inner.Bringing.{first_move, AreFirstMoves, move_to, heard_move}
+use Rattle.part_engine.specs.Inner.Bringing.{move_to, heard_move}
+use Rattle.part_engine.specs.FirstMoves.{first_move, AreFirstMoves}
 use Rattle.part_engine.proofs.Sources.{source_out, delay_placed, delay_some, content_at}
 use Rattle.warp_process.proofs.Playing.{played_lawful}
 use Rattle.part_engine.proofs.Heeding.{some_or_none, unheard}

@@ -120,5 +120,4 @@ module _ (p : Portion) (portion : IsPortion p) (numbering read unread : List ℕ
         parted = parted;
       };
       mark = opened.book.mark;
-      told = opened.told;
     }

@@ -1,2 +1,4 @@
 pub mod Runs
+pub mod Histories
+pub mod FirstMoves
 pub mod Inner

@@ -25,7 +25,6 @@ pub record IsRunOf (p : Portion) (given : ℕ → ℕ → Logic) (last floor : �
 pub record IsOpeningRun (p : Portion) (horizon : ℕ) (run : Run) : Type 0 where
   pub runs : (given : ℕ → ℕ → Logic) → IsRunOf p given horizon 0 run
   pub mark : run.book.mark ≡ 0
-  pub told : run.told ≡ 0
 
 -- a net that is read begins with a known value
 abbrev pub begins_of : Portion → Bool

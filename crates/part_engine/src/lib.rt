@@ -4,9 +4,9 @@
 //! over the places of its nets and with a queue for each of its delays; [`next_time`] says when something happens next to a net
 //! that a gate reads ([`begins`] whether it is at time 0), and [`bring`] which words are brought to an engine at a time by
 //! what the block has received. Both take the least time at which something comes from outside ([`next_brought`]), which the
-//! caller keeps and looks for again only once that time is played. Laws say what an engine's lists and moments are to the block:
-//! its logs and saved states ([`runs_are_lawful`]), also once it receives something at a time that isn't played
-//! ([`runs_go_on`]).
+//! caller keeps and looks for again only once that time is played; [`first_words`] says what flip-flops begin with. Laws say what an engine
+//! makes, and its moments, are to the block: what stands in its logs, and its saved states ([`runs_are_lawful`]), also once it receives
+//! something at a time that isn't played ([`runs_go_on`]).
 #![tactic(auto)]
 
 mod brought;
@@ -20,5 +20,6 @@ mod queued;
 pub use brought::{bring, bring_first};
 pub use initial::begins;
 pub use laws::{runs_are_lawful, runs_go_on};
+pub use moves::first_words;
 pub use next::{next_brought, next_time};
 pub use opening::opening_engine;

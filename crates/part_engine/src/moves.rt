@@ -4,21 +4,29 @@ ghost use Rattle.gate_values.specs.Behaviour.{initial_of};
 ghost use Rattle.gate_values.specs.declared.logic.Logic.TheVariants.{X};
 ghost use Rattle.warp_gates.specs.Cells.{value_at};
 ghost use Rattle.place_moves.specs.Moves.{move_of};
-ghost use Rattle.part_engine.specs.Inner.Bringing.{AreFirstMoves};
+ghost use Rattle.part_engine.specs.FirstMoves.{AreFirstMoves};
 
 use gate_values::Logic;
 use std::alloc::AllocError;
 use warp_part::Part;
 use warp_stores::{PLACES, Word};
 
-/// Puts into a list, in place of what it had, what flip-flops begin with, where that is known: it comes at time 0.
+/// Puts into a list, in place of what it had, what flip-flops begin with at a time: at time 0, where that is known.
 pub(crate) fn begin(part: &Part, time: u64, words: &mut Vec<Word>) -> Result<(), AllocError>
     ensures { OnOk result (AreFirstMoves part.now time words.new.items) }
 {
-    words.clear();
-    if time != 0 {
-        return Ok(());
+    if time == 0 {
+        return first_words(part, words);
     }
+    words.clear();
+    Ok(())
+}
+
+/// Puts into a list, in place of what it had, what flip-flops begin with, where that is known. An error is a refused growth.
+pub fn first_words(part: &Part, words: &mut Vec<Word>) -> Result<(), AllocError>
+    ensures { OnOk result (AreFirstMoves part.now 0 words.new.items) }
+{
+    words.clear();
     part.law();
     for slot in 0..part.len() {
         push_first(part, slot, words)?;

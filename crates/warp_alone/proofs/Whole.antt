@@ -28,7 +28,7 @@ use Rattle.warp_process.specs.Opening.{silent_view, opening_view}
 use Rattle.warp_process.specs.Played.{played_view}
 use Rattle.warp_process.specs.View.{View, Process, IsEventTime, entry_of, log_of}
 use Rattle.warp_process.proofs.Playing.{played_lawful}
-use Rattle.warp_block.specs.Histories.{TellLogs}
+use Rattle.part_engine.specs.Histories.{TellLogs}
 use Rattle.warp_core.specs.OwnNets.{AreOwn}
 use Rattle.warp_core.specs.Matched.{seen_at, IsBlockOf, EachBlock, AreMatched, told_by, told_of}
 use Rattle.warp_core.specs.Values.{value_under}

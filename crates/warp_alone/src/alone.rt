@@ -7,7 +7,7 @@ ghost use Rattle.warp_process.specs.Heard.{IsReceived};
 ghost use Rattle.warp_process.specs.Limits.{most_horizon};
 ghost use Rattle.warp_process.specs.Opening.{silent_view};
 ghost use Rattle.warp_process.specs.Played.{played_view};
-ghost use Rattle.warp_block.specs.Histories.{TellLogs};
+ghost use Rattle.part_engine.specs.Histories.{TellLogs};
 ghost use Rattle.warp_core.specs.OwnNets.{AreOwn};
 ghost use Rattle.warp_alone.specs.Alone.{circuit_waves};
 

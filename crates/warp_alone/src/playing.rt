@@ -8,7 +8,7 @@ ghost use Rattle.warp_process.specs.View.{given_by};
 ghost use Rattle.warp_journal.specs.Books.{IsBrought};
 ghost use Rattle.warp_part.specs.Placing.{place_source, place_given};
 ghost use Rattle.part_engine.specs.Runs.{IsEngineOf, IsNextBrought, begins_of};
-ghost use Rattle.warp_block.specs.Histories.{TellLogs};
+ghost use Rattle.part_engine.specs.Histories.{TellLogs};
 
 use gate_vcd::Stimulus;
 use part_engine::{begins, bring, bring_first, next_brought, next_time, opening_engine};
@@ -50,8 +50,7 @@ fn history_under<W: Watch>(
 {
     let mut engine = opening_engine(alloc, heard.part(), heard.horizon())?;
     play_through(alloc, heard, &mut engine, watch)?;
-    let (_, history) = engine.into_parts();
-    Ok(history)
+    Ok(engine.into_history())
 }
 
 /// Plays all times up to the horizon on an engine that has played none. An error is a refused growth.

@@ -1,4 +1,5 @@
 pub mod Runs
+pub mod Logs
 pub mod Opening
 pub mod States
 pub mod Nexts

@@ -1,27 +1,15 @@
 -- An engine that has played nothing.
-use Rattle.std.specs.Prelude.{◌≡◌, ℕ, ◌<◌, List, [], length, get_or}
+use Rattle.std.specs.Prelude.{◌≡◌, ℕ, ◌<◌, List, length, get_or}
 use Rattle.gate_values.specs.declared.logic.Logic.{Logic}
-use Rattle.gate_values.specs.declared.logic.Logic.TheVariants.{X}
 use Rattle.gate_values.specs.Behaviour.{Source, source_delay, initial_of}
-use Rattle.warp_stores.specs.Words.{Move}
-use Rattle.warp_stores.specs.Dated.{at}
-use Rattle.warp_stores.specs.Lists.{words_at, changes_at}
 use Rattle.warp_gates.specs.Cells.{Cell, value_at, cell_at}
-use Rattle.place_moves.specs.Moves.{move_of}
 use Rattle.place_moves.specs.Journals.{IsSetBy}
 use Rattle.warp_journal.specs.Books.{IsNew}
 use Rattle.warp_engine.specs.Runs.{Run}
 
--- each place moves to what it begins with, and nothing else does
-abbrev pub AreFirst : List Logic → List Move → Type 0
-AreFirst contents words = (place : ℕ) → words_at place words ≡ move_of place X (value_at contents place)
-
--- a run over a new journal, in whose lists stands what places begin with
+-- a run over a new journal
 pub record IsOpened (wiring : List Cell) (numbering read_delays unread_delays : List ℕ) (contents : List Logic) (last : ℕ) (run : Run) : Type 0 where
   pub book : IsNew wiring numbering read_delays unread_delays contents run.book
-  pub many : length run.lists ≡ length wiring
-  pub lists : (place : ℕ) → place < length wiring → get_or run.lists place [] ≡ changes_at place (at 0 (move_of place X (value_at contents place)))
-  pub told : run.told ≡ 0
   pub horizon : run.horizon ≡ last
 
 -- Cells stand for sources, each puts out into a queue of its source's delay, and begins with what its source does.

@@ -1,26 +1,22 @@
-//! A journal with the lists of what it tells.
-ghost use Rattle.std.specs.Prelude.{◌≡◌, ◌≤◌, ◌<◌, ◌++◌, [], IfOk, OnOk, OnErr, length, get_or};
+//! A journal up to a horizon.
+ghost use Rattle.std.specs.Prelude.{◌≡◌, ◌≤◌, ◌<◌, ◌++◌, IfOk, OnOk, OnErr, length};
+ghost use Rattle.std.specs.List.{All};
 ghost use Rattle.warp_stores.specs.Delays.{least_due};
 ghost use Rattle.warp_gates.specs.Cells.{IsCell, AreGates, value_at};
-ghost use Rattle.std.specs.List.{All};
-ghost use Rattle.gate_values.specs.declared.logic.Logic.TheVariants.{X};
-ghost use Rattle.place_moves.specs.Moves.{move_of};
-ghost use Rattle.warp_engine.specs.Opening.{AreFirst, IsOpened};
-ghost use Rattle.warp_engine.specs.Runs.{Ran, MayRun, HasRun, HasRested, HasTold, makings, MayReturn, HasReturned, HasGivenUp, HasDropped};
+ghost use Rattle.warp_engine.specs.Opening.{IsOpened};
+ghost use Rattle.warp_engine.specs.Runs.{MayRun, HasRun, HasRested, makings, MayReturn, HasReturned, HasDropped};
 
-use gate_values::{Change, Logic};
+use gate_values::Logic;
 use std::alloc::{AllocError, Global};
 use std::marker::Model;
 use warp_gates::Wiring;
 use warp_journal::Journal;
-use warp_stores::{Batch, Lists, PLACES, Steps, TIMES, Word};
+use warp_stores::{Batch, PLACES, Steps, TIMES, Word};
 
-/// Places that are played up to a mark, with the list of each one's changes up to a horizon.
+/// Places that are played up to a mark. What they make counts up to a horizon.
 #[derive(Debug, Drop)]
 pub struct Engine {
     journal: Journal,
-    lists: Lists,
-    told: u64,
     horizon: u64,
 }
 
@@ -31,14 +27,14 @@ impl Model for Engine {
 
     ghost Value = { Run };
 
-    ghost view = { λ e. record { book = e.journal; lists = e.lists; told = e.told; horizon = e.horizon } };
+    ghost view = { λ e. record { book = e.journal; horizon = e.horizon } };
 
     ghost invariant = { λ e. e.horizon < TIMES };
 }
 
 impl Engine {
-    /// Places that have played nothing; of flip-flops what they begin with is listed. Each place puts out into the queue of
-    /// its number; those of places that gates read stand first. An error is a refused growth.
+    /// Places that have played nothing. Each place puts out into the queue of its number; those of places that gates read stand first. An
+    /// error is a refused growth.
     pub fn new(
         alloc: Global,
         wiring: Wiring,
@@ -57,16 +53,8 @@ impl Engine {
         requires horizon { horizon < TIMES }
         ensures { IfOk result (λ engine. IsOpened wiring numbers.now read.now unread.now contents.now horizon engine) }
     {
-        let words = first_words(alloc, contents)?;
-        let mut lists = Lists::new(alloc, contents.len())?;
-        lists.append(0, words.as_slice())?;
         let journal = Journal::new(alloc, wiring, numbers, read, unread, contents)?;
-        Ok(Engine {
-            journal,
-            lists,
-            told: 0,
-            horizon,
-        })
+        Ok(Engine { journal, horizon })
     }
 
     /// What is true of the gates of every engine. It does nothing.
@@ -83,14 +71,7 @@ impl Engine {
         self.journal.mark()
     }
 
-    /// The first time from which on nothing that was made is told.
-    pub fn told(&self) -> u64
-        ensures { result ≡ self.now.told }
-    {
-        self.told
-    }
-
-    /// The last time up to which changes are listed.
+    /// The last time up to which changes count.
     pub fn horizon(&self) -> u64
         ensures { result ≡ self.now.horizon }
     {
@@ -119,39 +100,15 @@ impl Engine {
         self.journal.next()
     }
 
-    /// The changes of a place, as far as they are told.
-    pub fn changes(&self, place: usize) -> &[Change]
-        requires { place < length self.now.lists }
-        ensures { result.now ≡ get_or self.now.lists place [] }
+    /// Gives away all that came true.
+    pub fn into_history(self) -> Steps<Word>
+        ensures { result ≡ self.book.history }
     {
-        self.lists.changes(place)
+        self.journal.into_history()
     }
 
-    /// A copy of all lists. An error is a refused growth.
-    pub fn copy_lists(&self, alloc: Global) -> Result<Lists, AllocError>
-        ensures { IfOk result (λ lists. lists ≡ self.now.lists) }
-    {
-        self.lists.copy(alloc)
-    }
-
-    /// Gives the lists away.
-    pub fn into_lists(self) -> Lists
-        ensures { result ≡ self.lists }
-    {
-        self.lists
-    }
-
-    /// Gives away the lists, and all that came true.
-    pub fn into_parts(self) -> (Lists, Steps<Word>)
-        ensures lists { result.0 ≡ self.lists }
-        ensures history { result.1 ≡ self.book.history }
-    {
-        let Engine { journal, lists, .. } = self;
-        (lists, journal.into_history())
-    }
-
-    /// Plays a time, and all before it: at the time itself these words are brought from outside. What is made isn't told yet.
-    /// An error is a refused growth; then no time more is played.
+    /// Plays a time, and all before it: at the time itself these words are brought from outside. An error is a
+    /// refused growth; then no time more is played.
     pub fn play(&mut self, time: u64, outside: &[Word]) -> Result<(), AllocError>
         requires time { time < TIMES }
         requires may { MayRun time outside.now self.old }
@@ -161,46 +118,20 @@ impl Engine {
         self.journal.advance(time, outside)
     }
 
-    /// Puts all that was made and isn't told behind the lists, and into a batch, in place of what it had. An error is a
-    /// refused growth; then all stays, but for the batch.
-    pub fn tell(&mut self, batch: &mut Batch<Word>) -> Result<(), AllocError>
-        requires { Ran self.old }
-        ensures ok { OnOk result (HasTold self.old self.new batch.new) }
-        ensures err { OnErr result (self.new ≡ self.old) }
-    {
-        batch.clear();
-        self.journal.tell_since(self.told, self.horizon, batch)?;
-        let mark = self.journal.mark();
-        self.lists.make_room(batch, mark, self.horizon);
-        self.lists.append_batch(batch)?;
-        self.told = mark;
-        Ok(())
-    }
-
-    /// Takes back what was played and isn't told. It takes no memory.
-    pub fn give_up(&mut self)
-        requires { Ran self.old }
-        ensures { HasGivenUp self.old self.new }
-    {
-        self.journal.roll_back(self.told);
-    }
-
     /// Puts what was made from a time on into a batch, in place of what it had. An error is a refused growth.
-    pub fn untell(&self, time: u64, batch: &mut Batch<Word>) -> Result<(), AllocError>
+    pub fn tell_since(&self, time: u64, batch: &mut Batch<Word>) -> Result<(), AllocError>
         ensures { OnOk result (batch.new ≡ makings time self.now) }
     {
         batch.clear();
         self.journal.tell_since(time, self.horizon, batch)
     }
 
-    /// Goes back to a time, where a batch has what was made from then on. It takes no memory.
-    pub fn go_back(&mut self, time: u64, batch: &Batch<Word>)
-        requires { MayReturn time batch.now self.old }
+    /// Goes back to a time: what was played from then on is taken back. It takes no memory.
+    pub fn go_back(&mut self, time: u64)
+        requires { MayReturn time self.old }
         ensures { HasReturned time self.old self.new }
     {
-        self.lists.shorten(batch.words());
         self.journal.roll_back(time);
-        self.told = time;
     }
 
     /// Forgets what only a way back to times before one needs.
@@ -209,29 +140,4 @@ impl Engine {
     {
         self.journal.forget_below(time);
     }
-}
-
-/// What places begin with, where that is known: it comes to them at time 0. An error is a refused growth.
-pub fn first_words(alloc: Global, contents: &[Logic]) -> Result<Vec<Word>, AllocError>
-    requires { length contents.now ≤ PLACES }
-    ensures each { IfOk result (λ words. AreFirst contents.now words.items) }
-    ensures within { IfOk result (λ words. All (λ w. w.place < length contents.now) words.items) }
-{
-    let mut words = Vec::new(alloc);
-    for place in 0..contents.len() {
-        push_first(&mut words, place as u32, contents[place])?;
-    }
-    Ok(words)
-}
-
-/// Puts what a place begins with behind words, where that is known.
-fn push_first(words: &mut Vec<Word>, place: u32, content: Logic) -> Result<(), AllocError>
-    requires { place < PLACES }
-    ensures { OnOk result (words.new.items ≡ words.old.items ++ move_of place X content) }
-{
-    if content == Logic::X {
-        return Ok(());
-    }
-    words.push(Word::new(place, Logic::X, content))?;
-    Ok(())
 }

@@ -1,5 +1,5 @@
 //! Laws of what has run.
-ghost use Rattle.std.specs.Prelude.{◌≡◌, ◌<◌, ◌≤◌, ◌+◌, ◌++◌, ℕ, suc, List, [], length, get_or};
+ghost use Rattle.std.specs.Prelude.{◌≡◌, ◌<◌, ◌≤◌, ◌+◌, ◌++◌, ℕ, suc, List, length};
 ghost use Rattle.gate_values.specs.declared.logic.Logic.{Logic};
 ghost use Rattle.gate_values.specs.declared.logic.Logic.TheVariants.{X};
 ghost use Rattle.gate_values.specs.Behaviour.{Source, before, source_delay};
@@ -10,6 +10,7 @@ ghost use Rattle.warp_gates.specs.Cells.{Cell, AreGates, value_at};
 ghost use Rattle.place_moves.specs.Journals.{IsPlayed};
 ghost use Rattle.warp_journal.specs.Books.{Book, journal_of};
 ghost use Rattle.warp_engine.specs.Runs.{Run, IsRun, Ran, makings, AreLater, AreMadeBy};
+ghost use Rattle.warp_engine.specs.Logs.{log_up_to};
 ghost use Rattle.warp_engine.specs.Opening.{IsOpened, DoSuit};
 ghost use Rattle.warp_engine.specs.States.{values_before, contents_before};
 ghost use Rattle.warp_engine.specs.Nexts.{AreParted, IsLeftAlone, IsStill, IsUsed};
@@ -44,11 +45,13 @@ pub fn moves_next()
     ensures ahead { (source : ℕ → Source) (given : ℕ → ℕ → Logic) (floor : ℕ) (book : Book) → IsPlayed source given floor (journal_of book) → book.mark ≤ NEVER → book.mark ≤ least_due book.queues.read }
 {}
 
-/// Where all up to the horizon is played, and nothing that was made is untold, what came true of a place that a gate or a flip-flop sets
-/// is its list.
-pub fn history_tells_lists()
-    ensures { (source : ℕ → Source) (given : ℕ → ℕ → Logic) (floor : ℕ) (run : Run) → IsRun source given floor run → run.book.mark ≡ suc run.horizon → makings run.told run ≡ []
-        → (place : ℕ) → 0 < source_delay (source place) → changes_at place run.book.history ≡ get_or run.lists place [] }
+/// The log of a place up to a mark, which has its changes as far as they were made before the mark, is that up to an earlier time and what was
+/// made since. Where all up to the horizon is played, what came true of a place that a gate or a flip-flop sets is its log.
+pub fn makings_lengthen_logs()
+    ensures longer { (source : ℕ → Source) (given : ℕ → ℕ → Logic) (floor time : ℕ) (run : Run) → IsRun source given floor run → floor ≤ time → time ≤ run.book.mark
+        → (place : ℕ) → log_up_to source given run.horizon run.book.mark place ≡ log_up_to source given run.horizon time place ++ changes_at place (makings time run) }
+    ensures all { (source : ℕ → Source) (given : ℕ → ℕ → Logic) (floor : ℕ) (run : Run) → IsRun source given floor run → run.book.mark ≡ suc run.horizon
+        → (place : ℕ) → 0 < source_delay (source place) → changes_at place run.book.history ≡ log_up_to source given run.horizon run.book.mark place }
 {}
 
 /// What is made from a step on comes true later, a delay after the step that made it, at places that are there.

@@ -12,7 +12,8 @@ use Rattle.warp_part.specs.Placing.{place_source, place_given}
 use Rattle.warp_process.specs.Entries.{effective_of}
 use Rattle.warp_process.specs.Rows.{Standing}
 use Rattle.warp_process.specs.View.{given_by}
-use Rattle.part_engine.specs.Inner.Bringing.{AreFirstMoves, heard_move, standing_move}
+use Rattle.part_engine.specs.Inner.Bringing.{heard_move, standing_move}
+use Rattle.part_engine.specs.FirstMoves.{AreFirstMoves}
 use Rattle.part_engine.proofs.Rowing.{places_of, row_moves, row_rises, row_inside, row_all}
 use Rattle.part_engine.proofs.Bringing.{is_brought, only_first, other_none}
 use Rattle.part_engine.proofs.brought.bring.Goals as goal

@@ -5,7 +5,7 @@ use Rattle.warp_journal.specs.Books.{IsBrought}
 use Rattle.warp_part.specs.Portion.{Portion}
 use Rattle.warp_part.specs.Placing.{place_source, place_given}
 use Rattle.warp_process.specs.View.{given_by}
-use Rattle.part_engine.specs.Inner.Bringing.{AreFirstMoves}
+use Rattle.part_engine.specs.FirstMoves.{AreFirstMoves}
 use Rattle.warp_process.specs.Played.{played_view}
 use Rattle.warp_process.proofs.Playing.{played_lawful}
 use Rattle.part_engine.proofs.Heeding.{quiet_none}

@@ -10,7 +10,7 @@ use Rattle.warp_part.specs.PartOf.{part_of}
 use Rattle.warp_process.specs.Heard.{IsReceived}
 use Rattle.warp_process.specs.Opening.{silent_view}
 use Rattle.warp_process.specs.Played.{played_view}
-use Rattle.warp_block.specs.Histories.{TellLogs}
+use Rattle.part_engine.specs.Histories.{TellLogs}
 use Rattle.warp_core.specs.OwnNets.{AreOwn}
 use Rattle.warp_alone.proofs.Whole.{whole}
 use Rattle.warp_alone.proofs.alone.changes_alone.Goals as goal

@@ -2,7 +2,7 @@ use Rattle.std.proofs.Common.{◌+◌, subst}
 use Rattle.warp_process.specs.Heard.{IsReceived}
 use Rattle.warp_process.specs.Played.{played_view}
 use Rattle.warp_process.specs.View.{View}
-use Rattle.warp_block.specs.Histories.{TellLogs}
+use Rattle.part_engine.specs.Histories.{TellLogs}
 use Rattle.warp_alone.proofs.playing.history_of.Goals as goal
 
 pub returns-clause-received : goal.returns-clause-received

@@ -9,4 +9,4 @@ play_through-requires-clause-engine g c =
 pub returns : goal.returns
 returns g c =
     tells_of c.args.heard.now c.args.heard.now c.play_through.new.engine refl c.in_ok-play_through.ensures.engine (c.args.heard.now.horizon + 1) refl
-    c.in_ok-play_through.ensures.mark c.into_parts-history.result.1 c.into_parts-history.ensures.history
+    c.in_ok-play_through.ensures.mark c.into_history.result c.into_history.ensures
