@@ -95,9 +95,20 @@ pub(crate) fn put_first(
     match find(row.as_slice(), place) {
         Ok(_) => Ok(false),
         Err(at) => {
+            widen(row);
             row.insert(at, Placed::one_message(place, value))?;
             Ok(true)
         }
+    }
+}
+
+/// Gives a row that is full room for four times as many entries: those of a time mostly come one behind the other, and to grow what another
+/// thread has made waits for all that grow such. Where memory is wanted it stays as it is.
+fn widen(row: &mut SmallVec<Placed, 1>)
+    ensures { row.new.items ≡ row.old.items }
+{
+    if row.len() > 1 && row.len() == row.capacity() {
+        let _ = row.reserve(row.len().saturating_mul(3));
     }
 }
 

@@ -26,10 +26,11 @@ pub(crate) fn tellings(
     requires { All (λ d. d.1.place < length part.now.nets) batch.now }
     ensures { IfOk result (λ list. map word_of list.items ≡ filter (is_told part.now) batch.now) }
 {
-    let mut told = Vec::new(alloc);
-    if !have_readers(part, batch.words()) {
-        return Ok(told);
+    let words = batch.words();
+    if !have_readers(part, words) {
+        return Ok(Vec::new(alloc));
     }
+    let mut told = Vec::with_capacity(alloc, count_read(part, words))?;
     let list = batch.list(alloc)?;
     push_all(part, list.as_slice(), &mut told)?;
     Ok(told)
@@ -57,6 +58,19 @@ fn have_readers(part: &Part, words: &[Word]) -> bool
         }
     }
     false
+}
+
+/// How many words' nets have readers.
+fn count_read(part: &Part, words: &[Word]) -> usize
+    requires { All (λ w. w.place < length part.now.nets) words.now }
+{
+    let mut count: usize = 0;
+    for word in words {
+        if is_read(part, *word) {
+            count = count.saturating_add(1);
+        }
+    }
+    count
 }
 
 /// Whether the net of a word has readers.

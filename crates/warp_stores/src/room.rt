@@ -12,6 +12,9 @@ const FEW: usize = 16;
 /// A list gets room for at most so many times what it needs.
 const MOST: usize = 8;
 
+/// And for at most so many changes for its first one, since most of many nets may change but once.
+const FIRST: usize = 4;
+
 /// A list of at most so many changes is sooner copied than let grow where it lies.
 const SHORT: usize = 4096;
 
@@ -92,7 +95,7 @@ fn grow(list: &mut Vec<Change>, room: usize) -> Result<(), AllocError>
 /// For how many changes a list gets room that has so many and needs more: for as many as it has at a last time if it goes on as
 /// up to a time, and some more.
 fn room_for(len: usize, need: usize, time: u64, last: u64) -> usize {
-    let most = if len == 0 && need < FEW { 2 } else { MOST };
+    let most = if len == 0 && need < FEW { FIRST } else { MOST };
     let at_this_rate = (need as u64).saturating_mul(last) / time.saturating_add(1);
     let at_last = at_this_rate.saturating_add(at_this_rate / 32) as usize;
     at_last

@@ -14,7 +14,7 @@ on_err P (Err e) h = h
 pub returns-in_ok-insert-in-Err-clause-row : goal.returns-in_ok-insert-in-Err-clause-row
 returns-in_ok-insert-in-Err-clause-row c =
     let belongs = rw c.as_slice.ensures at c.in-Err.ensures.belongs in
-    subst IsRow (sym (c.in_ok-insert-in-Err.ensures.ok ∙ ap (insert c.args.row.now.items c.in-Err.at) c.one_message.ensures))
+    subst IsRow (sym (c.in_ok-insert-in-Err.ensures.ok ∙ ap (λ (ss : List Standing). insert ss c.in-Err.at c.one_message.result) c.widen.ensures ∙ ap (insert c.args.row.now.items c.in-Err.at) c.one_message.ensures))
     (inserted-row c.args.row.now.items c.in-Err.at (record { place = c.args.place; entry = one_message c.args.value }) c.requires belongs.0 belongs.1 (one_message-stands c.args.value))
 
 pub returns-in_ok-insert-in-Err-clause-put : goal.returns-in_ok-insert-in-Err-clause-put
@@ -22,7 +22,7 @@ returns-in_ok-insert-in-Err-clause-put c = λ yes_.
     (let belongs = rw c.as_slice.ensures at c.in-Err.ensures.belongs in
     let lacks = lacks-between c.args.row.now.items c.args.place c.in-Err.at belongs.1 in (
       entry_on-none c.args.row.now.items c.args.place lacks,
-      λ i. ap (λ (ss : List Standing). entry_on ss i) (c.in_ok-insert-in-Err.ensures.ok ∙ ap (insert c.args.row.now.items c.in-Err.at) c.one_message.ensures)
+      λ i. ap (λ (ss : List Standing). entry_on ss i) (c.in_ok-insert-in-Err.ensures.ok ∙ ap (λ (ts : List Standing). insert ts c.in-Err.at c.one_message.result) c.widen.ensures ∙ ap (insert c.args.row.now.items c.in-Err.at) c.one_message.ensures)
           ∙ inserted-entries c.args.row.now.items c.in-Err.at (record { place = c.args.place; entry = one_message c.args.value }) lacks i,
     ))
 
