@@ -30,9 +30,9 @@ use Rattle.warp_part.proofs.Placing.{source_at}
 use Rattle.part_engine.proofs.Sources.{delay_placed}
 use Rattle.warp_block.proofs.Stepping.{ran}
 use Rattle.warp_process.proofs.SavingTimes.{times-split, times-none, times-agree}
-use Rattle.part_engine.proofs.RunLogs.{lists_are, cells_are}
+use Rattle.part_engine.proofs.RunLogs.{logs_longer, cells_are}
 use Rattle.warp_block.specs.Shown.Block.{mark_by, seen_by}
-use Rattle.warp_block.specs.Inner.Held.{IsAt, IsAtRest}
+use Rattle.warp_block.specs.Inner.Held.{IsAt, GoesOn}
 use Rattle.warp_block.proofs.Resting.{busy_was, quiet_from, least_from, rest_quiet, seen_was, event_up}
 
 -- the first of some times that passes a test, or none does
@@ -125,52 +125,48 @@ before_inner a b (c ∷ cs) l = elim (cases_lt c.time b) [
   | inr high ↦ rw (no_lt c.time b high, no_lt c.time a (omega (arith, high, l))) (before_inner a b cs l)
 ]
 
--- a turn: what was at rest has played on, and then all is told
-module _ (v : View) (start : Run) (begun : Played) (rest : IsAtRest v start begun) (run : Run) (played : Played) (at : IsAt v run played) (told : run.told ≡ start.book.mark)
-    (new : Run) (after : Played) (end : IsAtRest v new after) (mark : new.book.mark ≡ run.book.mark) (longer : AreLonger (makings run.told run) run.lists new.lists) where
+-- a turn: an engine has played on
+module _ (v : View) (start : Run) (begun : Played) (was : IsAt v start begun) (run : Run) (played : Played) (at : IsAt v run played) (on : GoesOn start run begun played) where
   abbrev words : List (Dated Move)
-  words = makings run.told run
+  words = makings start.book.mark run
 
   received : IsReceived v
   received = at.engine.received
 
-  later : AreLater run.told run (makings run.told run)
-  later = makings_later run run.told (ran v run played at)
+  later : AreLater start.book.mark run (makings start.book.mark run)
+  later = makings_later run start.book.mark (ran v run played at)
 
-  made : AreMadeBy (place_source v.part) run.told run (makings run.told run)
-  made = makings_made run run.told (ran v run played at)
+  made : AreMadeBy (place_source v.part) start.book.mark run (makings start.book.mark run)
+  made = makings_made run start.book.mark (ran v run played at)
 
   abbrev log : ℕ → ℕ → List Change
   log i k = lawful_log (record v { mark = k }) (get_or v.part.nets i 0)
 
-  old_is : (i : ℕ) → i < length v.part.nets → get_or run.lists i [] ≡ log i start.book.mark
-  old_is i l =
-      ap (λ (ls : List (List Change)). get_or ls i []) (lists_are v run played.first at.engine)
-      ∙ get_or-map (lawful_log (record v { mark = run.told })) v.part.nets i 0 [] l
-      ∙ ap (log i) told
+  log_is : (m i : ℕ) → i < length v.part.nets → get_or (played_view v m).logs i [] ≡ log i m
+  log_is m i l = get_or-map (lawful_log (record v { mark = m })) v.part.nets i 0 [] l
 
-  new_is : (i : ℕ) → i < length v.part.nets → get_or new.lists i [] ≡ log i run.book.mark
-  new_is i l =
-      ap (λ (ls : List (List Change)). get_or ls i []) (lists_are v new after.first end.at.engine)
-      ∙ get_or-map (lawful_log (record v { mark = new.told })) v.part.nets i 0 [] l
-      ∙ ap (log i) (end.told ∙ mark)
+  many : (m : ℕ) → length (played_view v m).logs ≡ length v.part.nets
+  many m = length-map v.part.nets (lawful_log (record v { mark = m }))
 
-  many : length run.lists ≡ length v.part.nets
-  many = ap length (lists_are v run played.first at.engine) ∙ length-map v.part.nets (lawful_log (record v { mark = run.told }))
+  -- what is made stands behind the logs
+  pub turn_longer : AreLonger (makings start.book.mark run) (seen_by v start).logs (seen_by v run).logs
+  turn_longer =
+      logs_longer v run played.first at.engine start.book.mark
+      (let first = on.first in let low = was.engine.run.is.low in omega (arith, first, low)) on.on
 
   -- where nothing happens up to a step, it makes nothing
-  module _ (k : ℕ) (d : Dated Move) (l : k < length (makings run.told run)) where
+  module _ (k : ℕ) (d : Dated Move) (l : k < length (makings start.book.mark run)) where
     abbrev word : Dated Move
-    word = get_or (makings run.told run) k d
+    word = get_or (makings start.book.mark run) k d
 
     abbrev i : ℕ
-    i = (get_or (makings run.told run) k d).1.place
+    i = (get_or (makings start.book.mark run) k d).1.place
 
     abbrev n : ℕ
-    n = get_or v.part.nets (get_or (makings run.told run) k d).1.place 0
+    n = get_or v.part.nets (get_or (makings start.book.mark run) k d).1.place 0
 
     abbrev delay : ℕ
-    delay = source_delay (source_of v.part (get_or v.part.nets (get_or (makings run.told run) k d).1.place 0))
+    delay = source_delay (source_of v.part (get_or v.part.nets (get_or (makings start.book.mark run) k d).1.place 0))
 
     there : i < length v.part.nets
     there = (let h = (later k d l).0 in let e = cells_are v played.first run at.engine in omega (arith, h, e))
@@ -187,10 +183,10 @@ module _ (v : View) (start : Run) (begun : Played) (rest : IsAtRest v start begu
         go (Flop delay d clock initial) h = refl
 
     abbrev step : ℕ
-    step = (get_or (makings run.told run) k d).0 - source_delay (source_of v.part (get_or v.part.nets (get_or (makings run.told run) k d).1.place 0))
+    step = (get_or (makings start.book.mark run) k d).0 - source_delay (source_of v.part (get_or v.part.nets (get_or (makings start.book.mark run) k d).1.place 0))
 
     low : start.book.mark ≤ step
-    low = (let h = (made k d l).1 in omega (arith, h, same_delay, told))
+    low = (let h = (made k d l).1 in omega (arith, h, same_delay))
 
     high : step < run.book.mark
     high = (let h = (made k d l).2 in let g = (made k d l).1 in omega (arith, h, g, same_delay))
@@ -216,30 +212,32 @@ module _ (v : View) (start : Run) (begun : Played) (rest : IsAtRest v start begu
         let quiet : IsQuiet (played_view v start.book.mark) (suc step) = λ t a b busy. true≢false (sym busy ∙ quiet_from v received start.book.mark (suc step) none t a b) in
         let same : log i (suc step) ≡ log i start.book.mark =
         quiet_log_to (played_view v start.book.mark) (played_lawful v start.book.mark received) (suc step) n (omega (arith, low)) (omega (arith, time_is, within)) quiet in
-        let added : List Change = changes_at i (makings run.told run) in
-        let whole : get_or new.lists i [] ≡ get_or run.lists i [] ++ changes_at i (makings run.told run) = longer.each i (omega (arith, there, many)) in
-        let below : before_time (suc step + delay) (get_or new.lists i []) ≡ get_or run.lists i [] =
-        ap (before_time (suc step + delay)) (new_is i there ∙ log_at run.book.mark) ∙ before_inner (suc step + delay) (run.book.mark + delay) all (omega (arith, high))
-        ∙ sym (log_at (suc step)) ∙ same ∙ sym (old_is i there) in
-        let none_added : before_time (suc step + delay) (changes_at i (makings run.told run)) ≡ [] =
-        none_below (suc step + delay) (get_or run.lists i []) (changes_at i (makings run.told run)) (sym below ∙ ap (before_time (suc step + delay)) whole) in
+        let added : List Change = changes_at i (makings start.book.mark run) in
+        let old : List Change = get_or (played_view v start.book.mark).logs i [] in
+        let new : List Change = get_or (played_view v run.book.mark).logs i [] in
+        let whole : new ≡ old ++ changes_at i (makings start.book.mark run) = turn_longer.each i (let long = many start.book.mark in omega (arith, there, long)) in
+        let below : before_time (suc step + delay) new ≡ old =
+        ap (before_time (suc step + delay)) (log_is run.book.mark i there ∙ log_at run.book.mark) ∙ before_inner (suc step + delay) (run.book.mark + delay) all (omega (arith, high))
+        ∙ sym (log_at (suc step)) ∙ same ∙ sym (log_is start.book.mark i there) in
+        let none_added : before_time (suc step + delay) (changes_at i (makings start.book.mark run)) ≡ [] =
+        none_below (suc step + delay) old (changes_at i (makings start.book.mark run)) (sym below ∙ ap (before_time (suc step + delay)) whole) in
         let c : Change = record { time = 0; value = X } in
-        let said = says_change (makings run.told run) k d l c in
-        some_below (suc step + delay) (changes_at i (makings run.told run)) said.0 c said.1 (let e = said.2 in omega (arith, e, time_is)) none_added
+        let said = says_change (makings start.book.mark run) k d l c in
+        some_below (suc step + delay) (changes_at i (makings start.book.mark run)) said.0 c said.1 (let e = said.2 in omega (arith, e, time_is)) none_added
 
     after_event : IsAfterEvent (seen_by v start) word.0
     after_event = elim (find_first (was_busy v) start.book.mark (suc step - start.book.mark)) [
       | inl u ↦ (let from = u.1 in let until = u.2 in
           let least : IsLeast (IsEventTime (played_view v start.book.mark)) (Some u.0) = least_from v received start.book.mark u.0 from (omega (arith, until, time_is, within, low)) u.4 u.3 in
-          (u.0, event_up v start begun rest u.0 least.0, omega (arith, until, time_is, some_delay, low)))
+          (u.0, event_up v start begun was u.0 least.0, omega (arith, until, time_is, some_delay, low)))
       | inr none ↦ absurd (not_quiet (λ t a b. none t a (omega (arith, b, low))))
     ]
 
   -- each word comes true after an event time
-  pub words_later : All (λ (d : Dated Move). IsAfterEvent (seen_by v start) d.0) (makings run.told run)
+  pub words_later : All (λ (d : Dated Move). IsAfterEvent (seen_by v start) d.0) (makings start.book.mark run)
   words_later k d l = after_event k d l
 
-  pub words_until : All (λ (d : Dated Move). d.0 ≤ v.horizon) (makings run.told run)
+  pub words_until : All (λ (d : Dated Move). d.0 ≤ v.horizon) (makings start.book.mark run)
   words_until k d l = within k d l
 
   -- so many event times are finished
@@ -247,10 +245,10 @@ module _ (v : View) (start : Run) (begun : Played) (rest : IsAtRest v start begu
     same_mark : count ≡ 0 → run.book.mark ≡ start.book.mark
     same_mark none = advanced.stays none
 
-    busy_new : (t : ℕ) → t < new.book.mark → is_busy (played_view v run.book.mark) t ≡ is_busy (seen_by v new) t
+    busy_new : (t : ℕ) → t < run.book.mark → is_busy (played_view v run.book.mark) t ≡ is_busy (seen_by v run) t
     busy_new t l =
-        busy_was v (played_view v run.book.mark) received (played_lawful v run.book.mark received) refl refl refl t (omega (arith, l, mark))
-        ∙ sym (seen_was v new after end t (omega (arith, l)))
+        busy_was v (played_view v run.book.mark) received (played_lawful v run.book.mark received) refl refl refl t (omega (arith, l))
+        ∙ sym (seen_was v run played at t (omega (arith, l)))
 
     -- the last is past the floor
     past_floor : 0 < count → v.floor < run.book.mark
@@ -261,46 +259,46 @@ module _ (v : View) (start : Run) (begun : Played) (rest : IsAtRest v start begu
         sym (busy_was v (played_view v run.book.mark) received (played_lawful v run.book.mark received) refl refl refl (run.book.mark - 1) (omega (arith, up))) ∙ on.2 in
         elim (cases_lt v.floor run.book.mark) [
           | inl below ↦ below
-          | inr above ↦ absurd (true≢false (sym last ∙ rest_quiet v start begun rest (run.book.mark - 1) (omega (arith, up)) (omega (arith, above, up))))
+          | inr above ↦ absurd (true≢false (sym last ∙ rest_quiet v start begun was (run.book.mark - 1) (omega (arith, up)) (omega (arith, above, up))))
         ]
 
-    counted : 0 < count → count ≡ busy_times (seen_by v new) (mark_by v start) (mark_by v new)
+    counted : 0 < count → count ≡ busy_times (seen_by v run) (mark_by v start) (mark_by v run)
     counted some =
         let up = (advanced.moves some).0 in
         let past : v.floor < run.book.mark = past_floor some in
-        let top : mark_by v new ≡ run.book.mark = omega (arith, mark, past) in
+        let top : mark_by v run ≡ run.book.mark = omega (arith, past) in
         let first : mark_by v start ≤ run.book.mark = omega (arith, up, past) in
-        let split : busy_times (seen_by v new) start.book.mark run.book.mark ≡ busy_times (seen_by v new) start.book.mark (mark_by v start) + busy_times (seen_by v new) (mark_by v start) run.book.mark =
-        times-split (is_busy (seen_by v new)) start.book.mark (mark_by v start) run.book.mark (omega arith) first in
-        let none : busy_times (seen_by v new) start.book.mark (mark_by v start) ≡ 0 =
-        times-none (is_busy (seen_by v new)) start.book.mark (mark_by v start)
-        (λ t a b busy. true≢false (sym busy ∙ seen_was v new after end t (omega (arith, b, first, top)) ∙ rest_quiet v start begun rest t a (omega (arith, a, b)))) in
-        let same : busy_times (played_view v run.book.mark) start.book.mark run.book.mark ≡ busy_times (seen_by v new) start.book.mark run.book.mark =
-        times-agree (is_busy (played_view v run.book.mark)) (is_busy (seen_by v new)) start.book.mark run.book.mark (λ t a b. busy_new t (omega (arith, b, mark))) in
+        let split : busy_times (seen_by v run) start.book.mark run.book.mark ≡ busy_times (seen_by v run) start.book.mark (mark_by v start) + busy_times (seen_by v run) (mark_by v start) run.book.mark =
+        times-split (is_busy (seen_by v run)) start.book.mark (mark_by v start) run.book.mark (omega arith) first in
+        let none : busy_times (seen_by v run) start.book.mark (mark_by v start) ≡ 0 =
+        times-none (is_busy (seen_by v run)) start.book.mark (mark_by v start)
+        (λ t a b busy. true≢false (sym busy ∙ seen_was v run played at t (omega (arith, b, first, top)) ∙ rest_quiet v start begun was t a (omega (arith, a, b)))) in
+        let same : busy_times (played_view v run.book.mark) start.book.mark run.book.mark ≡ busy_times (seen_by v run) start.book.mark run.book.mark =
+        times-agree (is_busy (played_view v run.book.mark)) (is_busy (seen_by v run)) start.book.mark run.book.mark (λ t a b. busy_new t (omega (arith, b))) in
         let all : count ≡ busy_times (played_view v run.book.mark) start.book.mark run.book.mark = advanced.finished in
-        subst (λ k. count ≡ busy_times (seen_by v new) (mark_by v start) k) (sym top) (omega (arith, all, same, split, none))
+        subst (λ k. count ≡ busy_times (seen_by v run) (mark_by v start) k) (sym top) (omega (arith, all, same, split, none))
 
-    none_counted : count ≡ 0 → count ≡ busy_times (seen_by v new) (mark_by v start) (mark_by v new)
+    none_counted : count ≡ 0 → count ≡ busy_times (seen_by v run) (mark_by v start) (mark_by v run)
     none_counted none =
-        let same : mark_by v new ≡ mark_by v start = ap (λ m. max m v.floor) (mark ∙ same_mark none) in
-        subst (λ k. count ≡ busy_times (seen_by v new) (mark_by v start) k) (sym same) (none ∙ sym (no_times (seen_by v new) (mark_by v start)))
+        let same : mark_by v run ≡ mark_by v start = ap (λ m. max m v.floor) (same_mark none) in
+        subst (λ k. count ≡ busy_times (seen_by v run) (mark_by v start) k) (sym same) (none ∙ sym (no_times (seen_by v run) (mark_by v start)))
 
-    pub turn_advanced : IsAdvanced (seen_by v start) (seen_by v new) count
+    pub turn_advanced : IsAdvanced (seen_by v start) (seen_by v run) count
     turn_advanced = record {
       part = refl;
       horizon = refl;
       floor = refl;
       queues = refl;
       finished = elim (cases_lt 0 count) [ inl some ↦ counted some | inr none ↦ none_counted (omega (arith, none)) ];
-      stays = λ none. ap (λ m. max m v.floor) (mark ∙ same_mark none);
+      stays = λ none. ap (λ m. max m v.floor) (same_mark none);
       moves = λ some.
           (let on = advanced.moves some in
           let up = on.0 in
           let until = on.1 in
           let past : v.floor < run.book.mark = past_floor some in
-          let top : mark_by v new ≡ run.book.mark = omega (arith, mark, past) in (
+          let top : mark_by v run ≡ run.book.mark = omega (arith, past) in (
             omega (arith, up, past, top),
             omega (arith, until, top),
-            ap (λ k. is_busy (seen_by v new) (k - 1)) top ∙ sym (busy_new (run.book.mark - 1) (omega (arith, up, mark))) ∙ on.2,
+            ap (λ k. is_busy (seen_by v run) (k - 1)) top ∙ sym (busy_new (run.book.mark - 1) (omega (arith, up))) ∙ on.2,
           ));
     }

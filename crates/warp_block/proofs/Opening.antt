@@ -1,9 +1,9 @@
 -- What a new block shows, and what it tells.
-use Rattle.std.proofs.Common.{◌≡◌, ◌≢◌, ℕ, zero, suc, ◌+◌, ◌<◌, ◌≤◌, ◌++◌, Bool, true, false, cond, max, min, pred, List, [], ◌∷◌, map, length, get_or, refl, ap, sym, ◌∙◌, subst, arith, All}
+use Rattle.std.proofs.Common.{◌≡◌, ◌≢◌, ℕ, zero, suc, ◌+◌, ◌<◌, ◌≤◌, ◌++◌, Bool, true, false, cond, max, min, pred, List, [], ◌∷◌, map, length, get_or, replicate, refl, ap, sym, ◌∙◌, subst, arith, All}
 use Rattle.std.proofs.lemmas.Bool.{true≢false, ne_eqb, eq-eqb}
 use Rattle.std.specs.List.{flat_map}
-use Rattle.std.proofs.lemmas.List.{get_or-map, length-map}
-use Rattle.std.proofs.lemmas.List.Elements.{All-nil, All-cons, All-append}
+use Rattle.std.proofs.lemmas.List.{get_or-map, length-map, get_or_past, get_or_default, get_or-replicate, length-replicate, same_lists}
+use Rattle.std.proofs.lemmas.List.Elements.{All-nil, All-cons, All-append, All-from_recursion}
 use Rattle.std.proofs.lemmas.List.Sorted.{IsPermutation-refl}
 use Rattle.gate_values.specs.declared.logic.Logic.{Logic}
 use Rattle.gate_values.specs.declared.logic.Logic.TheVariants.{X}
@@ -15,15 +15,20 @@ use Rattle.gate_values.proofs.Beginning.{initial_before}
 use Rattle.gate_vcd.specs.Given.{Given}
 use Rattle.event_times.specs.Marks.{Played, AreTimes}
 use Rattle.warp_stores.specs.Words.{Move}
-use Rattle.warp_stores.specs.Dated.{Dated}
+use Rattle.warp_stores.specs.Dated.{Dated, at}
 use Rattle.warp_stores.specs.Lists.{AreLonger, changes_at}
+use Rattle.warp_gates.specs.Cells.{value_at}
+use Rattle.place_moves.specs.Moves.{move_of}
+use Rattle.place_moves.proofs.Moving.{move_of-same}
+use Rattle.place_moves.proofs.Places.{every-within}
 use Rattle.warp_engine.specs.Runs.{Run}
 use Rattle.warp_part.specs.Portion.{Portion, IsPortion, is_driven, owns, source_of, readers_of}
 use Rattle.warp_part.proofs.Slots.{of_net-at}
+use Rattle.warp_part.proofs.Placing.{source_at}
 use Rattle.warp_process.specs.Heard.{IsReceived}
 use Rattle.warp_process.specs.View.{View, effective_at, given_by}
 use Rattle.warp_process.specs.Lawful.{lawful_log}
-use Rattle.warp_process.specs.Played.{was_busy}
+use Rattle.warp_process.specs.Played.{was_busy, played_view}
 use Rattle.warp_process.specs.declared.message.Message.{Message}
 use Rattle.warp_process.specs.declared.message.Sign.TheVariants.{Plus}
 use Rattle.warp_process.specs.Sends.{SendsOnce}
@@ -32,11 +37,12 @@ use Rattle.warp_process.specs.Opening.{silent_view, opening_view, initial_log, f
 use Rattle.warp_process.proofs.Running.{given, delayed}
 use Rattle.warp_process.proofs.Views.{well_formed, timed}
 use Rattle.part_engine.specs.Runs.{IsOpeningRun}
-use Rattle.part_engine.proofs.RunLogs.{lists_are}
+use Rattle.part_engine.specs.FirstMoves.{AreFirstMoves}
+use Rattle.part_engine.proofs.FirstMoves.{first_place}
 use Rattle.warp_sends.specs.Told.{told_of}
 use Rattle.warp_sends.proofs.Sending.{tells_longer}
 use Rattle.warp_block.specs.Shown.Block.{seen_by}
-use Rattle.warp_block.specs.Inner.Held.{IsAtRest}
+use Rattle.warp_block.specs.Inner.Held.{IsAt}
 use Rattle.warp_block.proofs.Resting.{rest_lawful}
 
 -- ---- what is logged at mark 0
@@ -177,30 +183,24 @@ module _ (p : Portion) (stimulus : Given) (horizon : ℕ) (received : IsReceived
   }
 
   module _ (engine : Run) (opening : IsOpeningRun p horizon engine) (times : Played) (none : times ≡ record { first = 0; times = [] }) where
-    -- nothing is played, and nothing untold
-    new_rest : IsAtRest (silent_view p stimulus horizon) engine times
-    new_rest = subst (λ (played : Played). IsAtRest (silent_view p stimulus horizon) engine played) (sym none) (record {
-      at = record {
-        engine = record { received = received; run = opening.runs (given_by (silent_view p stimulus horizon)) };
-        low = omega arith;
-        within = (let mark = opening.mark in omega (arith, mark));
-        times = subst (λ (m : ℕ). AreTimes (was_busy (silent_view p stimulus horizon)) 0 m []) (sym opening.mark) (omega arith, λ t a b. absurd (omega (arith, b)));
-        quiet = λ t a b. absurd (omega (arith, b));
-        sparse = λ l. absurd (omega (arith, l));
-      };
-      told = opening.told ∙ sym opening.mark;
+    -- nothing is played
+    new_at : IsAt (silent_view p stimulus horizon) engine times
+    new_at = subst (λ (played : Played). IsAt (silent_view p stimulus horizon) engine played) (sym none) (record {
+      engine = record { received = received; run = opening.runs (given_by (silent_view p stimulus horizon)) };
+      low = omega arith;
+      within = (let mark = opening.mark in omega (arith, mark));
+      times = subst (λ (m : ℕ). AreTimes (was_busy (silent_view p stimulus horizon)) 0 m []) (sym opening.mark) (omega arith, λ t a b. absurd (omega (arith, b)));
+      quiet = λ t a b. absurd (omega (arith, b));
+      sparse = λ l. absurd (omega (arith, l));
     })
 
-    new_lists : engine.lists ≡ (opening_view p stimulus horizon).logs
-    new_lists =
-        lists_are (silent_view p stimulus horizon) engine 0 (record { received = received; run = opening.runs (given_by (silent_view p stimulus horizon)) })
-        ∙ ap (λ (k : ℕ). map (lawful_log (record (silent_view p stimulus horizon) { mark = k })) p.nets) opening.told
-        ∙ first_logs p.nets
+    new_logs : (seen_by (silent_view p stimulus horizon) engine).logs ≡ (opening_view p stimulus horizon).logs
+    new_logs = ap (λ (m : ℕ). (played_view (silent_view p stimulus horizon) m).logs) opening.mark ∙ first_logs p.nets
 
     new_seen : seen_by (silent_view p stimulus horizon) engine ≡ opening_view p stimulus horizon
     new_seen =
-        ap (λ (m : ℕ). record (silent_view p stimulus horizon) { mark = max m 0; logs = engine.lists }) opening.mark
-        ∙ ap (λ (logs : List (List Change)). record (silent_view p stimulus horizon) { logs = logs }) new_lists
+        ap (λ (m : ℕ). record (silent_view p stimulus horizon) { mark = max m 0; logs = (played_view (silent_view p stimulus horizon) m).logs }) opening.mark
+        ∙ ap (λ (logs : List (List Change)). record (silent_view p stimulus horizon) { logs = logs }) (first_logs p.nets)
 
     -- what is told is what is logged
     new_sends : (before out : List Message) → out ≡ before ++ opening_messages p
@@ -209,8 +209,8 @@ module _ (p : Portion) (stimulus : Given) (horizon : ℕ) (received : IsReceived
         let each : flat_map (told_of Plus p) (words_from p 0 p.nets) ≡ opening_messages p
         = words_told p received.part p.nets 0 (omega arith) (λ k l. ap (λ (j : ℕ). get_or p.nets j 0) (let on : k ≡ 0 + k = omega arith in on)) in
         tells_longer (silent_view p stimulus horizon) (seen_by (silent_view p stimulus horizon) engine) (λ t. t ≡ 0) (words_from p 0 p.nets) before out
-        (rest_lawful (silent_view p stimulus horizon) engine times new_rest) refl
-        (subst (λ (logs : List (List Change)). AreLonger (words_from p 0 p.nets) (silent_view p stimulus horizon).logs logs) (sym new_lists) opening_longer)
+        (rest_lawful (silent_view p stimulus horizon) engine times new_at) refl
+        (subst (λ (logs : List (List Change)). AreLonger (words_from p 0 p.nets) (silent_view p stimulus horizon).logs logs) (sym new_logs) opening_longer)
         (all_first (λ t. t ≡ 0) refl p p.nets 0)
         (all_first (λ t. t ≤ horizon) (omega arith) p p.nets 0)
         (record { ordered = words_from p 0 p.nets; same = IsPermutation-refl (words_from p 0 p.nets); told = told ∙ ap (λ (ms : List Message). before ++ ms) (sym each) })
@@ -218,10 +218,10 @@ module _ (p : Portion) (stimulus : Given) (horizon : ℕ) (received : IsReceived
 -- the same of what is heard
 module _ (p : Portion) (stimulus : Given) (horizon : ℕ) (v : View) (is : v ≡ silent_view p stimulus horizon) (received : IsReceived v)
     (engine : Run) (opening : IsOpeningRun v.part horizon engine) (times : Played) (none : times ≡ record { first = 0; times = [] }) where
-  pub opened_rest : IsAtRest v engine times
-  opened_rest =
-      subst (λ (w : View). IsReceived w → IsOpeningRun w.part horizon engine → IsAtRest w engine times) (sym is)
-      (λ r o. new_rest p stimulus horizon r engine o times none) received opening
+  pub opened_at : IsAt v engine times
+  opened_at =
+      subst (λ (w : View). IsReceived w → IsOpeningRun w.part horizon engine → IsAt w engine times) (sym is)
+      (λ r o. new_at p stimulus horizon r engine o times none) received opening
 
   pub opened_seen : seen_by v engine ≡ opening_view p stimulus horizon
   opened_seen =
@@ -233,3 +233,41 @@ module _ (p : Portion) (stimulus : Given) (horizon : ℕ) (v : View) (is : v ≡
       subst (λ (w : View). IsReceived w → IsOpeningRun w.part horizon engine → out ≡ before ++ opening_messages w.part
       → SendsOnce (silent_view p stimulus horizon) (seen_by w engine) Plus (λ t. t ≡ 0) before out) (sym is)
       (λ r o. new_sends p stimulus horizon r engine o times none before out) received opening told
+
+-- ---- the lists of a new block
+
+-- the word of a value that is known
+first_change : (i : ℕ) (v : Logic) → changes_at i (at 0 (move_of i X v)) ≡ initial_log v
+first_change i v = go (same v X)
+  where
+    go : (b : Bool) → changes_at i (at 0 (cond b [] (record { place = i; before = X; after = v } ∷ []))) ≡ cond b [] (record { time = 0; value = v } ∷ [])
+    go true = refl
+    go false = rw (eq-eqb i i refl) refl
+
+module _ (p : Portion) (portion : IsPortion p) (words : List Move) (first : AreFirstMoves p 0 words) where
+  content_at : (i : ℕ) → i < length p.nets → value_at (map initial_of p.sources) i ≡ initial_of (source_of p (get_or p.nets i 0))
+  content_at i l = (let many = portion.sources in get_or-map initial_of p.sources i Outside X (omega (arith, l, many))) ∙ ap initial_of (sym (source_at p portion i l))
+
+  -- all are of places that are there
+  pub first_within : All (λ (w : Move). w.place < length p.nets) words
+  first_within =
+      All-from_recursion (λ (w : Move). w.place < length p.nets) words
+      (every-within (λ (w : Move). w.place) (length p.nets) words
+      (λ place far. first place
+      ∙ ap (move_of place X) (get_or_past (map initial_of p.sources) place X (let many = portion.sources in let same_many = length-map p.sources initial_of in omega (arith, far, many, same_many)))
+      ∙ move_of-same place X))
+
+  pub first_lists : (lists : List (List Change)) → AreLonger (at 0 words) (replicate {A = List Change} (length p.nets) []) lists → lists ≡ map (λ n. initial_log (initial_of (source_of p n))) p.nets
+  first_lists lists longer =
+      let empty : length (replicate {A = List Change} (length p.nets) []) ≡ length p.nets = length-replicate (length p.nets) [] in
+      let logs : List (List Change) = map (λ n. initial_log (initial_of (source_of p n))) p.nets in
+      let many : length logs ≡ length p.nets = length-map p.nets (λ n. initial_log (initial_of (source_of p n))) in
+      same_lists lists logs (longer.same ∙ empty ∙ sym many)
+      (λ i d l. let here : i < length p.nets = (let e = longer.same in omega (arith, l, e, empty)) in
+      get_or_default lists i d [] l
+      ∙ longer.each i (omega (arith, here, empty))
+      ∙ ap (λ (cs : List Change). cs ++ changes_at i (at 0 words)) (get_or-replicate {A = List Change} (length p.nets) i [] [] here)
+      ∙ first_place i words (map initial_of p.sources) first
+      ∙ ap (λ (v : Logic). changes_at i (at 0 (move_of i X v))) (content_at i here)
+      ∙ first_change i (initial_of (source_of p (get_or p.nets i 0)))
+      ∙ sym (get_or_default logs i d [] (omega (arith, here, many)) ∙ get_or-map (λ n. initial_log (initial_of (source_of p n))) p.nets i 0 [] here))

@@ -1,53 +1,54 @@
 -- A history that is played up to the horizon tells the logs.
-use Rattle.std.proofs.Common.{◌≡◌, ◌∙◌, ℕ, suc, ◌+◌, ◌<◌, ◌≤◌, inl, inr, Bool, true, false, Option, Some, None, is_some, Result, Ok, IfOk, IfSome, List, [], ◌∷◌, length, get_or, IsTrue, refl, ap, sym, subst, arith}
+use Rattle.std.proofs.Common.{◌≡◌, ◌∙◌, ℕ, suc, ◌+◌, ◌<◌, ◌≤◌, inl, inr, true, false, Option, Some, None, is_some, List, [], ◌∷◌, ◌++◌, length, get_or, IsTrue, refl, ap, sym, subst, arith}
 use Rattle.std.proofs.lemmas.Bool.{cases_lt, true≢false, false_from_ne_true}
-use Rattle.std.proofs.lemmas.List.{get_or_past}
+use Rattle.std.proofs.lemmas.List.{append-nil, get_or_past, length-map}
 use Rattle.gate_values.specs.declared.logic.Change.{Change}
-use Rattle.gate_values.specs.Behaviour.{Outside, source_delay}
 use Rattle.warp_stores.specs.Words.{Move}
 use Rattle.warp_stores.specs.Dated.{Dated, undated}
+use Rattle.warp_stores.specs.Lists.{AreLonger, changes_at}
 use Rattle.warp_engine.specs.Runs.{Run, makings}
-use Rattle.warp_engine.proofs.Recalling.{lists_told}
 use Rattle.part_engine.specs.Runs.{IsEngineOf}
-use Rattle.part_engine.proofs.Sources.{delay_placed}
-use Rattle.warp_part.specs.Portion.{Portion, IsPortion, is_driven}
-use Rattle.warp_part.specs.Placing.{place_source, place_given}
-use Rattle.warp_process.specs.View.{View, IsLeast, IsEventTime, given_by, is_busy}
+use Rattle.part_engine.specs.Histories.{TellLogs}
+use Rattle.part_engine.proofs.RunLogs.{logs_longer, history_tells}
+use Rattle.warp_process.specs.Heard.{IsReceived}
+use Rattle.warp_process.specs.View.{View, IsLeast, IsEventTime, IsDone, is_busy}
+use Rattle.warp_process.specs.Lawful.{lawful_log}
 use Rattle.warp_process.specs.Played.{played_view}
-use Rattle.warp_block.specs.Inner.Ending.{TellLists}
-use Rattle.warp_block.specs.Histories.{TellLogs}
-
--- an engine that is past the horizon, and of which all is told, tells its lists
-pub engine_tells : (v : View) (floor : ℕ) (run : Run) → IsEngineOf v floor run → run.book.mark ≡ v.horizon + 1 → makings run.told run ≡ [] → TellLists v.part run
-engine_tells v floor run engine mark none =
-    lists_told (place_source v.part) (place_given v.part (given_by v)) floor run engine.run.is (let same = engine.run.horizon in omega (arith, mark, same)) none
-
--- a place that is driven has a delay
-driven_delay : (p : Portion) → IsPortion p → (place : ℕ) → IsTrue (is_driven (get_or p.sources place Outside)) → 0 < source_delay (place_source p place)
-driven_delay p portion place driven = elim (cases_lt place (length p.nets)) [
-  | inl l ↦ (let d = (portion.driven place l driven).1.0 in let same = delay_placed p.nets (get_or p.sources place Outside) in omega (arith, d, same))
-  | inr far ↦ (let out : get_or p.sources place Outside ≡ Outside = get_or_past p.sources place Outside (let e = portion.sources in omega (arith, far, e)) in absurd (true≢false (sym driven ∙ ap is_driven out)))
-]
-
--- so words that tell lists tell the logs that these are
-pub tell_logs : (v : View) → IsPortion v.part → (run : Run) → TellLists v.part run → run.lists ≡ v.logs → TellLogs v run.book.history
-tell_logs v portion run tell same place driven =
-    tell place (driven_delay v.part portion place driven) ∙ ap (λ (ls : List (List Change)). get_or ls place []) same
+use Rattle.warp_block.specs.Shown.Block.{seen_by}
+use Rattle.warp_block.proofs.Resting.{quiet_from, next_was}
 
 -- where no event time is left, nothing happens up to the horizon
-pub none_quiet : (v : View) (m : ℕ) (next : Option ℕ) → is_some next ≡ false → IsLeast (IsEventTime (played_view v m)) next → (t : ℕ) → m ≤ t → t < v.horizon → is_busy (played_view v m) t ≡ false
-none_quiet v m None e least t a b = false_from_ne_true (is_busy (played_view v m) t) (λ busy. least t (a, omega (arith, b), busy))
+pub none_quiet : (v : View) (m : ℕ) (next : Option ℕ) → is_some next ≡ false → IsLeast (IsEventTime (played_view v m)) next → (t : ℕ) → m ≤ t → t ≤ v.horizon → is_busy (played_view v m) t ≡ false
+none_quiet v m None e least t a b = false_from_ne_true (is_busy (played_view v m) t) (λ busy. least t (a, b, busy))
 none_quiet v m (Some time) e least t a b = absurd (true≢false e)
+
+pub none_done : (v : View) (m : ℕ) (next : Option ℕ) → is_some next ≡ false → IsLeast (IsEventTime (played_view v m)) next → IsDone (played_view v m)
+none_done v m None e least t event = least t event
+none_done v m (Some time) e least t event = absurd (true≢false e)
+
+-- nor does it from a later mark on
+pub quiet_on : (v : View) → IsReceived v → (m n : ℕ) → m ≤ n → ((t : ℕ) → m ≤ t → t ≤ v.horizon → is_busy (played_view v m) t ≡ false) → (t : ℕ) → n ≤ t → t < v.horizon → is_busy (played_view v n) t ≡ false
+quiet_on v r m n on quiet =
+    quiet_from v r n v.horizon
+    (λ t a b. let from : m ≤ t = omega (arith, on, a) in
+    sym (next_was v r m t from (omega (arith, b)) (λ u f g busy. true≢false (sym busy ∙ quiet u f (omega (arith, g, b))))) ∙ quiet t from (omega (arith, b)))
 
 -- no word at all
 pub none_dated : (ds : List (Dated Move)) → length (undated ds) ≡ 0 → ds ≡ []
 none_dated [] e = refl
 none_dated (d ∷ ds) e = absurd (omega (arith, e))
 
--- what is answered of a history that was played out tells the logs
-pub told_logs : {E : Type 0} (v : View) → IsPortion v.part → (run : Run) → run.lists ≡ v.logs → (told : Result Bool E) → IfOk told (λ b. b ≡ true → TellLists v.part run)
-    → (history : List (Dated Move)) → history ≡ run.book.history → (answer : Option (Portion × List (Dated Move))) → IfSome answer (λ _. told ≡ Ok true) → IfSome answer (λ found. found.1 ≡ history)
-    → IfSome answer (λ found. TellLogs v found.1)
-told_logs v portion run lists told tell history same None done is = tt
-told_logs v portion run lists told tell history same (Some found) done is =
-    subst (TellLogs v) (sym (is ∙ same)) (tell_logs v portion run (subst (λ r. IfOk r (λ b. b ≡ true → TellLists v.part run)) done tell refl) lists)
+-- logs behind which nothing was made
+same_at : (logs all : List (List Change)) → AreLonger [] logs all → (place : ℕ) → get_or all place [] ≡ get_or logs place []
+same_at logs all longer place = elim (cases_lt place (length logs)) [
+  | inl l ↦ longer.each place l ∙ append-nil (get_or logs place [])
+  | inr far ↦ get_or_past all place [] (let e = longer.same in omega (arith, far, e)) ∙ sym (get_or_past logs place [] far)
+]
+
+-- an engine that is past the horizon, and has made nothing since, tells the logs of before
+pub out_tells : (v : View) (floor : ℕ) (old run : Run) → IsEngineOf v floor run → floor ≤ old.book.mark → old.book.mark ≤ run.book.mark → run.book.mark ≡ v.horizon + 1 → makings old.book.mark run ≡ [] → TellLogs (seen_by v old) run.book.history
+out_tells v floor old run of low high mark none place driven =
+    let end : run.book.mark ≡ suc v.horizon = omega (arith, mark) in
+    history_tells v run floor of end place driven
+    ∙ same_at (played_view v old.book.mark).logs (played_view v run.book.mark).logs
+    (subst (λ (ws : List (Dated Move)). AreLonger ws (played_view v old.book.mark).logs (played_view v run.book.mark).logs) none (logs_longer v run floor of old.book.mark low high)) place

@@ -8,7 +8,9 @@ use Rattle.event_times.specs.Marks as marks
 use Rattle.event_times.specs.declared.times.TheConstants.{SAVE_EVERY}
 use Rattle.event_times.proofs.Spacing.{spaced}
 use Rattle.warp_engine.specs.Runs.{Run}
+use Rattle.warp_process.specs.Entries.{Received}
 use Rattle.warp_process.specs.Heard.{IsReceived}
+use Rattle.warp_part.specs.Portion.{Portion}
 use Rattle.warp_process.specs.View.{View, is_busy, busy_times, IsLeast, IsEventTime, IsDone}
 use Rattle.warp_process.specs.Lawful.{IsLawful, IsSaved, AreSpaced, IsLawfulProcess, lawful_log}
 use Rattle.warp_process.specs.Played.{played_view, was_busy}
@@ -21,9 +23,10 @@ use Rattle.warp_process.proofs.SavingTimes.{times-agree}
 use Rattle.warp_process.proofs.Going.{idle_past}
 use Rattle.warp_process.proofs.Committed.{committed_lawful}
 use Rattle.part_engine.specs.Runs.{state_of}
-use Rattle.part_engine.proofs.RunLogs.{lists_are, states_are}
+use Rattle.part_engine.proofs.RunLogs.{states_are}
 use Rattle.warp_block.specs.Shown.Block.{mark_by, seen_by, process_by}
-use Rattle.warp_block.specs.Inner.Held.{IsAtRest}
+use Rattle.warp_block.specs.Shown.Ended.{ended_by}
+use Rattle.warp_block.specs.Inner.Held.{IsAt}
 use Rattle.warp_block.proofs.Times.{times_end, times_on}
 
 -- a time before a mark
@@ -74,8 +77,7 @@ least_from v r m time low within none now =
       λ u e. elim (cases_lt u time) [ inl before ↦ absurd (quiet u e.0 before e.2) | inr since ↦ since ],
     )
 
--- all is told
-module _ (v : View) (run : Run) (played : Played) (rest : IsAtRest v run played) where
+module _ (v : View) (run : Run) (played : Played) (at : IsAt v run played) where
   abbrev m : ℕ
   m = run.book.mark
 
@@ -83,15 +85,11 @@ module _ (v : View) (run : Run) (played : Played) (rest : IsAtRest v run played)
   base = played_view v run.book.mark
 
   received : IsReceived v
-  received = rest.at.engine.received
-
-  -- the lists are the logs
-  pub rest_lists : run.lists ≡ base.logs
-  rest_lists = lists_are v run played.first rest.at.engine ∙ ap (λ k. map (lawful_log (record v { mark = k })) v.part.nets) rest.told
+  received = at.engine.received
 
   -- nothing happens from the mark on and below the floor
   pub rest_quiet : (t : ℕ) → run.book.mark ≤ t → t < v.floor → was_busy v t ≡ false
-  rest_quiet t a b = rest.at.quiet t (let e = rest.told in omega (arith, a, e)) b
+  rest_quiet = at.quiet
 
   pub rest_shown : (t : ℕ) → run.book.mark ≤ t → t < v.floor → is_busy base t ≡ false
   rest_shown = quiet_from v received run.book.mark v.floor rest_quiet
@@ -104,13 +102,11 @@ module _ (v : View) (run : Run) (played : Played) (rest : IsAtRest v run played)
   }
 
   pub rest_lawful : IsLawful (seen_by v run)
-  rest_lawful =
-      subst (λ (logs : List (List Change)). IsLawful (record v { mark = mark_by v run; logs = logs })) (sym rest_lists)
-      (committed_lawful base (played_lawful v run.book.mark received) v.floor rest_can)
+  rest_lawful = committed_lawful base (played_lawful v run.book.mark received) v.floor rest_can
 
   -- what is busy is what is busy with nothing committed
   pub busy_same : (t : ℕ) → is_busy (seen_by v run) t ≡ is_busy base t
-  busy_same t = ap (λ (logs : List (List Change)). is_busy (record v { mark = mark_by v run; logs = logs }) t) rest_lists
+  busy_same t = refl
 
   pub event_up : (t : ℕ) → IsEventTime base t → IsEventTime (seen_by v run) t
   event_up t e = (
@@ -132,7 +128,7 @@ module _ (v : View) (run : Run) (played : Played) (rest : IsAtRest v run played)
 
   -- the event times up to what is processed
   pub rest_times : AreTimes (was_busy v) played.first (mark_by v run) played.times
-  rest_times = times_on (was_busy v) played.first run.book.mark (mark_by v run) played.times rest.at.times (omega arith) (λ t a b. rest_quiet t a (omega (arith, a, b)))
+  rest_times = times_on (was_busy v) played.first run.book.mark (mark_by v run) played.times at.times (omega arith) (λ t a b. rest_quiet t a (omega (arith, a, b)))
 
   -- marks up to what is played
   marks_within : (from left : ℕ) (ts : List ℕ) → AreTimes (was_busy v) from run.book.mark ts → played.first ≤ from → All (λ k. (played.first ≤ k) × (k ≤ run.book.mark)) (later_marks left ts)
@@ -149,13 +145,13 @@ module _ (v : View) (run : Run) (played : Played) (rest : IsAtRest v run played)
   saved_all [] h = All-nil (IsSaved (seen_by v run))
   saved_all (k ∷ ms) h =
       let within = h 0 k (omega arith) in
-      let state = states_are v run played.first k rest.at.engine within.0 within.1 in
+      let state = states_are v run played.first k at.engine within.0 within.1 in
       All-cons (IsSaved (seen_by v run)) (state_of run.book k) (map (state_of run.book) ms) (record { values = state.values; contents = state.contents })
       (saved_all ms (λ i d l. h (suc i) d (omega (arith, l))))
 
   marks_end : (mark : ℕ) (ms : List ℕ) → marks.AreSpaced (was_busy v) (mark_by v run) mark ms → mark ≤ mark_by v run
   marks_end mark [] h = h.0
-  marks_end mark (k ∷ ms) h = (let on = h.0 in let rest = marks_end k ms h.3 in omega (arith, on, rest))
+  marks_end mark (k ∷ ms) h = (let on = h.0 in let at = marks_end k ms h.3 in omega (arith, on, at))
 
   pub count_same : (a b : ℕ) → b ≤ mark_by v run → busy_times (seen_by v run) a b ≡ marks.counted (was_busy v) a b
   count_same a b within = times-agree (is_busy (seen_by v run)) (was_busy v) a b (λ t f g. seen_was t (omega (arith, g, within)))
@@ -176,20 +172,60 @@ module _ (v : View) (run : Run) (played : Played) (rest : IsAtRest v run played)
   rest_process = record {
     seen = rest_lawful;
     states =
-        (let low = times_end (was_busy v) played.first run.book.mark played.times rest.at.times in
+        (let low = times_end (was_busy v) played.first run.book.mark played.times at.times in
         saved_all (marks_of played) (All-cons (λ k. (played.first ≤ k) × (k ≤ run.book.mark)) played.first (later_marks (SAVE_EVERY - 1) played.times) (omega arith, low)
-        (marks_within played.first (SAVE_EVERY - 1) played.times rest.at.times (omega arith))));
-    saved = (rest.at.low, spaced_seen played.first (later_marks (SAVE_EVERY - 1) played.times) (spaced (was_busy v) played.first (mark_by v run) played.times rest_times));
+        (marks_within played.first (SAVE_EVERY - 1) played.times at.times (omega arith))));
+    saved = (at.low, spaced_seen played.first (later_marks (SAVE_EVERY - 1) played.times) (spaced (was_busy v) played.first (mark_by v run) played.times rest_times));
   }
 
--- two engines at rest that have told as much show the same
-pub same_seen : (v : View) (run : Run) (played : Played) → IsAtRest v run played → (new : Run) (after : Played) → IsAtRest v new after → new.told ≡ run.told → seen_by v new ≡ seen_by v run
-same_seen v run played rest new after end told =
-    let mark : new.book.mark ≡ run.book.mark = sym end.told ∙ told ∙ rest.told in
-    let lists : new.lists ≡ run.lists =
-    lists_are v new after.first end.at.engine ∙ ap (λ k. map (lawful_log (record v { mark = k })) v.part.nets) told ∙ sym (lists_are v run played.first rest.at.engine) in
-    ap (λ m. record v { mark = max m v.floor; logs = new.lists }) mark ∙ ap (λ (logs : List (List Change)). record v { mark = mark_by v run; logs = logs }) lists
+-- two engines that have played as much show the same
+pub same_seen : (v : View) (run new : Run) → new.book.mark ≡ run.book.mark → seen_by v new ≡ seen_by v run
+same_seen v run new mark = ap (λ (m : ℕ). record v { mark = max m v.floor; logs = (played_view v m).logs }) mark
 
 -- nothing is left where nothing is
-pub done_up : (v : View) (run : Run) (played : Played) → IsAtRest v run played → IsDone (played_view v run.book.mark) → IsDone (seen_by v run)
-done_up v run played rest done t event = done t (event_down v run played rest t event)
+pub done_up : (v : View) (run : Run) (played : Played) → IsAt v run played → IsDone (played_view v run.book.mark) → IsDone (seen_by v run)
+done_up v run played at done t event = done t (event_down v run played at t event)
+
+-- ---- what was played from a time on is taken back
+
+-- an engine that has gone back shows the logs up to the time
+pub seen_back : (v : View) (old new : Run) (time : ℕ) → new.book.mark ≡ time → v.floor ≤ time
+    → seen_by v new ≡ record (seen_by v old) { mark = time; logs = map (lawful_log (record (seen_by v old) { mark = time })) v.part.nets }
+seen_back v old new time mark floor =
+    let top : max time v.floor ≡ time = omega (arith, floor) in
+    ap (λ (m : ℕ). record v { mark = max m v.floor; logs = (played_view v m).logs }) mark
+    ∙ ap (λ (m : ℕ). record v { mark = m; logs = (played_view v time).logs }) top
+
+-- what is lawful shows these at its mark
+pub seen_stays : (w : View) → IsLawful w → (time : ℕ) → w.mark ≡ time → w ≡ record w { mark = time; logs = map (lawful_log (record w { mark = time })) w.part.nets }
+seen_stays w lawful time mark =
+    ap (λ (ls : List (List Change)). record w { logs = ls }) lawful.logs
+    ∙ ap (λ (m : ℕ). record w { mark = m; logs = map (lawful_log (record w { mark = m })) w.part.nets }) mark
+
+-- back at a mark, all is as it was
+module _ (old mid : View) (lawful : IsLawful old) (part : mid.part ≡ old.part) (horizon : mid.horizon ≡ old.horizon) (floor : mid.floor ≡ old.floor) (queues : mid.queues ≡ old.queues) where
+  abbrev back_by : (time : ℕ) → Portion → ℕ → ℕ → List (List Received) → View
+  back_by time p h f q = record mid {
+    part = p;
+    horizon = h;
+    floor = f;
+    queues = q;
+    mark = time;
+    logs = map (lawful_log (record mid { part = p; horizon = h; floor = f; queues = q; mark = time })) p.nets;
+  }
+
+  pub given_back : (time : ℕ) → time ≡ old.mark → record mid { mark = time; logs = map (lawful_log (record mid { mark = time })) mid.part.nets } ≡ old
+  given_back time mark =
+      ap (λ p. back_by time p mid.horizon mid.floor mid.queues) part
+      ∙ ap (λ h. back_by time old.part h mid.floor mid.queues) horizon
+      ∙ ap (λ f. back_by time old.part old.horizon f mid.queues) floor
+      ∙ ap (λ q. back_by time old.part old.horizon old.floor q) queues
+      ∙ sym (seen_stays old lawful time (sym mark))
+
+-- ---- what has ended
+
+-- what is received, up to the mark of what is lawful, is that
+pub ended_is : (h w : View) (mark : ℕ) → record h { mark = w.mark; logs = w.logs } ≡ w → mark ≡ w.mark → IsLawful w → ended_by h mark ≡ w
+ended_is h w mark is same lawful =
+    ap (λ (u : View). record u { mark = mark; logs = map (lawful_log (record u { mark = mark })) u.part.nets }) is
+    ∙ sym (seen_stays w lawful mark (sym same))

@@ -1,12 +1,14 @@
 -- What taking an entry makes of a block's engine.
-use Rattle.std.proofs.Common.{◌≡◌, ◌≢◌, ℕ, suc, cond, ◌<◌, ◌≤◌, ◌⊎◌, ◌==◌, nat_lt, length, get_or, inl, inr, refl, ap, sym, ◌∙◌, subst, arith}
+use Rattle.std.proofs.Common.{◌≡◌, ◌≢◌, ℕ, suc, cond, ◌<◌, ◌≤◌, ◌⊎◌, ◌==◌, nat_lt, List, length, get_or, inl, inr, refl, ap, sym, ◌∙◌, subst, arith}
 use Rattle.std.specs.List.{filter}
 use Rattle.std.proofs.lemmas.Bool.{cases_eq, and_left, and_right, ne_eqb, eq-eqb}
 use Rattle.gate_values.specs.declared.logic.Logic.{Logic}
 use Rattle.gate_values.specs.declared.logic.Logic.TheVariants.{X}
+use Rattle.gate_values.specs.declared.logic.Change.{Change}
 use Rattle.gate_values.proofs.ChangeLists.{held-agree}
 use Rattle.event_times.specs.Marks.{Played, AreTimes}
-use Rattle.warp_engine.specs.Runs.{Run, IsRun, HasReturned}
+use Rattle.warp_stores.specs.Lists.{AreLonger}
+use Rattle.warp_engine.specs.Runs.{Run, IsRun, HasReturned, makings}
 use Rattle.warp_part.specs.Portion.{Portion}
 use Rattle.warp_part.specs.Placing.{place_source, place_given}
 use Rattle.warp_part.proofs.Placing.{nothing_past}
@@ -20,8 +22,9 @@ use Rattle.warp_process.proofs.Playing.{played_lawful}
 use Rattle.warp_process.proofs.SavingBusy.{busy_agree}
 use Rattle.part_engine.specs.Runs.{IsRunOf, IsEngineOf}
 use Rattle.part_engine.proofs.GoingOn.{runs_go_on}
-use Rattle.part_engine.proofs.RunLogs.{cells_are}
-use Rattle.warp_block.specs.Inner.Held.{IsAtRest, IsSparse}
+use Rattle.part_engine.proofs.RunLogs.{cells_are, logs_agree, logs_longer}
+use Rattle.warp_block.specs.Shown.Block.{seen_by}
+use Rattle.warp_block.specs.Inner.Held.{IsAt, IsSparse}
 use Rattle.warp_block.proofs.Times.{times_cut, times_same, sparse_cut}
 use Rattle.warp_block.proofs.Stepping.{parted_like}
 
@@ -55,37 +58,38 @@ module _ (v w : View) (net time : ℕ) (entry : Entry) (put : IsPut v w net time
     given_same end agree t n l = held-agree (effective_at v n) (effective_at w n) (suc t) (λ u m. agree n u (omega (arith, m, l))) t (omega arith)
 
     -- an entry that changes nothing that is played
-    module _ (run : Run) (played : Played) (rest : IsAtRest v run played) (from : v.floor ≤ time) (in_time : (run.book.mark ≤ time) ⊎ (effective_of entry ≡ effective_at v net time)) where
+    module _ (run : Run) (played : Played) (at : IsAt v run played) (from : v.floor ≤ time) (in_time : (run.book.mark ≤ time) ⊎ (effective_of entry ≡ effective_at v net time)) where
       agree : (n u : ℕ) → u < run.book.mark ⊎ (u < v.floor) → effective_at v n u ≡ effective_at w n u
       agree n u l = elim in_time [
         | inl late ↦ effective_other n u (λ e. elim l [ inl a ↦ absurd (omega (arith, a, late, e)) | inr b ↦ absurd (omega (arith, b, from, e)) ])
         | inr kept ↦ effective_same kept n u
       ]
 
-      pub taken_rest : IsAtRest w run played
-      taken_rest = record {
-        at = record {
-          engine = record {
-            received = rw';
-            run = subst (λ (p : Portion). IsRunOf p (given_by w) w.horizon played.first run) (sym put.part)
-                (subst (λ h. IsRunOf v.part (given_by w) h played.first run) (sym put.horizon)
-                (runs_go_on v.part rv.part (given_by v) (given_by w) v.horizon played.first run rest.at.engine.run
-                (given_same run.book.mark (λ n u l. agree n u (inl l)))));
-          };
-          low = (let low = rest.at.low in let same = put.floor in omega (arith, low, same));
-          within = (let within = rest.at.within in let same = put.horizon in omega (arith, within, same));
-          times = times_same (was_busy v) (was_busy w) played.first run.book.mark played.times (λ t a b. was_same t (λ n u m. agree n u (inl (omega (arith, m, b))))) rest.at.times;
-          quiet = λ t a b. sym (was_same t (λ n u m. agree n u (inr (let same = put.floor in omega (arith, m, b, same))))) ∙ rest.at.quiet t a (let same = put.floor in omega (arith, b, same));
-          sparse = subst (λ (f : ℕ). IsSparse f played.times) (sym put.floor) rest.at.sparse;
+      pub taken_at : IsAt w run played
+      taken_at = record {
+        engine = record {
+          received = rw';
+          run = subst (λ (p : Portion). IsRunOf p (given_by w) w.horizon played.first run) (sym put.part)
+              (subst (λ h. IsRunOf v.part (given_by w) h played.first run) (sym put.horizon)
+              (runs_go_on v.part rv.part (given_by v) (given_by w) v.horizon played.first run at.engine.run
+              (given_same run.book.mark (λ n u l. agree n u (inl l)))));
         };
-        told = rest.told;
+        low = (let low = at.low in let same = put.floor in omega (arith, low, same));
+        within = (let within = at.within in let same = put.horizon in omega (arith, within, same));
+        times = times_same (was_busy v) (was_busy w) played.first run.book.mark played.times (λ t a b. was_same t (λ n u m. agree n u (inl (omega (arith, m, b))))) at.times;
+        quiet = λ t a b. sym (was_same t (λ n u m. agree n u (inr (let same = put.floor in omega (arith, m, b, same))))) ∙ at.quiet t a (let same = put.floor in omega (arith, b, same));
+        sparse = subst (λ (f : ℕ). IsSparse f played.times) (sym put.floor) at.sparse;
       }
 
+      -- the logs stay
+      pub taken_logs : (seen_by w run).logs ≡ (seen_by v run).logs
+      taken_logs = sym (logs_agree v w rv.part (sym put.part) (sym put.horizon) run.book.mark (given_same run.book.mark (λ n u l. agree n u (inl l))))
+
     -- an entry that changes what is played: the engine has gone back to its time
-    module _ (run : Run) (played : Played) (rest : IsAtRest v run played) (from : v.floor ≤ time) (late : time < run.book.mark) (new : Run) (back : HasReturned time run new)
+    module _ (run : Run) (played : Played) (at : IsAt v run played) (from : v.floor ≤ time) (late : time < run.book.mark) (new : Run) (back : HasReturned time run new)
         (after : Played) (cut : after ≡ record played { times = filter (λ t. nat_lt t time) played.times }) where
       low_time : played.first ≤ time
-      low_time = (let low = rest.at.low in omega (arith, low, from))
+      low_time = (let low = at.low in omega (arith, low, from))
 
       agree_below : (n u : ℕ) → u < time → effective_at v n u ≡ effective_at w n u
       agree_below n u l = effective_other n u (λ e. absurd (omega (arith, l, e)))
@@ -95,8 +99,8 @@ module _ (v w : View) (net time : ℕ) (entry : Entry) (put : IsPut v w net time
 
       runs : IsRun (place_source v.part) (place_given v.part (given_by w)) played.first new
       runs =
-          back.anew (place_source v.part) (place_given v.part (given_by v)) (place_given v.part (given_by w)) played.first rest.at.engine.run.is low_time given_below
-          (λ place t far. nothing_past v.part rv.part (given_by w) place t (let e = cells_are v played.first run rest.at.engine in omega (arith, far, e)))
+          back.anew (place_source v.part) (place_given v.part (given_by v)) (place_given v.part (given_by w)) played.first at.engine.run.is low_time given_below
+          (λ place t far. nothing_past v.part rv.part (given_by w) place t (let e = cells_are v played.first run at.engine in omega (arith, far, e)))
 
       engine_new : IsEngineOf w played.first new
       engine_new = record {
@@ -105,25 +109,30 @@ module _ (v w : View) (net time : ℕ) (entry : Entry) (put : IsPut v w net time
             (subst (λ h. IsRunOf v.part (given_by w) h played.first new) (sym put.horizon)
             (record {
               is = runs;
-              horizon = back.like.horizon ∙ rest.at.engine.run.horizon;
-              cells = back.like.alike.cells ∙ rest.at.engine.run.cells;
-              parted = parted_like v.part run new back.like rest.at.engine.run.parted;
+              horizon = back.like.horizon ∙ at.engine.run.horizon;
+              cells = back.like.alike.cells ∙ at.engine.run.cells;
+              parted = parted_like v.part run new back.like at.engine.run.parted;
             }));
       }
 
-      pub returned_rest : IsAtRest w new after
-      returned_rest = subst (λ (p : Played). IsAtRest w new p) (sym cut) (record {
-        at = record {
-          engine = engine_new;
-          low = (let low = rest.at.low in let same = put.floor in omega (arith, low, same));
-          within = (let within = rest.at.within in let same = put.horizon in let mark = back.mark in omega (arith, within, same, mark, late));
-          times =
-              subst (λ k. AreTimes (was_busy w) played.first k (filter (λ t. nat_lt t time) played.times)) (sym back.mark)
-              (times_same (was_busy v) (was_busy w) played.first time (filter (λ t. nat_lt t time) played.times) (λ t a b. was_same t (λ n u m. agree_below n u (omega (arith, m, b))))
-              (times_cut (was_busy v) played.first run.book.mark time time played.times rest.at.times low_time (omega arith) (omega (arith, late)) (λ t a b. absurd (omega (arith, a, b)))));
-          quiet = λ t a b. absurd (let same = put.floor in let told = back.told in omega (arith, a, b, same, told, from));
-          sparse = subst (λ (f : ℕ). IsSparse f (filter (λ t. nat_lt t time) played.times)) (sym put.floor)
-              (sparse_cut (was_busy v) played.first run.book.mark time v.floor played.times rest.at.times rest.at.sparse);
-        };
-        told = back.told ∙ sym back.mark;
+      pub returned_at : IsAt w new after
+      returned_at = subst (λ (p : Played). IsAt w new p) (sym cut) (record {
+        engine = engine_new;
+        low = (let low = at.low in let same = put.floor in omega (arith, low, same));
+        within = (let within = at.within in let same = put.horizon in let mark = back.mark in omega (arith, within, same, mark, late));
+        times =
+            subst (λ k. AreTimes (was_busy w) played.first k (filter (λ t. nat_lt t time) played.times)) (sym back.mark)
+            (times_same (was_busy v) (was_busy w) played.first time (filter (λ t. nat_lt t time) played.times) (λ t a b. was_same t (λ n u m. agree_below n u (omega (arith, m, b))))
+            (times_cut (was_busy v) played.first run.book.mark time time played.times at.times low_time (omega arith) (omega (arith, late)) (λ t a b. absurd (omega (arith, a, b)))));
+        quiet = λ t a b. absurd (let same = put.floor in let mark = back.mark in omega (arith, a, b, same, mark, from));
+        sparse = subst (λ (f : ℕ). IsSparse f (filter (λ t. nat_lt t time) played.times)) (sym put.floor)
+            (sparse_cut (was_busy v) played.first run.book.mark time v.floor played.times at.times at.sparse);
       })
+
+      -- what was made from the time on stood behind the logs that are left
+      pub returned_longer : AreLonger (makings time run) (seen_by w new).logs (seen_by v run).logs
+      returned_longer =
+          let left : (seen_by w new).logs ≡ (played_view v time).logs =
+          ap (λ (m : ℕ). (played_view w m).logs) back.mark ∙ sym (logs_agree v w rv.part (sym put.part) (sym put.horizon) time (given_same time agree_below)) in
+          subst (λ (ls : List (List Change)). AreLonger (makings time run) ls (seen_by v run).logs) (sym left)
+          (logs_longer v run played.first at.engine time low_time (omega (arith, late)))

@@ -3,23 +3,23 @@ use Rattle.std.proofs.Common.{◌≡◌, ◌≢◌, ℕ, suc, ◌+◌, max, true
 use Rattle.std.proofs.lemmas.Bool.{cases_lt, true≢false}
 use Rattle.event_times.specs.Marks.{Played, AreTimes}
 use Rattle.warp_stores.specs.Words.{Move}
-use Rattle.std.specs.List.{filter, flat_map}
+use Rattle.std.specs.List.{filter}
 use Rattle.warp_stores.specs.Dated.{Dated}
-use Rattle.warp_stores.specs.Delays.{told_since}
-use Rattle.warp_journal.specs.Books.{Book, AreAlike, IsBrought, all_of}
-use Rattle.warp_engine.specs.Runs.{Run, IsRun, Ran, IsLike, makings}
+use Rattle.warp_journal.specs.Books.{IsBrought}
+use Rattle.warp_engine.specs.Runs.{Run, IsRun, Ran, IsLike, makings, MayReturn, HasReturned}
 use Rattle.warp_engine.specs.Nexts.{AreParted}
 use Rattle.warp_engine.proofs.Making.{makings_later}
 use Rattle.part_engine.proofs.RunLogs.{cells_are}
 use Rattle.part_engine.proofs.Heeding.{heard_busy}
 use Rattle.warp_process.proofs.Playing.{played_lawful}
 use Rattle.warp_part.specs.Portion.{Portion}
-use Rattle.warp_part.specs.Placing.{place_source, place_given, place_cells}
+use Rattle.warp_part.specs.Placing.{place_source, place_given}
+use Rattle.warp_part.proofs.Placing.{nothing_past}
 use Rattle.warp_process.specs.Heard.{IsReceived}
 use Rattle.warp_process.specs.View.{View, IsLeast, IsEventTime, given_by, is_busy}
 use Rattle.warp_process.specs.Played.{played_view, was_busy}
 use Rattle.part_engine.specs.Runs.{IsEngineOf, IsNextBrought}
-use Rattle.warp_block.specs.Inner.Held.{IsAt, IsAtRest}
+use Rattle.warp_block.specs.Inner.Held.{IsAt, IsQuietBelow}
 use Rattle.warp_block.proofs.Times.{times_below, times_on, times_push, times_cut, push_cut, sparse_push, sparse_cut}
 use Rattle.warp_block.proofs.Resting.{least_none, least_now, least_from, quiet_from, next_was}
 
@@ -60,31 +60,21 @@ module _ (v : View) (run : Run) (played : Played) (at : IsAt v run played) where
   abbrev pub ran : Ran run
   ran = record { source = place_source v.part; given = place_given v.part (given_by v); floor = played.first; is = at.engine.run.is }
 
-  pub told_low : played.first ≤ run.told
-  told_low = at.engine.run.is.low
-
-  pub told_high : run.told ≤ run.book.mark
-  told_high = at.engine.run.is.high
-
-  -- nothing happens from the mark on and below the floor
-  pub at_quiet : (t : ℕ) → run.book.mark ≤ t → t < v.floor → was_busy v t ≡ false
-  at_quiet t a b = at.quiet t (let high = told_high in omega (arith, a, high)) b
-
   pub at_shown : (t : ℕ) → run.book.mark ≤ t → t < v.floor → is_busy (played_view v run.book.mark) t ≡ false
-  at_shown = quiet_from v received run.book.mark v.floor at_quiet
+  at_shown = quiet_from v received run.book.mark v.floor at.quiet
 
   -- the event times are before the mark
   pub at_below : (time : ℕ) → run.book.mark ≤ time → All (λ t. t < time) played.times
   at_below time l k d h = (let below = times_below (was_busy v) played.first run.book.mark played.times at.times k d h in omega (arith, below, l))
 
   -- the same engine with the same times
-  pub at_kept : (new : Run) → new.book.mark ≡ run.book.mark → new.told ≡ run.told → IsLike run new → IsRun (place_source v.part) (place_given v.part (given_by v)) played.first new → IsAt v new played
-  at_kept new mark told like runs = record {
+  pub at_kept : (new : Run) → new.book.mark ≡ run.book.mark → IsLike run new → IsRun (place_source v.part) (place_given v.part (given_by v)) played.first new → IsAt v new played
+  at_kept new mark like runs = record {
     engine = engine_on v played.first run new at.engine like runs;
     low = at.low;
     within = subst (λ k. k ≤ suc v.horizon) (sym mark) at.within;
     times = subst (λ k. AreTimes (was_busy v) played.first k played.times) (sym mark) at.times;
-    quiet = λ t a b. at.quiet t (omega (arith, a, told)) b;
+    quiet = λ t a b. at.quiet t (omega (arith, a, mark)) b;
     sparse = at.sparse;
   }
 
@@ -96,29 +86,29 @@ module _ (v : View) (run : Run) (played : Played) (at : IsAt v run played) where
     -- isn't below the floor
     pub least_floor : v.floor ≤ time
     least_floor = elim (cases_lt time v.floor) [
-      | inl below ↦ absurd (true≢false (sym (least_now v received run.book.mark time least) ∙ at_quiet time least.0.0 below))
+      | inl below ↦ absurd (true≢false (sym (least_now v received run.book.mark time least) ∙ at.quiet time least.0.0 below))
       | inr since ↦ since
     ]
 
     -- it is played
-    pub at_played : (new : Run) → new.book.mark ≡ suc time → new.told ≡ run.told → IsLike run new → IsRun (place_source v.part) (place_given v.part (given_by v)) played.first new
+    pub at_played : (new : Run) → new.book.mark ≡ suc time → IsLike run new → IsRun (place_source v.part) (place_given v.part (given_by v)) played.first new
         → IsAt v new (record played { times = played.times ++ time ∷ [] })
-    at_played new mark told like runs = record {
+    at_played new mark like runs = record {
       engine = engine_on v played.first run new at.engine like runs;
       low = at.low;
       within = (let end = least.0.1 in omega (arith, mark, end));
       times = subst (λ k. AreTimes (was_busy v) played.first k (played.times ++ time ∷ [])) (sym mark)
           (times_push (was_busy v) played.first run.book.mark time played.times at.times least.0.0 (least_none v received run.book.mark time least) (least_now v received run.book.mark time least));
-      quiet = λ t a b. at.quiet t (omega (arith, a, told)) b;
+      quiet = λ t a b. at.quiet t (let low = least.0.0 in omega (arith, a, mark, low)) b;
       sparse = sparse_push v.floor time played.times at.sparse least_floor;
     }
 
     -- and isn't, after an error
-    pub at_unplayed : (new : Run) → new.book.mark ≡ run.book.mark → new.told ≡ run.told → IsLike run new → IsRun (place_source v.part) (place_given v.part (given_by v)) played.first new
+    pub at_unplayed : (new : Run) → new.book.mark ≡ run.book.mark → IsLike run new → IsRun (place_source v.part) (place_given v.part (given_by v)) played.first new
         → (after : Played) → after ≡ record played { times = filter (λ t. nat_lt t time) (played.times ++ time ∷ []) } → IsAt v new after
-    at_unplayed new mark told like runs after e =
+    at_unplayed new mark like runs after e =
         let cut : record played { times = filter (λ t. nat_lt t time) (played.times ++ time ∷ []) } ≡ played = ap (λ (ts : List ℕ). record played { times = ts }) (push_cut time played.times (at_below time least.0.0)) in
-        subst (λ (p : Played). IsAt v new p) (sym (e ∙ cut)) (at_kept new mark told like runs)
+        subst (λ (p : Played). IsAt v new p) (sym (e ∙ cut)) (at_kept new mark like runs)
 
     -- where a quiet time is passed over, it is the next one still
     pub least_on : (mark : ℕ) → run.book.mark ≤ mark → mark ≤ time → IsLeast (IsEventTime (played_view v mark)) (Some time)
@@ -159,70 +149,38 @@ module _ (v : View) (run : Run) (played : Played) (at : IsAt v run played) where
       ])
 
   -- time 0, at which nothing happens, is played
-  pub at_begun : run.book.mark ≡ 0 → is_busy (played_view v 0) 0 ≡ false → (new : Run) → new.book.mark ≡ 1 → new.told ≡ run.told → IsLike run new → IsRun (place_source v.part) (place_given v.part (given_by v)) played.first new
+  pub at_begun : run.book.mark ≡ 0 → is_busy (played_view v 0) 0 ≡ false → (new : Run) → new.book.mark ≡ 1 → IsLike run new → IsRun (place_source v.part) (place_given v.part (given_by v)) played.first new
       → IsAt v new played
-  at_begun zero_mark still new mark told like runs = record {
+  at_begun zero_mark still new mark like runs = record {
     engine = engine_on v played.first run new at.engine like runs;
     low = at.low;
     within = omega (arith, mark);
     times = subst (λ k. AreTimes (was_busy v) played.first k played.times) (sym mark)
         (times_on (was_busy v) played.first run.book.mark 1 played.times at.times (omega (arith, zero_mark))
         (λ t a b. let first : t ≡ 0 = omega (arith, b) in ap (was_busy v) first ∙ sym (next_was v received 0 0 (omega arith) (omega arith) (λ u f g busy. absurd (omega (arith, g)))) ∙ still));
-    quiet = λ t a b. at.quiet t (omega (arith, a, told)) b;
+    quiet = λ t a b. at.quiet t (omega (arith, zero_mark)) b;
     sparse = at.sparse;
   }
 
-  -- what isn't told is taken back
-  pub at_given_up : (new : Run) → new.book.mark ≡ run.told → new.told ≡ run.told → IsLike run new → IsRun (place_source v.part) (place_given v.part (given_by v)) played.first new
-      → (after : Played) → after ≡ record played { times = filter (λ t. nat_lt t new.book.mark) played.times } → IsAtRest v new after
-  at_given_up new mark told like runs after e = subst (λ (p : Played). IsAtRest v new p) (sym e) (record {
-    at = record {
-      engine = engine_on v played.first run new at.engine like runs;
-      low = at.low;
-      within = (let high = told_high in let end = at.within in omega (arith, mark, high, end));
-      times = (let low = told_low in let high = told_high in
-          times_cut (was_busy v) played.first run.book.mark new.book.mark new.book.mark played.times at.times (omega (arith, mark, low)) (omega arith) (omega (arith, mark, high)) (λ t a b. absurd (omega (arith, a, b))));
-      quiet = λ t a b. at.quiet t (omega (arith, a, told)) b;
-      sparse = sparse_cut (was_busy v) played.first run.book.mark new.book.mark v.floor played.times at.times at.sparse;
-    };
-    told = told ∙ sym mark;
-  })
+  -- what was played from a time on is taken back
+  module _ (time : ℕ) (low : played.first ≤ time) (high : time ≤ run.book.mark) (quiet : IsQuietBelow v time) where
+    pub may_give_up : MayReturn time run
+    may_give_up = record { of = ran; low = low; high = high }
 
--- all is told
-pub at_told : (v : View) (run : Run) (played : Played) → IsAt v run played → (new : Run) → new.book ≡ run.book → new.told ≡ run.book.mark → new.horizon ≡ run.horizon
-    → IsRun (place_source v.part) (place_given v.part (given_by v)) played.first new → IsAtRest v new played
-at_told v run played at new book told horizon runs = record {
-  at = record {
-    engine = record {
-      received = at.engine.received;
-      run = record {
-        is = runs;
-        horizon = horizon ∙ at.engine.run.horizon;
-        cells = subst (λ (b : Book). b.gates.cells ≡ place_cells v.part) (sym book) at.engine.run.cells;
-        parted = subst (AreParted (place_source v.part)) (sym book) at.engine.run.parted;
-      };
-    };
-    low = at.low;
-    within = subst (λ (b : Book). b.mark ≤ suc v.horizon) (sym book) at.within;
-    times = subst (λ (b : Book). AreTimes (was_busy v) played.first b.mark played.times) (sym book) at.times;
-    quiet = λ t a b. at.quiet t (let high = at.engine.run.is.high in omega (arith, a, told, high)) b;
-    sparse = at.sparse;
-  };
-  told = told ∙ ap (λ (b : Book). b.mark) (sym book);
-}
-
--- what is like one of two runs over the same book
-pub like_book : (run told new : Run) → told.book ≡ run.book → told.horizon ≡ run.horizon → IsLike told new → IsLike run new
-like_book run told new book horizon like = record {
-  alike = subst (λ (b : Book). AreAlike b new.book) book like.alike;
-  horizon = like.horizon ∙ horizon;
-}
-
--- what is made is that of the same book
-pub same_makings : (step : ℕ) (run told : Run) → told.book ≡ run.book → told.horizon ≡ run.horizon → makings step run ≡ makings step told
-same_makings step run told book horizon =
-    ap (λ (b : Book). flat_map (told_since step run.horizon) (all_of b.queues)) (sym book)
-    ∙ ap (λ h. flat_map (told_since step h) (all_of told.book.queues)) (sym horizon)
+    pub at_given_up : (new : Run) → HasReturned time run new → (after : Played) → after ≡ record played { times = filter (λ t. nat_lt t time) played.times } → IsAt v new after
+    at_given_up new back after e =
+        let runs : IsRun (place_source v.part) (place_given v.part (given_by v)) played.first new =
+        back.anew (place_source v.part) (place_given v.part (given_by v)) (place_given v.part (given_by v)) played.first at.engine.run.is low (λ t place l. refl)
+        (λ place t far. nothing_past v.part received.part (given_by v) place t (let cells = cells_are v played.first run at.engine in omega (arith, far, cells))) in
+        subst (λ (p : Played). IsAt v new p) (sym e) (record {
+          engine = engine_on v played.first run new at.engine back.like runs;
+          low = at.low;
+          within = (let mark = back.mark in let end = at.within in omega (arith, mark, high, end));
+          times = subst (λ k. AreTimes (was_busy v) played.first k (filter (λ t. nat_lt t time) played.times)) (sym back.mark)
+              (times_cut (was_busy v) played.first run.book.mark time time played.times at.times low (omega arith) high (λ t a b. absurd (omega (arith, a, b))));
+          quiet = λ t a b. quiet t (let mark = back.mark in omega (arith, a, mark)) b;
+          sparse = sparse_cut (was_busy v) played.first run.book.mark time v.floor played.times at.times at.sparse;
+        })
 
 -- what is made is of places that there are, later than the step, and up to the horizon
 module _ (v : View) (run : Run) (played : Played) (at : IsAt v run played) (step : ℕ) where

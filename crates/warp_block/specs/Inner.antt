@@ -1,5 +1,6 @@
 -- What only the proofs of this crate need: no contract of a public call speaks of it.
-pub mod Ending
 pub mod Give
 pub mod Held
-pub mod HeldBlock
+pub mod HeldEnded
+pub mod Reads
+pub mod HeldKernel

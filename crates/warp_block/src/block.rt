@@ -1,4 +1,4 @@
-ghost use Rattle.std.specs.Prelude.{◌≡◌, ◌≢◌, ◌+◌, ◌++◌, ◌-◌, ◌≤◌, ◌<◌, ◌↔◌, ◌⊎◌, ℕ, [], false, length, get_or, slice_index, vec_len, List, IsTrue, IfSome, IfNone, IfOk, IfErr, OnOk, OnErr, Some, None};
+ghost use Rattle.std.specs.Prelude.{◌≡◌, ◌≢◌, ◌+◌, ◌++◌, ◌≤◌, ◌<◌, ◌↔◌, ◌⊎◌, ℕ, [], false, length, get_or, slice_index, vec_len, IsTrue, IfSome, IfNone, IfOk, IfErr, OnOk, OnErr, None};
 ghost use Rattle.std.specs.List.{All};
 ghost use Rattle.net_waves.specs.Waves.{lists_in, wave_of};
 ghost use Rattle.warp_part.specs.Portion.{owns};
@@ -8,54 +8,43 @@ ghost use Rattle.warp_process.specs.Entries.{no_messages};
 ghost use Rattle.warp_process.specs.View.{IsLeast, IsEventTime, IsDone, busy_times, entry_of, log_of};
 ghost use Rattle.warp_process.specs.Lawful.{IsLawfulProcess};
 ghost use Rattle.warp_process.specs.Opening.{silent_view, opening_view, opening_messages};
-ghost use Rattle.warp_process.specs.declared.message.Message.{Message};
 ghost use Rattle.warp_process.specs.Receive.{refusal_of, IsRefusal, IsTaken};
 ghost use Rattle.warp_process.specs.Heard.{IsToldOf};
 ghost use Rattle.warp_process.specs.Advance.{IsAdvanced, IsAfterEvent};
 ghost use Rattle.warp_process.specs.Commit.{IsCommittable, IsCommitted, IsCommitRefusal, IsUnsettledBelow, IsFirstUnsettled};
 ghost use Rattle.warp_process.specs.Sends.{SendsOnce};
-ghost use Rattle.warp_block.specs.Histories.{TellLogs};
+ghost use Rattle.part_engine.specs.Histories.{TellLogs};
 
-use crate::ending::{play_out, told_history};
 use crate::give::give;
+use crate::kernel::Kernel;
+use crate::logs::{first_logs, log_more};
 use crate::look::Look;
-use crate::play::advance;
-use crate::rollback::{is_late, roll_back};
-use event_times::Times;
 use gate_values::Change;
 use gate_vcd::Stimulus;
-use part_engine::{begins, next_brought, next_time, opening_engine};
 use std::alloc::{AllocError, Global};
 use std::marker::Model;
-use warp_engine::Engine;
 use warp_part::Part;
-use warp_process::{BlockFault, Entry, Heard, Message};
-use warp_sends::tell_first;
-use warp_stores::{Batch, Steps, Word};
+use warp_process::{BlockFault, Entry, Message};
+use warp_stores::{Batch, Lists, Steps, Word};
 
-/// A logical process: what it has received, whether something happens at time 0 by what its flip-flops begin with, the engine
-/// that plays it, and the event times since its oldest saved state. The batch and the words are places to work in.
+/// A logical process with its logs: what it has received and played, and for each net of its part the list of the net's changes. The batch is a
+/// place to work in.
 #[derive(Debug, Drop)]
 pub struct Block {
-    heard: Heard,
-    begins: bool,
-    engine: Engine,
-    times: Times,
+    kernel: Kernel,
+    lists: Lists,
     batch: Batch<Word>,
-    words: Vec<Word>,
 }
 
 impl Model for Block {
+    ghost use Rattle.std.specs.Prelude.{◌≡◌};
     ghost use Rattle.warp_process.specs.View.{Process};
 
     ghost Value = { Process };
 
-    ghost use Rattle.warp_block.specs.Shown.Block.{process_by};
-    ghost use Rattle.warp_block.specs.Inner.HeldBlock.{IsHeldBlock};
+    ghost view = { λ block. block.kernel };
 
-    ghost view = { λ block. process_by block.heard block.engine block.times };
-
-    ghost invariant = { IsHeldBlock };
+    ghost invariant = { λ block. block.lists ≡ block.kernel.seen.logs };
 }
 
 impl Block {
@@ -76,17 +65,12 @@ impl Block {
         ensures told { OnOk result (out.new.items ≡ out.old.items ++ opening_messages part) }
         ensures untold { OnErr result (out.new.items ≡ out.old.items) }
     {
-        let heard = Heard::new(alloc, part, stimulus, horizon)?;
-        let begins = begins(heard.part());
-        let engine = opening_engine(alloc, heard.part(), horizon)?;
-        tell_first(heard.part(), out)?;
+        let lists = first_logs(alloc, &part)?;
+        let kernel = Kernel::new(alloc, part, stimulus, horizon, out)?;
         Ok(Block {
-            heard,
-            begins,
-            engine,
-            times: Times::new(alloc),
+            kernel,
+            lists,
             batch: Batch::new(alloc),
-            words: Vec::new(alloc),
         })
     }
 
@@ -95,7 +79,7 @@ impl Block {
     pub fn law(&self)
         ensures { IsLawfulProcess self.now }
     {
-        self.heard.law();
+        self.kernel.law();
     }
 
     /// Takes one message, or antimessage: the number that it names goes up, or down, by one. Where this changes what
@@ -112,59 +96,11 @@ impl Block {
         ensures err { OnErr result (self.new ≡ self.old) }
         ensures untold { OnErr result (out.new.items ≡ out.old.items) }
     {
-        if self.take_first(message)? {
-            return Ok(());
+        self.kernel.law();
+        if self.kernel.receive(&mut self.batch, message, out)? {
+            self.lists.shorten(self.batch.words());
         }
-        self.take(message, out)
-    }
-
-    /// Takes one message, or antimessage, of any kind, as [`Block::receive`] does.
-    fn take(&mut self, message: Message, out: &mut Vec<Message>) -> Result<(), BlockFault>
-        ensures accepted { OnOk result (refusal_of self.old.seen message ≡ None) }
-        ensures taken { OnOk result (IsTaken self.old.seen self.new.seen message) }
-        ensures sends { OnOk result (SendsOnce self.old.seen self.new.seen Minus (λ t. message.time < t) out.old.items out.new.items) }
-        ensures refused { IfErr result (IsRefusal (refusal_of self.old.seen message)) }
-        ensures err { OnErr result (self.new ≡ self.old) }
-        ensures untold { OnErr result (out.new.items ≡ out.old.items) }
-    {
-        let (slot, entry) = self.heard.admit(message)?;
-        if is_late(&self.heard, &self.engine, slot, message.time, entry) {
-            roll_back(
-                &mut self.heard,
-                &mut self.engine,
-                &mut self.times,
-                &mut self.batch,
-                slot,
-                message.time,
-                entry,
-                out,
-            )?;
-            return Ok(());
-        }
-        self.heard.put(slot, message.time, entry)?;
-        self.heard.law();
         Ok(())
-    }
-
-    /// Takes a message that is the first of its net and time, and for what isn't processed, if it is such; answers whether it is. Nearly
-    /// all messages are. An error is a refused growth; then, and where it isn't, nothing has changed.
-    fn take_first(&mut self, message: Message) -> Result<bool, BlockFault>
-        ensures accepted { IfOk result (λ taken. IsTrue taken → refusal_of self.old.seen message ≡ None) }
-        ensures taken { IfOk result (λ taken. IsTrue taken → IsTaken self.old.seen self.new.seen message) }
-        ensures sends { IfOk result (λ taken. IsTrue taken → (out : List Message) → SendsOnce self.old.seen self.new.seen Minus (λ t. message.time < t) out out) }
-        ensures left { IfOk result (λ taken. taken ≡ false → self.new ≡ self.old) }
-        ensures refused { IfErr result (IsRefusal (refusal_of self.old.seen message)) }
-        ensures err { OnErr result (self.new ≡ self.old) }
-    {
-        if message.time < self.engine.mark() {
-            return Ok(false);
-        }
-        let Some(slot) = self.heard.first_place(message) else {
-            return Ok(false);
-        };
-        let taken = self.heard.put_first(slot, message.time, message.value)?;
-        self.heard.law();
-        Ok(taken)
     }
 
     /// Finishes up to so many event times, and answers how many: fewer only where none is left. The messages on new
@@ -181,17 +117,19 @@ impl Block {
         if steps == 0 {
             return Ok(0);
         }
-        let finished = advance(
-            &self.heard,
-            self.begins,
-            &mut self.engine,
-            &mut self.times,
-            &mut self.words,
-            &mut self.batch,
-            steps,
-            out,
-        )?;
-        Ok(finished)
+        self.kernel.law();
+        let mark = self.kernel.mark();
+        let sent = out.len();
+        let finished = self.kernel.advance(&mut self.batch, steps, out)?;
+        let reached = self.kernel.mark();
+        match log_more(&mut self.lists, &self.batch, reached, self.kernel.horizon()) {
+            Ok(()) => Ok(finished),
+            Err(error) => {
+                self.kernel.give_up(mark);
+                out.truncate(sent);
+                Err(error.into())
+            }
+        }
     }
 
     /// Commits everything below a floor, which may be past the horizon: no message may come for it any more. Entries
@@ -206,41 +144,16 @@ impl Block {
         ensures refused { IfErr result (IsCommitRefusal self.old.seen floor) }
         ensures err { OnErr result (self.new ≡ self.old) }
     {
-        if floor == self.heard.floor() {
-            return Ok(());
-        }
-        self.may_commit(floor)?;
-        self.heard.commit(floor);
-        self.heard.law();
-        self.times.keep_from(floor);
-        self.engine.forget_below(self.times.oldest());
-        Ok(())
-    }
-
-    /// Whether what is below a floor can be committed; the first cause to refuse it.
-    fn may_commit(&self, floor: u64) -> Result<(), BlockFault>
-        ensures ok { OnOk result (IsCommittable self.now.seen floor) }
-        ensures err { IfErr result (IsCommitRefusal self.now.seen floor) }
-    {
-        if floor < self.heard.floor() {
-            return Err(BlockFault::FloorBack);
-        }
-        if is_before(self.next_time(), floor) {
-            return Err(BlockFault::Unprocessed);
-        }
-        match self.heard.first_unsettled(floor) {
-            Some((net, time)) => Err(BlockFault::Unsettled { net, time }),
-            None => Ok(()),
-        }
+        self.kernel.commit(floor)
     }
 
     /// What it holds, its saved states aside.
     pub fn look(&self) -> Result<Look, AllocError>
         ensures { IfOk result (λ look. look ≡ self.now.seen) }
     {
-        let alloc = *self.words.allocator();
-        let lists = self.engine.copy_lists(alloc)?;
-        let heard = self.heard.copy(alloc)?;
+        let alloc = self.kernel.alloc();
+        let lists = self.lists.copy(alloc)?;
+        let heard = self.kernel.copy_heard(alloc)?;
         self.law();
         Ok(Look::new(heard, self.mark(), lists))
     }
@@ -249,36 +162,35 @@ impl Block {
     pub fn part(&self) -> &Part
         ensures { result.now ≡ self.now.seen.part }
     {
-        self.heard.part()
+        self.kernel.part()
     }
 
     /// The last time that counts.
     pub fn horizon(&self) -> u64
         ensures { result ≡ self.now.seen.horizon }
     {
-        self.heard.horizon()
+        self.kernel.horizon()
     }
 
     /// Everything below it is processed.
     pub fn mark(&self) -> u64
         ensures { result ≡ self.now.seen.mark }
     {
-        self.engine.mark().max(self.heard.floor())
+        self.kernel.mark()
     }
 
     /// Everything below it is committed: processed, and settled.
     pub fn floor(&self) -> u64
         ensures { result ≡ self.now.seen.floor }
     {
-        self.heard.floor()
+        self.kernel.floor()
     }
 
     /// The least event time.
     pub fn next_time(&self) -> Option<u64>
         ensures { IsLeast (IsEventTime self.now.seen) result }
     {
-        let brought = next_brought(&self.heard, &self.engine);
-        next_time(&self.heard, &self.engine, self.begins, brought)
+        self.kernel.next_time()
     }
 
     /// How many event times from a time on are finished; the time isn't below the floor nor past the mark.
@@ -287,7 +199,7 @@ impl Block {
         requires mark { time ≤ self.now.seen.mark }
         ensures { result ≡ busy_times self.now.seen time self.now.seen.mark }
     {
-        self.times.count_from(time) as u64
+        self.kernel.finished_from(time)
     }
 
     /// Whether no event time is left.
@@ -297,13 +209,19 @@ impl Block {
         self.next_time().is_none()
     }
 
+    /// About how many changes it has made, those aside that were taken back. It sets the pace of a run alone.
+    pub fn made(&self) -> u64 {
+        self.kernel.made()
+    }
+
     /// The changes of a net that the block has computed, after the initial content of a flip-flop, committed ones
     /// included; none of a net that it doesn't own.
     pub fn log(&self, net: u32) -> &[Change]
         ensures { result.now ≡ log_of self.now.seen net }
     {
-        match self.heard.part().slot(net) {
-            Some(slot) => self.engine.changes(slot),
+        self.kernel.law();
+        match self.kernel.part().slot(net) {
+            Some(slot) => self.lists.changes(slot),
             None => &[],
         }
     }
@@ -316,9 +234,9 @@ impl Block {
         ensures own { (n : ℕ) → IsTrue (owns self.seen.part n) → wave_of (lists_in lists.new.items) n ≡ log_of self.seen n }
         ensures others { (n : ℕ) → owns self.seen.part n ≡ false → wave_of (lists_in lists.new.items) n ≡ wave_of (lists_in lists.old.items) n }
     {
-        let Block { heard, engine, .. } = self;
-        let part = heard.into_part();
-        give(&part, engine.into_lists().into_vec(), lists);
+        self.kernel.law();
+        let part = self.kernel.into_part();
+        give(&part, self.lists.into_vec(), lists);
     }
 
     /// Gives the logs away, as [`Block::give_logs`] does, and answers the block's part and its history up to the horizon: of each own net
@@ -333,32 +251,29 @@ impl Block {
         ensures history { IfSome result (λ told. TellLogs self.seen told.1) }
     {
         let Block {
-            heard,
-            begins,
-            mut engine,
-            times,
+            kernel,
+            lists: logs,
             mut batch,
-            mut words,
         } = self;
-        let told = play_out(&heard, begins, &mut engine, &times, &mut words, &mut batch);
+        kernel.law();
+        let (heard, history) = kernel.end(&mut batch);
         let part = heard.into_part();
-        let (logs, history) = engine.into_parts();
         give(&part, logs.into_vec(), lists);
-        told_history(told, part, history)
+        Some((part, history?))
     }
 
     /// The entry of a net at a time; empty for a net that the block doesn't read, and for an own one.
     pub fn entry(&self, net: u32, time: u64) -> Entry
         ensures { result ≡ entry_of self.now.seen net time }
     {
-        self.heard.entry(net, time)
+        self.kernel.entry(net, time)
     }
 
     /// The least time from a time on at which the entry of a net isn't empty.
     pub fn next_entry(&self, net: u32, from: u64) -> Option<u64>
         ensures { IsLeast (λ t. (from ≤ t) × (entry_of self.now.seen net t ≢ no_messages)) result }
     {
-        self.heard.next_entry(net, from)
+        self.kernel.next_entry(net, from)
     }
 
     /// The first entry that isn't settled, by net, then time.
@@ -366,7 +281,7 @@ impl Block {
         ensures none { IfNone result ((n t : ℕ) → IsUnsettledBelow self.now.seen (self.now.seen.horizon + 1) n t → ⊥) }
         ensures some { IfSome result (λ place. IsFirstUnsettled self.now.seen (self.now.seen.horizon + 1) place.0 place.1) }
     {
-        self.heard.first_unsettled(self.heard.horizon() + 1)
+        self.kernel.first_unsettled()
     }
 
     /// For each net of the part the changes that the messages tell which stand, in order of time. An error is a refused growth.
@@ -374,16 +289,6 @@ impl Block {
         ensures count { IfOk result (λ lists. vec_len lists ≡ length self.now.seen.part.nets) }
         ensures told { IfOk result (λ lists. (i : ℕ) → i < length self.now.seen.part.nets → IsToldOf self.now.seen (slice_index self.now.seen.part.nets i) (get_or (lists_in lists.items) i [])) }
     {
-        self.heard.told()
-    }
-}
-
-/// Whether a time, where there is one, is before another.
-fn is_before(time: Option<u64>, end: u64) -> bool
-    ensures { IsTrue result ↔ ((t : ℕ) × (time ≡ Some t) × (t < end)) }
-{
-    match time {
-        Some(time) => time < end,
-        None => false,
+        self.kernel.told()
     }
 }

@@ -1,5 +1,6 @@
 //! How a block plays event times.
-ghost use Rattle.std.specs.Prelude.{◌≡◌, ◌<◌, ◌+◌, ◌≢◌, ◌⊎◌, IfOk, OnOk, OnErr, Some, false};
+ghost use Rattle.std.specs.Prelude.{◌≡◌, ◌≤◌, ◌<◌, ◌+◌, ◌≢◌, ◌⊎◌, IfOk, OnOk, OnErr, Some, false, length};
+ghost use Rattle.std.specs.List.{All};
 ghost use Rattle.warp_process.specs.declared.message.Sign.TheVariants.{Plus};
 ghost use Rattle.warp_process.specs.Advance.{IsAdvanced, IsAfterEvent};
 ghost use Rattle.warp_process.specs.Played.{played_view};
@@ -10,7 +11,7 @@ ghost use Rattle.warp_stores.specs.Lists.{AreLonger};
 ghost use Rattle.warp_engine.specs.Runs.{makings};
 ghost use Rattle.warp_sends.specs.Told.{AreTold};
 ghost use Rattle.warp_block.specs.Shown.Block.{seen_by};
-ghost use Rattle.warp_block.specs.Inner.Held.{IsAt, IsAtRest, IsUntold};
+ghost use Rattle.warp_block.specs.Inner.Held.{IsAt, IsQuietBelow, GoesOn};
 
 use event_times::Times;
 use part_engine::{bring, bring_first, next_brought, next_time};
@@ -20,8 +21,8 @@ use warp_process::{Heard, Message};
 use warp_sends::tell;
 use warp_stores::{Batch, Word};
 
-/// Plays up to so many event times, and answers how many: fewer only where none is left. What they make isn't told yet. An
-/// error is a refused growth; then some of them are played. The words are a place to work in.
+/// Plays up to so many event times, and answers how many: fewer only where none is left. An error is a
+/// refused growth; then some of them are played. The words are a place to work in.
 fn play(
     heard: &Heard,
     begins: bool,
@@ -33,7 +34,7 @@ fn play(
     requires at { IsAt heard.now engine.old times.old }
     requires begins { begins ≡ begins_of heard.now.part }
     ensures at { IsAt heard.now engine.new times.new }
-    ensures untold { IsUntold engine.old engine.new times.old times.new }
+    ensures on { GoesOn engine.old engine.new times.old times.new }
     ensures advanced { IfOk result (λ count. IsAdvanced (played_view heard.now engine.old.book.mark) (played_view heard.now engine.new.book.mark) count) }
     ensures all { IfOk result (λ count. (count ≡ steps) ⊎ ((count < steps) × IsDone (played_view heard.now engine.new.book.mark))) }
 {
@@ -74,7 +75,7 @@ fn step(
     requires next { IsLeast (IsEventTime (played_view heard.now engine.old.book.mark)) (Some time) }
     requires brought { IsNextBrought heard.now engine.old.book.mark brought }
     ensures at { IsAt heard.now engine.new times.new }
-    ensures untold { IsUntold engine.old engine.new times.old times.new }
+    ensures on { GoesOn engine.old engine.new times.old times.new }
     ensures mark { OnOk result (engine.new.book.mark ≡ time + 1) }
 {
     if engine.mark() == 0 && time > 0 {
@@ -85,7 +86,7 @@ fn step(
 }
 
 /// Plays time 0, at which nothing happens. An error is a refused growth; then it isn't played.
-fn begin(
+pub(crate) fn begin(
     heard: &Heard,
     engine: &mut Engine,
     times: &Times,
@@ -95,7 +96,7 @@ fn begin(
     requires mark { engine.old.book.mark ≡ 0 }
     requires quiet { is_busy (played_view heard.now 0) 0 ≡ false }
     ensures at { IsAt heard.now engine.new times.now }
-    ensures untold { IsUntold engine.old engine.new times.now times.now }
+    ensures on { GoesOn engine.old engine.new times.now times.now }
     ensures mark { OnOk result (engine.new.book.mark ≡ 1) }
 {
     bring_first(heard, engine, words)?;
@@ -118,7 +119,7 @@ fn play_time(
     requires brought { IsNextBrought heard.now engine.old.book.mark brought }
     requires start { engine.old.book.mark ≡ 0 → time ≡ 0 }
     ensures at { IsAt heard.now engine.new times.new }
-    ensures untold { IsUntold engine.old engine.new times.old times.new }
+    ensures on { GoesOn engine.old engine.new times.old times.new }
     ensures mark { OnOk result (engine.new.book.mark ≡ time + 1) }
 {
     bring(heard, engine, time, brought, words)?;
@@ -132,18 +133,22 @@ fn play_time(
     }
 }
 
-/// Takes back what is played and isn't told.
-fn give_up(heard: &Heard, engine: &mut Engine, times: &mut Times)
+/// Takes back what was played from a time on, below which and the floor nothing happens. It takes no memory.
+pub(crate) fn give_up(heard: &Heard, engine: &mut Engine, times: &mut Times, time: u64)
     requires at { IsAt heard.now engine.old times.old }
-    ensures at { IsAtRest heard.now engine.new times.new }
-    ensures told { engine.new.told ≡ engine.old.told }
+    requires low { times.old.first ≤ time }
+    requires high { time ≤ engine.old.book.mark }
+    requires quiet { IsQuietBelow heard.now time }
+    ensures at { IsAt heard.now engine.new times.new }
+    ensures mark { engine.new.book.mark ≡ time }
 {
-    engine.give_up();
-    times.cut_from(engine.mark());
+    let _ = heard;
+    engine.go_back(time);
+    times.cut_from(time);
 }
 
-/// Plays up to so many event times, tells what they made, and answers how many: fewer only where none is left. An error is a
-/// refused growth; then all is as it was. The words and the batch are places to work in.
+/// Plays up to so many event times, tells what they made, in a batch and in messages behind `out`, and answers how many: fewer only where
+/// none is left. An error is a refused growth; then what is played is as it was. The words are a place to work in.
 pub(crate) fn advance(
     heard: &Heard,
     begins: bool,
@@ -154,58 +159,50 @@ pub(crate) fn advance(
     steps: u32,
     out: &mut Vec<Message>,
 ) -> Result<u32, AllocError>
-    requires rest { IsAtRest heard.now engine.old times.old }
+    requires at { IsAt heard.now engine.old times.old }
     requires begins { begins ≡ begins_of heard.now.part }
-    ensures rest { IsAtRest heard.now engine.new times.new }
+    ensures at { IsAt heard.now engine.new times.new }
     ensures advanced { IfOk result (λ count. IsAdvanced (seen_by heard.now engine.old) (seen_by heard.now engine.new) count) }
     ensures all { IfOk result (λ count. (count ≡ steps) ⊎ ((count < steps) × IsDone (seen_by heard.now engine.new))) }
     ensures sends { OnOk result (SendsOnce (seen_by heard.now engine.old) (seen_by heard.now engine.new) Plus (IsAfterEvent (seen_by heard.now engine.old)) out.old.items out.new.items) }
-    ensures err { OnErr result (seen_by heard.now engine.new ≡ seen_by heard.now engine.old) }
+    ensures longer { OnOk result (AreLonger batch.new (seen_by heard.now engine.old).logs (seen_by heard.now engine.new).logs) }
+    ensures there { OnOk result (All (λ d. d.1.place < length heard.now.part.nets) batch.new) }
+    ensures until { OnOk result (All (λ d. d.0 ≤ heard.now.horizon) batch.new) }
+    ensures err { OnErr result (engine.new.book.mark ≡ engine.old.book.mark) }
     ensures untold { OnErr result (out.new.items ≡ out.old.items) }
 {
-    match play(heard, begins, engine, times, words, steps) {
-        Ok(finished) => {
-            finish(heard, engine, times, batch, out)?;
-            Ok(finished)
-        }
+    let start = engine.mark();
+    let finished = match play(heard, begins, engine, times, words, steps) {
+        Ok(finished) => finished,
         Err(error) => {
-            give_up(heard, engine, times);
+            give_up(heard, engine, times, start);
+            return Err(error);
+        }
+    };
+    match tell_made(heard, engine, times, start, batch, out) {
+        Ok(()) => Ok(finished),
+        Err(error) => {
+            give_up(heard, engine, times, start);
             Err(error)
         }
     }
 }
 
-/// Tells what is played: behind the logs, and in messages behind `out`. An error is a refused growth; then all that wasn't told
-/// is taken back, and nothing is told. The batch is a place to work in.
-fn finish(
+/// Tells what was made from a time on, in a batch and in messages behind `out`. An error is a refused growth; then no message is told.
+fn tell_made(
     heard: &Heard,
-    engine: &mut Engine,
-    times: &mut Times,
+    engine: &Engine,
+    times: &Times,
+    time: u64,
     batch: &mut Batch<Word>,
     out: &mut Vec<Message>,
 ) -> Result<(), AllocError>
-    requires at { IsAt heard.now engine.old times.old }
-    ensures rest { IsAtRest heard.now engine.new times.new }
-    ensures book { OnOk result (engine.new.book ≡ engine.old.book) }
-    ensures longer { OnOk result (AreLonger (makings engine.old.told engine.old) engine.old.lists engine.new.lists) }
-    ensures told { OnOk result (AreTold Plus heard.now.part (makings engine.old.told engine.old) out.old.items out.new.items) }
-    ensures err { OnErr result (engine.new.told ≡ engine.old.told) }
+    requires at { IsAt heard.now engine.now times.now }
+    ensures words { OnOk result (batch.new ≡ makings time engine.now) }
+    ensures told { OnOk result (AreTold Plus heard.now.part (makings time engine.now) out.old.items out.new.items) }
     ensures untold { OnErr result (out.new.items ≡ out.old.items) }
 {
-    let start = engine.told();
-    match engine.tell(batch) {
-        Ok(()) => {}
-        Err(error) => {
-            give_up(heard, engine, times);
-            return Err(error);
-        }
-    }
-    match tell(*out.allocator(), heard.part(), batch, out) {
-        Ok(()) => Ok(()),
-        Err(error) => {
-            engine.go_back(start, batch);
-            times.cut_from(start);
-            Err(error)
-        }
-    }
+    let _ = times;
+    engine.tell_since(time, batch)?;
+    tell(*out.allocator(), heard.part(), batch, out)
 }

@@ -1,13 +1,15 @@
 //! How a block goes back to a message's time.
 ghost use Rattle.std.specs.Prelude.{◌≡◌, ◌≢◌, ◌<◌, ◌≤◌, ◌↔◌, IsTrue, OnOk, OnErr, length, slice_index};
+ghost use Rattle.std.specs.List.{All};
 ghost use Rattle.warp_part.specs.Portion.{hears};
+ghost use Rattle.warp_stores.specs.Lists.{AreLonger};
 ghost use Rattle.warp_process.specs.declared.message.Sign.TheVariants.{Minus};
 ghost use Rattle.warp_process.specs.Entries.{effective_of};
 ghost use Rattle.warp_process.specs.View.{effective_at};
 ghost use Rattle.warp_process.specs.Sends.{SendsOnce};
 ghost use Rattle.warp_process.specs.Shown.Receive.{IsPut};
 ghost use Rattle.warp_block.specs.Shown.Block.{seen_by};
-ghost use Rattle.warp_block.specs.Inner.Held.{IsAtRest};
+ghost use Rattle.warp_block.specs.Inner.Held.{IsAt};
 
 use event_times::Times;
 use gate_values::Logic;
@@ -35,8 +37,8 @@ fn differ(value: Option<Logic>, other: Option<Logic>) -> bool
     value != other
 }
 
-/// Takes in an entry that changes what is processed: what was made from its time on is taken back, and the antimessages on it go
-/// behind `out`. An error is a refused growth; then all is as it was. The batch is a place to work in.
+/// Takes in an entry that changes what is processed: what was made from its time on is taken back, and the batch tells it, and the
+/// antimessages on it go behind `out`. An error is a refused growth; then all is as it was, but for the batch.
 pub(crate) fn roll_back(
     heard: &mut Heard,
     engine: &mut Engine,
@@ -47,28 +49,30 @@ pub(crate) fn roll_back(
     entry: Entry,
     out: &mut Vec<Message>,
 ) -> Result<(), AllocError>
-    requires rest { IsAtRest heard.old engine.old times.old }
+    requires at { IsAt heard.old engine.old times.old }
     requires slot { slot < length heard.old.part.nets }
     requires heard { IsTrue (hears heard.old.part (slice_index heard.old.part.nets slot)) }
     requires late { time < engine.old.book.mark }
     requires from { heard.old.floor ≤ time }
     requires until { time ≤ heard.old.horizon }
-    ensures rest { IsAtRest heard.new engine.new times.new }
+    ensures at { IsAt heard.new engine.new times.new }
     ensures put { OnOk result (IsPut heard.old heard.new (slice_index heard.old.part.nets slot) time entry) }
     ensures mark { OnOk result (engine.new.book.mark ≡ time) }
     ensures sends { OnOk result (SendsOnce (seen_by heard.old engine.old) (seen_by heard.new engine.new) Minus (λ t. time < t) out.old.items out.new.items) }
+    ensures longer { OnOk result (AreLonger batch.new (seen_by heard.new engine.new).logs (seen_by heard.old engine.old).logs) }
+    ensures there { OnOk result (All (λ d. d.1.place < length heard.old.part.nets) batch.new) }
     ensures heard { OnErr result (heard.new ≡ heard.old) }
     ensures engine { OnErr result (engine.new ≡ engine.old) }
     ensures times { OnErr result (times.new ≡ times.old) }
     ensures untold { OnErr result (out.new.items ≡ out.old.items) }
 {
-    engine.untell(time, batch)?;
+    engine.tell_since(time, batch)?;
     let sent = out.len();
     take_back(*out.allocator(), heard.part(), batch, out)?;
     match heard.put(slot, time, entry) {
         Ok(()) => {
             heard.law();
-            engine.go_back(time, batch);
+            engine.go_back(time);
             times.cut_from(time);
             Ok(())
         }

@@ -17,7 +17,7 @@ returns-clause-at c =
     let run = c.args.engine.now in
     let played = c.args.times.now in
     let done = c.in_ok-play.ensures.ok in
-    at_begun v run played c.requires.at c.requires.mark c.requires.quiet c.play.new.self done.mark done.told done.like
+    at_begun v run played c.requires.at c.requires.mark c.requires.quiet c.play.new.self done.mark done.like
     (done.follows (place_source v.part) (place_given v.part (given_by v)) played.first c.requires.at.engine.run.is
     (brought_as v run.book.mark 0 c.bring_first.new.words.items c.as_slice.result.now c.as_slice.ensures.value c.in_ok-bring_first.ensures))
 
@@ -27,6 +27,6 @@ returns-in_err-play-clause-at c =
     let run = c.args.engine.now in
     let played = c.args.times.now in
     let kept = c.in_err-play.ensures.err in
-    at_kept v run played c.requires.at c.play.new.self kept.mark kept.told kept.like
+    at_kept v run played c.requires.at c.play.new.self kept.mark kept.like
     (kept.follows (place_source v.part) (place_given v.part (given_by v)) played.first c.requires.at.engine.run.is
     (brought_as v run.book.mark 0 c.bring_first.new.words.items c.as_slice.result.now c.as_slice.ensures.value c.in_ok-bring_first.ensures))

@@ -17,14 +17,12 @@ loop-finished-preserved c =
     let run : Run = c.loop-finished.engine in
     let new : Run = c.step.new.engine in
     let r = c.loop-finished.invariant.at.engine.received in
-    let before = c.loop-finished.invariant.untold in
-    let more = c.step.ensures.untold in
+    let before = c.loop-finished.invariant.on in
+    let more = c.step.ensures.on in
     record {
       at = c.step.ensures.at;
       brought = c.brought_after-brought.ensures;
-      untold = record {
-        told = more.told ∙ before.told;
-        lists = more.lists ∙ before.lists;
+      on = record {
         first = more.first ∙ before.first;
         on = (let a = before.on in let b = more.on in omega (arith, a, b));
       };

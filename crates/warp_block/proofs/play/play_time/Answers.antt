@@ -35,7 +35,7 @@ returns-in-Ok-clause-at c =
     let played = c.args.times.now in
     let done = c.in-Ok.ensures.ok in
     subst (λ (p : Played). IsAt v c.play.new.self p) (sym c.in_ok-push.ensures.ok)
-    (at_played v run played c.requires.at c.args.time c.requires.next c.play.new.self done.mark done.told done.like
+    (at_played v run played c.requires.at c.args.time c.requires.next c.play.new.self done.mark done.like
     (done.follows (place_source v.part) (place_given v.part (given_by v)) played.first c.requires.at.engine.run.is
     (brought_as v run.book.mark c.args.time c.bring.new.words.items c.as_slice.result.now c.as_slice.ensures.value c.in_ok-bring.ensures)))
 
@@ -45,7 +45,7 @@ returns-in-Err-clause-at c =
     let run = c.args.engine.now in
     let played = c.args.times.now in
     let kept = c.in-Err.ensures.err in
-    at_unplayed v run played c.requires.at c.args.time c.requires.next c.play.new.self kept.mark kept.told kept.like
+    at_unplayed v run played c.requires.at c.args.time c.requires.next c.play.new.self kept.mark kept.like
     (kept.follows (place_source v.part) (place_given v.part (given_by v)) played.first c.requires.at.engine.run.is
     (brought_as v run.book.mark c.args.time c.bring.new.words.items c.as_slice.result.now c.as_slice.ensures.value c.in_ok-bring.ensures)) c.cut_from.new.self
     (rw c.in_ok-push.ensures.ok at c.cut_from.ensures)
