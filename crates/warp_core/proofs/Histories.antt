@@ -25,7 +25,7 @@ use Rattle.history_waves.proofs.Pending.{count_in-append}
 use Rattle.warp_part.specs.Portion.{IsPortion, slot_of, at_slot, is_driven, owns}
 use Rattle.warp_part.proofs.Slots.{slot_is, slot_at}
 use Rattle.warp_process.specs.View.{View, log_of}
-use Rattle.warp_block.specs.Histories.{TellLogs}
+use Rattle.part_engine.specs.Histories.{TellLogs}
 use Rattle.warp_core.specs.OwnNets.{AreOwn}
 use Rattle.warp_core.specs.Inner.Gather.{has, AreTelling}
 

@@ -204,8 +204,9 @@ fn after(block: usize, first: usize, end: usize, blocks: usize) -> usize
     first
 }
 
-// Lets a block take a turn, and delivers what it sent. The block's lock is kept until it is delivered: else who visits the block next could
-// say that all that it told is in the inboxes while this worker is held up and what it sent isn't.
+// Lets a block take a turn, and delivers what it sent. The block's lock is kept until it is delivered, and so long the visit is under way:
+// else who visits the block next, or finds that nobody visits it, could say that all that it told is in the inboxes while this worker is
+// held up and what it sent isn't.
 fn play<G: Gate, R: Wait>(
     rt: &R,
     sites: &[Site],
@@ -236,6 +237,7 @@ fn play<G: Gate, R: Wait>(
     desk.deliver(rt, sites)?;
     let next = turned.next.unwrap_or(u64::MAX);
     site.signs().settle(next.min(reach.sure));
+    site.signs().ends(turned.next);
     drop(held);
     Ok(Played {
         least: turned.report.least,

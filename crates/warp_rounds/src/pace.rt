@@ -9,10 +9,13 @@ use gate_netlist::{Circuit, Cut};
 use std::alloc::{AllocError, Global};
 use std::sync::atomic::AtomicU64;
 use std::sync::atomic::Ordering::SeqCst;
-use warp_block::{Block, Part};
+use warp_block::Part;
 
 /// How far above the floor blocks go in the first round.
-const FIRST: u64 = 64;
+const FIRST: u64 = 8;
+
+/// Where more than one in so many of a round's event times was taken back, blocks go half as far in the next one.
+const UNDONE: u64 = 32;
 
 /// How much newer turns count in a density.
 const NEWER: u64 = 16;
@@ -29,6 +32,12 @@ const LONE_TURN: u64 = 1 << 13;
 /// About how many it makes at most, where one block has nearly all of the work.
 const LONG_TURN: u64 = 1 << 14;
 
+/// A turn has at most so many times as many event times as the one before it, but may always have `SOME` of them: how many changes are
+/// made at an event time is known of the past alone, and may be a hundred times as many in the next turn.
+const GROWTH: u64 = 4;
+
+const SOME: u64 = 128;
+
 /// A round with less work goes over the blocks more often, so that its workers have something to do between two meetings.
 const ENOUGH: u64 = 1 << 19;
 
@@ -44,9 +53,6 @@ const DRAW: u64 = 1 << 11;
 
 /// So many neighbouring blocks are a group at most.
 const GROUP: usize = 16;
-
-/// The logs of so many nets stand for those of all.
-const SAMPLE: usize = 16;
 
 /// What a message counts as work: about so many changes stand behind one.
 const BEHIND: u64 = 8;
@@ -129,14 +135,15 @@ impl Reach {
     }
 }
 
-/// How many event times a block had lately, in how long, and how many changes it made at them; and for how long it had none
-/// since.
+/// How many event times a block had lately, in how long, and how many changes it made at them; for how long it had none
+/// since; and how many it may have in a turn.
 #[derive(Clone, Copy)]
 pub(crate) struct Density {
     times: u64,
     span: u64,
     changes: u64,
     quiet: u64,
+    most: u64,
 }
 
 impl Density {
@@ -147,6 +154,7 @@ impl Density {
             span: 1,
             changes: 1,
             quiet: 0,
+            most: SOME,
         }
     }
 
@@ -179,7 +187,8 @@ impl Density {
         match start {
             Some(start) if start <= floor || start < reach.until => {
                 let times = self.expected(reach.until.saturating_sub(start));
-                fitting(times.min(self.needed(reach.changes)), most)
+                let times = times.min(self.needed(reach.changes));
+                fitting(times.min(self.most), most)
             }
             _ => 0,
         }
@@ -194,6 +203,7 @@ impl Density {
             span: (self.span / 2).saturating_add(span.saturating_mul(NEWER)),
             changes: (self.changes / 2).saturating_add(changes.saturating_mul(NEWER)),
             quiet: 0,
+            most: u64::from(times).saturating_mul(GROWTH).max(SOME),
         }
     }
 
@@ -204,19 +214,6 @@ impl Density {
             ..self
         }
     }
-}
-
-/// About how many changes the logs of a block have: those of a few nets stand for all.
-pub(crate) fn logged(block: &Block) -> u64 {
-    let nets = block.part().nets();
-    let stride = nets.len() / SAMPLE + 1;
-    let mut changes: u64 = 0;
-    for sampled in 0..SAMPLE {
-        if let Some(net) = nets.get(sampled * stride) {
-            changes = changes.saturating_add(block.log(*net).len() as u64);
-        }
-    }
-    changes.saturating_mul(stride as u64)
 }
 
 /// A window for so many event times, if possible, and for one at least.
@@ -238,7 +235,7 @@ fn fitting(times: u64, most: u32) -> u32
 pub(crate) struct Tally {
     /// How many event times were finished.
     pub(crate) finished: u64,
-    /// About how many of those that were finished before were taken back, by how densely the turns found them.
+    /// How many of those that were finished before were taken back.
     pub(crate) undone: u64,
     /// How much work it was.
     pub(crate) work: u64,
@@ -255,7 +252,7 @@ impl Tally {
             .saturating_add((sent as u64).saturating_mul(BEHIND));
         Tally {
             finished,
-            undone: undone_in(turned),
+            undone: turned.undone,
             work,
             most: work,
         }
@@ -294,14 +291,6 @@ impl Tally {
     }
 }
 
-/// About how many event times a turn took back: by how densely it found them, and one where it found none.
-fn undone_in(turned: &Turned) -> u64 {
-    if turned.finished == 0 {
-        return turned.fallen.min(1);
-    }
-    turned.fallen.saturating_mul(u64::from(turned.finished)) / turned.risen.max(1)
-}
-
 /// How far blocks go in a round: up to a time above what all have come to, whoever may still take back what they were told, in
 /// about so many changes a turn, where several have work in so many, and in so many laps.
 #[derive(Clone, Copy)]
@@ -325,7 +314,7 @@ impl Lead {
         }
     }
 
-    /// That of the next round: half as far, where more than a tenth of what was done in this one was undone, else a
+    /// That of the next round: half as far, where too much of what was done in this one was undone, else a
     /// quarter further. Turns are twice as long where one worker had better play, else half as long. There are twice as many
     /// laps where there was little work, else half as many.
     pub(crate) fn after(self, tally: Tally, is_for_one: bool) -> Lead {
@@ -344,7 +333,7 @@ impl Lead {
 
     /// How far blocks go above what all have come to, in the next round.
     fn time_after(self, tally: Tally) -> u64 {
-        if tally.undone > tally.finished / 10 {
+        if tally.undone > tally.finished / UNDONE {
             return self.time / 2;
         }
         self.time.saturating_add(self.time / 4).saturating_add(1)

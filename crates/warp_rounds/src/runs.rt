@@ -9,7 +9,7 @@ ghost use Rattle.warp_rounds.specs.declared.fault.RunFault.TheVariants as fault;
 ghost use Rattle.warp_rounds.specs.Runs.{IsRunFault};
 ghost use Rattle.warp_rounds.specs.Counts.{AreCounted, AccountsFor};
 ghost use Rattle.warp_rounds.specs.Words.{never};
-ghost use Rattle.warp_rounds.specs.Inner.Work.{IsRoundFault, IsRoundsFault};
+ghost use Rattle.warp_rounds.specs.Inner.Work.{AreThere, IsRoundFault, IsRoundsFault};
 ghost use Rattle.warp_rounds.specs.Inner.Crew.{IsOfRun, MayEnd};
 
 use crate::counts::{Counts, RunCounts};
@@ -30,15 +30,16 @@ use std::alloc::{AllocError, Global};
 use std::sync::Wait;
 use std::thread;
 use std::thread::{Promise, PromisedHandle, Threads};
-use warp_block::{Block, Part};
+use warp_block::{Block, Message, Part};
 use warp_core::gather_by;
 
-/// The waves of a circuit under a stimulus, from time 0 to the horizon, which is at most 10^12. The blocks of the cut
-/// run ahead on their own in rounds. In each, up to `workers` workers (1 to 64) draw the blocks, each once or some times. For a draw
-/// a block takes a turn at the round's floor, of as many event times as fit it and at most `window` (1 to 1,000,000), as
-/// [`Site::visit`] says: the first time it's the block that was drawn, later on one that has something to do. Where the turn is a short
-/// one, blocks near by that have something to do take turns too. One worker is the caller's thread, each other one has a thread of its
-/// own. The gate is lent each block before its turn and after it.
+/// The waves of a circuit under a stimulus, from time 0 to the horizon, which is at most 10^12. The blocks of the cut are
+/// made by up to `workers` threads side by side, and run ahead on their own in rounds. In each, up to `workers` workers (1 to
+/// 64) draw the blocks, each once or some times. For a draw a block takes a turn at the round's floor, of as many event times
+/// as fit it and at most `window` (1 to 1,000,000), as [`Site::visit`] says: the first time it's the block that was drawn,
+/// later on one that has something to do. Where the turn is a short one, blocks near by that have something to do take turns
+/// too. One worker is the caller's thread, each other one has a thread of its own. The gate is lent each block before its
+/// turn and after it.
 ///
 /// The floor starts at 0, and each round's least time becomes the next one's. When it is past the horizon the blocks are
 /// gathered, up to `workers` threads looking at them side by side. The answer of a run that ends without a fault is the
@@ -111,7 +112,7 @@ pub fn run_watched<G: Gate + Sync, W: Watch, R: Threads + Wait + Sync>(
     ensures counts { IfOk result (λ watched. AccountsFor circuit.now cut.now stimulus.now horizon watched.counts.blocks.items) }
     ensures fault { IfErr result (IsRunFault circuit.now cut.now stimulus.now horizon workers window) }
 {
-    let sites = sites_of(rt, alloc, circuit, cut, stimulus, horizon)?;
+    let sites = sites_of(rt, alloc, workers, circuit, cut, stimulus, horizon)?;
     let rounds = play_rounds(
         rt,
         alloc,
@@ -135,15 +136,84 @@ pub fn run_watched<G: Gate + Sync, W: Watch, R: Threads + Wait + Sync>(
     })
 }
 
-// The blocks of a cut, each behind its locks; what they send at the start is in the inboxes.
-fn sites_of<R: Wait>(
-    rt: &R,
+// A block behind its locks, and what it sends at the start.
+#[derive(Drop)]
+struct Made {
+    site: Site,
+    sent: Vec<Message>,
+}
+
+// The block of a number. What it sends is for blocks of the cut.
+fn made_of(
     alloc: Global,
     circuit: &Circuit,
     cut: &Cut,
     stimulus: &Stimulus,
     horizon: u64,
+    number: u32,
+) -> Result<Made, AllocError>
+    requires cut { CutFits circuit.now cut.now }
+    requires horizon { horizon ≤ most_horizon }
+    requires number { number < cut.now.blocks }
+    ensures { IfOk result (λ made. AreThere cut.now.blocks made.sent.items) }
+{
+    let part = Part::of(alloc, circuit, cut, number)?;
+    let tellers = tellers_of(alloc, circuit, cut, &part)?;
+    let mut sent = Vec::new(alloc);
+    let block = Block::new(alloc, part, stimulus, horizon, &mut sent)?;
+    let site = Site::told_by(alloc, block, tellers, sent.len());
+    Ok(Made { site, sent })
+}
+
+// The blocks of a cut, made by up to `workers` threads side by side, at least one; none stands for a refused growth.
+fn made_by<R: Threads + Sync>(
+    rt: &R,
+    alloc: Global,
+    workers: u32,
+    circuit: &Circuit,
+    cut: &Cut,
+    stimulus: &Stimulus,
+    horizon: u64,
+) -> Result<Vec<Option<Made>>, AllocError>
+    requires workers { 1 ≤ workers }
+    requires cut { CutFits circuit.now cut.now }
+    requires horizon { horizon ≤ most_horizon }
+    ensures count { IfOk result (λ made. vec_len made ≡ cut.now.blocks) }
+    ensures few { IfOk result (λ made. vec_len made ≤ 1024) }
+    ensures there { IfOk result (λ made. All (λ one. IfSome one (λ made. AreThere cut.now.blocks made.sent.items)) made.items) }
+{
+    let mut made = Vec::with_capacity(alloc, cut.blocks() as usize)?;
+    for _ in 0..cut.blocks() {
+        made.push(None)?;
+    }
+    thread::for_each_mut(
+        rt,
+        made.as_mut_slice(),
+        workers as usize,
+        &|place: usize, made: &mut Option<Made>|
+            requires { (place < cut.now.blocks) × CutFits circuit.now cut.now × (horizon ≤ most_horizon) }
+            ensures { IfSome made.exit.now (λ one. AreThere cut.entry.now.blocks one.sent.items) }
+        {
+            *made = match u32::try_from(place) {
+                Ok(number) => made_of(alloc, circuit, cut, stimulus, horizon, number).ok(),
+                Err(_) => None,
+            };
+        },
+    );
+    Ok(made)
+}
+
+// The blocks of a cut, each behind its locks; what they send at the start is in the inboxes.
+fn sites_of<R: Threads + Wait + Sync>(
+    rt: &R,
+    alloc: Global,
+    workers: u32,
+    circuit: &Circuit,
+    cut: &Cut,
+    stimulus: &Stimulus,
+    horizon: u64,
 ) -> Result<Vec<Site>, RunFault>
+    requires workers { 1 ≤ workers }
     requires cut { CutFits circuit.now cut.now }
     requires horizon { horizon ≤ most_horizon }
     ensures count { IfOk result (λ sites. vec_len sites ≡ cut.now.blocks) }
@@ -152,13 +222,12 @@ fn sites_of<R: Wait>(
 {
     let mut sites = Vec::new(alloc);
     let mut desk = Desk::new(alloc);
-    for number in 0..cut.blocks() {
-        let part = Part::of(alloc, circuit, cut, number)?;
-        let tellers = tellers_of(alloc, circuit, cut, &part)?;
-        let before = desk.sent.len();
-        let block = Block::new(alloc, part, stimulus, horizon, &mut desk.sent)?;
-        let told = desk.sent.len().saturating_sub(before);
-        sites.push(Site::told_by(alloc, block, tellers, told))?;
+    for made in made_by(rt, alloc, workers, circuit, cut, stimulus, horizon)? {
+        let Some(Made { site, sent }) = made else {
+            return Err(RunFault::Memory);
+        };
+        sites.push(site)?;
+        desk.sent.extend_from_slice(sent.as_slice())?;
     }
     desk.deliver(rt, sites.as_slice())?;
     Ok(sites)

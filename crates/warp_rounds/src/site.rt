@@ -10,7 +10,7 @@ ghost use Rattle.warp_rounds.specs.Counts.{IsCounted};
 use crate::counts;
 use crate::counts::Counts;
 use crate::gate::Gate;
-use crate::pace::{Density, Reach, Teller, logged};
+use crate::pace::{Density, Reach, Teller};
 use crate::signs::Signs;
 use crate::turns::{TurnReport, Turned, least_pending, turn_through};
 use std::alloc::{AllocError, Global};
@@ -41,8 +41,8 @@ pub(crate) struct Held {
     counts: Counts,
     /// How its event times have lain.
     density: Density,
-    /// About how many changes its logs had after its last visit.
-    logged: u64,
+    /// About how many changes it had made after its last visit.
+    made: u64,
     /// The messages of a turn, which are swapped for the inbox's. It is empty between visits, and keeps its memory.
     messages: Vec<Message>,
     ghost counted: { IsCounted block.seen counts },
@@ -75,6 +75,7 @@ impl Held {
         let next = self.block.next_time();
         let start = least_pending(&self.block, next, self.messages.as_slice());
         let window = self.window(start, floor, reach, most);
+        let undone = self.counts.undone;
         let messages = self.messages.as_slice();
         let turned = turn_from(
             &mut self.block,
@@ -87,7 +88,7 @@ impl Held {
         );
         self.messages.clear();
         match turned {
-            Ok(turned) => Ok(self.noted(turned)),
+            Ok(turned) => Ok(self.noted(turned, undone)),
             Err(fault) => Err(fault),
         }
     }
@@ -110,8 +111,9 @@ impl Held {
         self.density.window(start, floor, reach, most)
     }
 
-    /// Notes how the event times of a turn lay, and answers the turn with about how many changes were made at them.
-    fn noted(&mut self, turned: Turned) -> Turned
+    /// Notes how the event times of a turn lay, before which so many had been taken back, and answers the turn with about how many changes
+    /// were made at them, and how many it took back.
+    fn noted(&mut self, turned: Turned, undone: u64) -> Turned
         ensures block { self.new.block ≡ self.old.block }
         ensures messages { self.new.messages.items ≡ self.old.messages.items }
         ensures report { result.report ≡ turned.report }
@@ -120,11 +122,15 @@ impl Held {
             self.density = self.density.after_rest(turned.risen);
             return turned;
         }
-        let before = self.logged;
-        self.logged = logged(&self.block);
-        let changes = self.logged.saturating_sub(before);
+        let before = self.made;
+        self.made = self.block.made();
+        let changes = self.made.saturating_sub(before);
         self.density = self.density.after(turned.finished, turned.risen, changes);
-        Turned { changes, ..turned }
+        Turned {
+            changes,
+            undone: self.counts.undone.saturating_sub(undone),
+            ..turned
+        }
     }
 }
 
@@ -183,6 +189,7 @@ fn rest(
         risen: block.mark().saturating_sub(mark),
         finished: 0,
         changes: 0,
+        undone: 0,
         next,
     })
 }
@@ -217,7 +224,7 @@ impl Site {
                 block,
                 counts,
                 density: Density::full(),
-                logged: 0,
+                made: 0,
                 messages: Vec::new(alloc),
             }),
             inbox: Mutex::new(Vec::new(alloc)),
@@ -307,6 +314,7 @@ impl Site {
     {
         let mut held = self.hold(rt);
         let turned = self.visit_held(rt, &mut *held, floor, window, None, gate, out)?;
+        self.signs.ends(turned.next);
         Ok(turned.report)
     }
 
@@ -316,7 +324,7 @@ impl Site {
     }
 
     /// A visit under the block's lock, whose turn, where a reach is given, goes about as far as that; with what it did beside what it
-    /// reports.
+    /// reports. Who has delivered what it sent says that it ends.
     pub(crate) fn visit_held<R: Wait, G: Gate>(
         &self,
         rt: &R,
@@ -337,9 +345,6 @@ impl Site {
         held.put_in_order();
         let turned = held.turn(floor, window, reach, out);
         gate.leaving(&held.block);
-        if let Ok(turned) = &turned {
-            self.signs.ends(turned.next);
-        }
         turned
     }
 
@@ -375,7 +380,7 @@ impl Site {
             block,
             counts,
             density: _,
-            logged: _,
+            made: _,
             messages: _,
         } = held.into_inner();
         block.law();

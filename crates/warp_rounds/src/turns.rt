@@ -29,6 +29,8 @@ pub(crate) struct Turned {
     pub finished: u32,
     /// About how many changes were made at them; as many as these, where no more is known.
     pub changes: u64,
+    /// How many that were finished before it took back, where that is known.
+    pub undone: u64,
     /// The block's next time after it.
     pub next: Option<u64>,
 }
@@ -100,6 +102,7 @@ pub(crate) fn turn_through(
         risen: block.mark().saturating_sub(heard),
         finished,
         changes: u64::from(finished),
+        undone: 0,
         next,
     })
 }

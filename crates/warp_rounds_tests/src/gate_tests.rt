@@ -216,7 +216,7 @@ fn run_swing<G: Gate + Sync, R: Threads + Wait + Sync>(
     Ok(())
 }
 
-/// Before the block that tells it has had a turn, a block goes about as far as the first lead, which is 64.
+/// Before the block that tells it has had a turn, a block goes about as far as the first lead, which is 8.
 #[test]
 fn a_block_waits_for_what_it_is_told(rt: HostRuntime) -> Result<(), Fail> {
     let gate = First {
@@ -228,7 +228,7 @@ fn a_block_waits_for_what_it_is_told(rt: HostRuntime) -> Result<(), Fail> {
     drop(circuit);
     ran?;
     let mark = gate.mark.load(SeqCst);
-    assert!(rt; 32 < mark && mark < 128, "{mark}");
+    assert!(rt; 4 < mark && mark < 16, "{mark}");
     Ok(())
 }
 
