@@ -1,6 +1,6 @@
 //! From waves to a dump.
 
-ghost use Rattle.std.specs.Prelude.{◌≡◌, ◌≤◌, ◌++◌, false, IfOk, IfSome, OnOk, codes};
+ghost use Rattle.std.specs.Prelude.{◌≡◌, ◌≤◌, IfOk, IfSome, codes};
 ghost use Rattle.net_waves.specs.ByTime.{stops_in};
 ghost use Rattle.net_waves.specs.Stops.{AreStopsOf};
 ghost use Rattle.gate_vcd.specs.Given.{Fits};
@@ -13,7 +13,7 @@ ghost use Rattle.warp_text.specs.Inner.Firsts.{AreFirstsOf};
 use byte_sinks::{Grow, Sink};
 use gate_netlist::Circuit;
 use gate_values::Logic;
-use gate_vcd::{Stimulus, WriteFault, write_changes, write_vcd_once};
+use gate_vcd::{Stimulus, changes_dump_by, write_vcd_once};
 use net_waves::{ByTime, Waves};
 use std::alloc::{AllocError, Global};
 use std::thread::Threads;
@@ -57,34 +57,41 @@ pub fn dump_by<R: Threads + Sync>(
     gate_vcd::dump_by(rt, alloc, workers, "top", circuit, stimulus, waves, horizon)
 }
 
-/// Writes the dump of a circuit's changes, which are had by time, with each net's value at time 0.
-fn write_alone<S: Sink>(
-    sink: &mut S,
+/// The dump of a circuit's changes, which are had by time, with each net's value at time 0, made by up to so many threads side by side, at
+/// least one.
+fn changes_by<R: Threads + Sync>(
+    rt: &R,
+    alloc: Global,
+    workers: u32,
     circuit: &Circuit,
     stimulus: &Stimulus,
     firsts: &[Logic],
     by_time: &ByTime,
     horizon: u64,
-) -> Result<(), WriteFault>
-    requires sound { (S.held sink.old).failed ≡ false }
+) -> Result<Vec<u8>, AllocError>
+    requires workers { 1 ≤ workers }
     requires near { horizon ≤ most_horizon }
     requires firsts { AreFirstsOf (circuit_waves circuit.now stimulus.now horizon) firsts.now }
     requires stops { AreStopsOf (circuit_waves circuit.now stimulus.now horizon) (stops_in by_time.now) }
-    ensures { let text = vcd_text (codes "top") circuit.now stimulus.now (value_under circuit.now stimulus.now) horizon in
-        OnOk result ((S.held sink.new).bytes ≡ (S.held sink.old).bytes ++ text) }
+    ensures { IfOk result (λ dump. dump.items ≡ vcd_text (codes "top") circuit.now stimulus.now (value_under circuit.now stimulus.now) horizon) }
 {
-    write_changes(sink, circuit, stimulus, firsts, by_time, horizon)
+    changes_dump_by(
+        rt, alloc, workers, circuit, stimulus, firsts, by_time, horizon,
+    )
 }
 
-/// The dump of a circuit that is played alone under a stimulus, up to the horizon; none where its changes can't be had by time as they
-/// come. The watch is told how far it has come. An error is a refused growth.
-pub fn alone_dump<W: Watch>(
+/// The dump of a circuit that is played alone under a stimulus, up to the horizon, written by up to so many threads side by side, at least
+/// one; none where its changes can't be had by time as they come. The watch is told how far it has come. An error is a refused growth.
+pub fn alone_dump<W: Watch, R: Threads + Sync>(
+    rt: &R,
     alloc: Global,
+    workers: u32,
     circuit: &Circuit,
     stimulus: &Stimulus,
     horizon: u64,
     watch: &mut W,
 ) -> Result<Option<Vec<u8>>, AllocError>
+    requires workers { 1 ≤ workers }
     requires fits { Fits stimulus.now circuit.now }
     requires near { horizon ≤ most_horizon }
     ensures { IfOk result (λ dump. IfSome dump (λ dump. dump.items ≡ vcd_text (codes "top") circuit.now stimulus.now (value_under circuit.now stimulus.now) horizon)) }
@@ -94,9 +101,8 @@ pub fn alone_dump<W: Watch>(
     };
     let firsts = by_time.first_values(alloc, circuit.nets())?;
     let firsts = firsts.as_slice();
-    let mut sink = Grow::new(alloc);
-    match write_alone(&mut sink, circuit, stimulus, firsts, &by_time, horizon) {
-        Ok(()) => Ok(Some(sink.into_vec())),
-        Err(_) => Err(AllocError),
-    }
+    let dump = changes_by(
+        rt, alloc, workers, circuit, stimulus, firsts, &by_time, horizon,
+    )?;
+    Ok(Some(dump))
 }

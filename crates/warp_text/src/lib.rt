@@ -2,7 +2,7 @@
 //!
 //! [`simulate_text`] answers the dump of a circuit's values for a bench text (ISCAS'89), a settings text (TOML) and
 //! a stimulus text (IEEE 1364-2005, section 18), or the first fault among them, or that of the run of its blocks; [`simulate_plain`]
-//! answers the same where nobody is to see the blocks, and plays a circuit for which no blocks are asked as a whole;
+//! answers the same where nobody is to see the blocks, and plays one block, asked for or not, as a whole;
 //! [`replay_text`] answers the same dump where a schedule of events is played on these blocks to its end;
 //! [`simulate_told`] and [`replay_told`] answer the same with a dump in which some nets alone are told;
 //! [`simulate_watched`] and [`simulate_told_watched`] answer what is counted of the run too, of which [`stats_text`] makes a text;

@@ -206,8 +206,8 @@ pub fn simulate_text<G: Gate + Sync, R: Threads + Wait + Sync>(
     dump_alone(answer)
 }
 
-/// Answers what [`simulate_text`] does, where no gate is to see the blocks. A circuit for which neither the options nor its settings ask
-/// for blocks is played alone, as a whole, with no block's lists nor rollbacks. The watch is told how far the run has come.
+/// Answers what [`simulate_text`] does, where no gate is to see the blocks. A circuit in one block, asked for or not, is played alone, as a
+/// whole, with no block's lists nor rollbacks, and the workers write its dump. The watch is told how far the run has come.
 #[tactic(auto, unfolding(crate::specs::Answer::IsAnswer))]
 pub fn simulate_plain<W: Watch, R: Threads + Wait + Sync>(
     rt: &R,
@@ -236,21 +236,24 @@ fn plain_dump<W: Watch, R: Threads + Wait + Sync>(
     ensures { IsDumped circuit.now stimulus.now options.now.until result }
 {
     let stimulus = read_stimulus(alloc, stimulus, circuit)?;
-    if options.blocks().is_none() && circuit.cut().is_none() {
-        if let Some(dump) = alone_dump(alloc, circuit, &stimulus, options.until(), watch)? {
+    let workers = options.workers();
+    let until = options.until();
+    if is_whole(circuit, options) {
+        if let Some(dump) = alone_dump(rt, alloc, workers, circuit, &stimulus, until, watch)? {
             return Ok(dump);
         }
     }
     let ran = run_blocks(rt, alloc, circuit, &stimulus, options, &NoGate, watch)?;
-    Ok(dump_by(
-        rt,
-        alloc,
-        options.workers(),
-        circuit,
-        &stimulus,
-        ran.waves,
-        options.until(),
-    )?)
+    Ok(dump_by(rt, alloc, workers, circuit, &stimulus, ran.waves, until)?)
+}
+
+/// Whether a circuit is played in one block, asked for or not.
+fn is_whole(circuit: &Circuit, options: &Options) -> bool {
+    match (options.blocks(), circuit.cut()) {
+        (Some(blocks), _) => blocks == 1,
+        (None, Some(cut)) => cut.blocks() == 1,
+        (None, None) => true,
+    }
 }
 
 /// The dump of what is answered.
