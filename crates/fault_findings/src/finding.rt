@@ -1,4 +1,6 @@
 //! What is found wrong with a text.
+ghost use Rattle.std.specs.Prelude.{◌≡◌, IfOk, string_bytes};
+
 use crate::sentence::{Piece, sentence};
 use crate::words::Word;
 use std::alloc::{AllocError, Global};
@@ -38,7 +40,12 @@ impl Said {
         })
     }
 
-    pub fn remark(&self) -> Remark<'_> {
+    /// How many bytes are meant, the cause and what helps, as they are.
+    pub fn remark(&self) -> Remark<'_>
+        ensures length { result.length ≡ self.now.length }
+        ensures cause { result.cause.now ≡ string_bytes self.now.cause }
+        ensures help { result.help.now ≡ string_bytes self.now.help }
+    {
         Remark {
             length: self.length,
             cause: self.cause.as_str(),
@@ -61,7 +68,9 @@ impl Finding {
         word: &Word<'_>,
         cause: &[Piece<'_>],
         help: &[Piece<'_>],
-    ) -> Result<Finding, AllocError> {
+    ) -> Result<Finding, AllocError>
+        ensures { IfOk result (λ finding. finding.at ≡ word.now.at) }
+    {
         Ok(Finding {
             at: word.at,
             said: Said::new(alloc, word.text.len(), cause, help)?,

@@ -1,8 +1,9 @@
 //! What is wrong with a text that was refused, found anew from the text and the fault.
 //!
 //! For each fault a function answers a finding: where in the text it is, the cause in a sentence with the names concerned, and
-//! what to do about it where that is known. Nothing is promised of it: `examples/faults/explained` has each sentence. That it
-//! is told at its place is the promise of `warp_explain`, which alone stands on it.
+//! what to do about it where that is known. Nothing is promised of its sentences: `examples/faults/explained` has each. That a
+//! finding is told at its place is the promise of `warp_explain`, which alone stands on it. Which map says nothing is defined in
+//! `specs/EmptyMap`.
 #![tactic(auto)]
 
 mod bench;

@@ -1,4 +1,8 @@
 //! Why nothing of two dumps is compared.
+ghost use Rattle.std.specs.Prelude.{◌≡◌, IfOk};
+ghost use Rattle.fault_findings.specs.EmptyMap.{is_blank, is_silent, says_nothing};
+ghost use Rattle.vcd_compare.specs.Map.{is_comment};
+
 use crate::bits::{Bits, Both, scope_before};
 use crate::compared::Compared;
 use crate::finding::Finding;
@@ -6,8 +10,9 @@ use crate::near::path_to;
 use crate::sentence::{Piece, sentence};
 use crate::stamps::last_stamp;
 use crate::variables::{Wanted, find_variable};
-use crate::words::{Word, word_from};
+use crate::words::{Word, is_space};
 use Piece::{Bytes, Number, Quoted, Text};
+use gate_netlist::next_line;
 use gate_vcd::number_up_to;
 use std::alloc::{AllocError, Global};
 use text_places::Source;
@@ -244,18 +249,47 @@ fn without_times_to(
     }
 }
 
+fn is_comment(line: &[u8]) -> bool
+    ensures { result ≡ is_comment line.now }
+{
+    match line {
+        [] => false,
+        [first, ..] => *first == b'#',
+    }
+}
+
+fn is_blank(line: &[u8]) -> bool
+    ensures { result ≡ is_blank line.now }
+{
+    line.iter().all(|byte| is_space(*byte))
+}
+
+/// Whether a line of a map is blank or a comment.
+fn is_silent(line: &[u8]) -> bool
+    ensures { result ≡ is_silent line.now }
+{
+    is_comment(line) || is_blank(line)
+}
+
 /// Whether no line of a map says a pair, none having a fault.
-pub fn says_nothing(map: &[u8]) -> bool {
-    for line in map.split_inclusive(|byte| *byte == b'\n') {
-        if !line.starts_with(b"#") && !word_from(line, 0).text.is_empty() {
+pub fn says_nothing(map: &[u8]) -> bool
+    ensures { result ≡ says_nothing map.now }
+{
+    let mut rest = Some(map);
+    while let Some(text) = rest {
+        let (line, after) = next_line(text);
+        if !is_silent(line) {
             return false;
         }
+        rest = after;
     }
     true
 }
 
-/// A map without pairs.
-pub fn of_empty_map(alloc: Global, map: Source<'_>) -> Result<Finding, AllocError> {
+/// A map without pairs, told at its beginning.
+pub fn of_empty_map(alloc: Global, map: Source<'_>) -> Result<Finding, AllocError>
+    ensures { IfOk result (λ finding. finding.at ≡ 0) }
+{
     let cause = [Text("no line of this map pairs two bits")];
     let advice =
         "a line is the name in EXPECTED, white space, and the name in ACTUAL; without a map bits of one name are compared";

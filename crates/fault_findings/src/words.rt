@@ -1,4 +1,6 @@
 //! Words and lines of a text.
+ghost use Rattle.std.specs.Prelude.{◌≡◌};
+ghost use Rattle.gate_vcd.specs.Tokens.{is_space};
 
 /// A word of a text, and the offset of its first byte.
 #[derive(Clone, Copy)]
@@ -12,7 +14,9 @@ pub(crate) type Line<'a> = Word<'a>;
 
 impl<'a> Word<'a> {
     /// What stands from an offset on, so many bytes of it.
-    pub(crate) fn of(text: &'a [u8], at: usize, length: usize) -> Word<'a> {
+    pub(crate) fn of(text: &'a [u8], at: usize, length: usize) -> Word<'a>
+        ensures { result.at ≡ at }
+    {
         let rest = text.get(at..).unwrap_or(&[]);
         Word {
             at,
@@ -78,7 +82,9 @@ pub(crate) fn behind_mark(text: &[u8]) -> &[u8] {
     text.strip_prefix(&[0xEF, 0xBB, 0xBF]).unwrap_or(text)
 }
 
-pub(crate) fn is_space(byte: u8) -> bool {
+pub(crate) fn is_space(byte: u8) -> bool
+    ensures { result ≡ is_space byte }
+{
     matches!(byte, 9..=13 | 32)
 }
 
