@@ -1,18 +1,17 @@
 -- A history that is played up to the horizon tells the logs.
-use Rattle.std.proofs.Common.{◌≡◌, ◌∙◌, ℕ, suc, ◌+◌, ◌<◌, ◌≤◌, inl, inr, true, false, Option, Some, None, is_some, List, [], ◌∷◌, ◌++◌, length, get_or, IsTrue, refl, ap, sym, subst, arith}
+use Rattle.std.proofs.Common.{◌≡◌, ◌∙◌, ℕ, suc, ◌+◌, ◌<◌, ◌≤◌, inl, inr, false, Option, Some, None, is_some, List, [], ◌∷◌, length, get_or, refl, sym, subst, arith}
 use Rattle.std.proofs.lemmas.Bool.{cases_lt, true≢false, false_from_ne_true}
-use Rattle.std.proofs.lemmas.List.{append-nil, get_or_past, length-map}
+use Rattle.std.proofs.lemmas.List.{append-nil, get_or_past}
 use Rattle.gate_values.specs.declared.logic.Change.{Change}
 use Rattle.warp_stores.specs.Words.{Move}
 use Rattle.warp_stores.specs.Dated.{Dated, undated}
-use Rattle.warp_stores.specs.Lists.{AreLonger, changes_at}
+use Rattle.warp_stores.specs.Lists.{AreLonger}
 use Rattle.warp_engine.specs.Runs.{Run, makings}
 use Rattle.part_engine.specs.Runs.{IsEngineOf}
 use Rattle.part_engine.specs.Histories.{TellLogs}
 use Rattle.part_engine.proofs.RunLogs.{logs_longer, history_tells}
 use Rattle.warp_process.specs.Heard.{IsReceived}
 use Rattle.warp_process.specs.View.{View, IsLeast, IsEventTime, IsDone, is_busy}
-use Rattle.warp_process.specs.Lawful.{lawful_log}
 use Rattle.warp_process.specs.Played.{played_view}
 use Rattle.warp_block.specs.Shown.Block.{seen_by}
 use Rattle.warp_block.proofs.Resting.{quiet_from, next_was}

@@ -1,5 +1,5 @@
 -- Lists of the logs of nets that other blocks read.
-use Rattle.std.proofs.Common.{◌≡◌, ◌∙◌, ℕ, ◌+◌, ◌-◌, ◌<◌, ◌≤◌, ◌==◌, ◌||◌, inl, inr, Bool, true, false, cond, not, List, [], ◌∷◌, ◌++◌, map, take, length, get_or, refl, ap, sym, subst, arith}
+use Rattle.std.proofs.Common.{◌≡◌, ◌∙◌, ℕ, ◌+◌, ◌-◌, ◌<◌, ◌==◌, ◌||◌, inl, inr, Bool, true, false, cond, not, List, [], ◌∷◌, ◌++◌, map, take, length, get_or, refl, ap, sym, arith}
 use Rattle.std.specs.List.{All, filter, list_any}
 use Rattle.std.proofs.lemmas.List.Elements.{All-nil, All-cons, All-head, All-tail}
 use Rattle.std.proofs.lemmas.Bool.{cases_lt, true≢false, eqb-true}
@@ -10,7 +10,8 @@ use Rattle.warp_stores.specs.Dated.{Dated, undated}
 use Rattle.warp_stores.specs.Lists.{words_at, changes_at, AreLonger, AreShorter}
 use Rattle.place_moves.proofs.Filtering.{filter-absorb}
 use Rattle.warp_part.specs.Portion.{Portion, IsPortion}
-use Rattle.warp_block.specs.Inner.Reads.{is_read, HaveRead, AreReadLonger}
+use Rattle.warp_block.specs.Reads.{is_read, HaveRead}
+use Rattle.warp_block.specs.Inner.Reads.{AreReadLonger}
 use Rattle.warp_block.proofs.Shortening.{front, as_many}
 
 -- a place that is read is there

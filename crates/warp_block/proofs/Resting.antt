@@ -1,5 +1,5 @@
 -- What a block shows whose engine has played what it has received.
-use Rattle.std.proofs.Common.{◌≡◌, ℕ, zero, suc, true, false, max, ◌+◌, ◌-◌, ◌<◌, ◌≤◌, Option, Some, None, List, [], ◌∷◌, map, inl, inr, refl, ap, sym, ◌∙◌, subst, arith, All}
+use Rattle.std.proofs.Common.{◌≡◌, ℕ, zero, suc, true, false, max, ◌+◌, ◌-◌, ◌<◌, ◌≤◌, Option, Some, None, List, [], ◌∷◌, map, inl, inr, refl, ap, sym, ◌∙◌, arith, All}
 use Rattle.std.proofs.lemmas.Bool.{cases_lt, true≢false, false_from_ne_true}
 use Rattle.std.proofs.lemmas.List.Elements.{All-nil, All-cons}
 use Rattle.gate_values.specs.declared.logic.Change.{Change}
@@ -25,7 +25,6 @@ use Rattle.warp_process.proofs.Committed.{committed_lawful}
 use Rattle.part_engine.specs.Runs.{state_of}
 use Rattle.part_engine.proofs.RunLogs.{states_are}
 use Rattle.warp_block.specs.Shown.Block.{mark_by, seen_by, process_by}
-use Rattle.warp_block.specs.Shown.Ended.{ended_by}
 use Rattle.warp_block.specs.Inner.Held.{IsAt}
 use Rattle.warp_block.proofs.Times.{times_end, times_on}
 
@@ -221,11 +220,3 @@ module _ (old mid : View) (lawful : IsLawful old) (part : mid.part ≡ old.part)
       ∙ ap (λ f. back_by time old.part old.horizon f mid.queues) floor
       ∙ ap (λ q. back_by time old.part old.horizon old.floor q) queues
       ∙ sym (seen_stays old lawful time (sym mark))
-
--- ---- what has ended
-
--- what is received, up to the mark of what is lawful, is that
-pub ended_is : (h w : View) (mark : ℕ) → record h { mark = w.mark; logs = w.logs } ≡ w → mark ≡ w.mark → IsLawful w → ended_by h mark ≡ w
-ended_is h w mark is same lawful =
-    ap (λ (u : View). record u { mark = mark; logs = map (lawful_log (record u { mark = mark })) u.part.nets }) is
-    ∙ sym (seen_stays w lawful mark (sym same))

@@ -1,6 +1,5 @@
 -- What only the proofs of this crate need: no contract of a public call speaks of it.
 pub mod Give
 pub mod Held
-pub mod HeldEnded
 pub mod Reads
 pub mod HeldKernel

@@ -1,4 +1,3 @@
 -- What contracts see of the types of this crate: the value that each shows of its fields.
 pub mod Block
 pub mod Look
-pub mod Ended

@@ -1,7 +1,7 @@
 ghost use Rattle.std.specs.Prelude.{◌≡◌, ◌≢◌, ◌+◌, ◌++◌, ◌≤◌, ◌<◌, ◌↔◌, ◌⊎◌, ℕ, [], false, length, get_or, slice_index, vec_len, IsTrue, IfSome, IfNone, IfOk, IfErr, OnOk, OnErr, None};
 ghost use Rattle.std.specs.List.{All};
 ghost use Rattle.net_waves.specs.Waves.{lists_in, wave_of};
-ghost use Rattle.warp_part.specs.Portion.{owns};
+ghost use Rattle.warp_part.specs.Portion.{owns, readers_of};
 ghost use Rattle.warp_process.specs.Limits.{most_horizon};
 ghost use Rattle.warp_process.specs.declared.message.Sign.TheVariants.{Plus, Minus};
 ghost use Rattle.warp_process.specs.Entries.{no_messages};
@@ -17,7 +17,7 @@ ghost use Rattle.part_engine.specs.Histories.{TellLogs};
 
 use crate::give::give;
 use crate::kernel::Kernel;
-use crate::logs::{first_logs, log_more};
+use crate::logs::{AllLogs, Logs};
 use crate::look::Look;
 use gate_values::Change;
 use gate_vcd::Stimulus;
@@ -25,51 +25,50 @@ use std::alloc::{AllocError, Global};
 use std::marker::Model;
 use warp_part::Part;
 use warp_process::{BlockFault, Entry, Message};
-use warp_stores::{Batch, Lists, Steps, Word};
+use warp_stores::{Batch, Steps, Word};
 
-/// A logical process with its logs: what it has received and played, and for each net of its part the list of the net's changes. The batch is a
+/// A logical process: what it has received and played, and the logs that it keeps, of all its nets where nothing else is said. The batch is a
 /// place to work in.
 #[derive(Debug, Drop)]
-pub struct Block {
+pub struct Block<L: Logs = AllLogs> {
     kernel: Kernel,
-    lists: Lists,
+    logs: L,
     batch: Batch<Word>,
 }
 
-impl Model for Block {
-    ghost use Rattle.std.specs.Prelude.{◌≡◌};
+impl<L: Logs> Model for Block<L> {
     ghost use Rattle.warp_process.specs.View.{Process};
 
     ghost Value = { Process };
 
     ghost view = { λ block. block.kernel };
 
-    ghost invariant = { λ block. block.lists ≡ block.kernel.seen.logs };
+    ghost invariant = { λ block. L.keep block.logs block.kernel.seen.part block.kernel.seen.logs };
 }
 
-impl Block {
+impl<L: Logs> Block<L> {
     /// A block that has received nothing but the stimulus's changes up to the horizon, which is at most
     /// [`MOST_HORIZON`](crate::MOST_HORIZON). Its mark and floor are 0. Each of its flip-flops whose initial content is
     /// known has it from time 0 on: the messages on that go behind `out`, by net, then by reader. An error is a refused
     /// growth; after it nothing is told.
-    pub fn new(
+    pub fn open(
         alloc: Global,
         part: Part,
         stimulus: &Stimulus,
         horizon: u64,
         out: &mut Vec<Message>,
-    ) -> Result<Block, AllocError>
+    ) -> Result<Block<L>, AllocError>
         requires { horizon ≤ most_horizon }
         ensures opening { IfOk result (λ block. block.seen ≡ opening_view part stimulus.now horizon) }
         ensures sends { IfOk result (λ block. SendsOnce (silent_view part stimulus.now horizon) block.seen Plus (λ t. t ≡ 0) out.old.items out.new.items) }
         ensures told { OnOk result (out.new.items ≡ out.old.items ++ opening_messages part) }
         ensures untold { OnErr result (out.new.items ≡ out.old.items) }
     {
-        let lists = first_logs(alloc, &part)?;
+        let logs = L::first(alloc, &part)?;
         let kernel = Kernel::new(alloc, part, stimulus, horizon, out)?;
         Ok(Block {
             kernel,
-            lists,
+            logs,
             batch: Batch::new(alloc),
         })
     }
@@ -98,7 +97,7 @@ impl Block {
     {
         self.kernel.law();
         if self.kernel.receive(&mut self.batch, message, out)? {
-            self.lists.shorten(self.batch.words());
+            self.logs.shorten(self.kernel.part(), &self.batch);
         }
         Ok(())
     }
@@ -122,7 +121,11 @@ impl Block {
         let sent = out.len();
         let finished = self.kernel.advance(&mut self.batch, steps, out)?;
         let reached = self.kernel.mark();
-        match log_more(&mut self.lists, &self.batch, reached, self.kernel.horizon()) {
+        let horizon = self.kernel.horizon();
+        match self
+            .logs
+            .lengthen(self.kernel.part(), &self.batch, reached, horizon)
+        {
             Ok(()) => Ok(finished),
             Err(error) => {
                 self.kernel.give_up(mark);
@@ -145,17 +148,6 @@ impl Block {
         ensures err { OnErr result (self.new ≡ self.old) }
     {
         self.kernel.commit(floor)
-    }
-
-    /// What it holds, its saved states aside.
-    pub fn look(&self) -> Result<Look, AllocError>
-        ensures { IfOk result (λ look. look ≡ self.now.seen) }
-    {
-        let alloc = self.kernel.alloc();
-        let lists = self.lists.copy(alloc)?;
-        let heard = self.kernel.copy_heard(alloc)?;
-        self.law();
-        Ok(Look::new(heard, self.mark(), lists))
     }
 
     /// The part of the circuit.
@@ -214,54 +206,6 @@ impl Block {
         self.kernel.made()
     }
 
-    /// The changes of a net that the block has computed, after the initial content of a flip-flop, committed ones
-    /// included; none of a net that it doesn't own.
-    pub fn log(&self, net: u32) -> &[Change]
-        ensures { result.now ≡ log_of self.now.seen net }
-    {
-        self.kernel.law();
-        match self.kernel.part().slot(net) {
-            Some(slot) => self.lists.changes(slot),
-            None => &[],
-        }
-    }
-
-    /// Gives the log of each own net to its place among lists that have one for each net of the circuit, in place of what
-    /// stood there; the other lists stay. The block is consumed, and no change is copied: this takes no memory.
-    pub fn give_logs(self, lists: &mut Vec<Vec<Change>>)
-        requires places { All (λ net. net < vec_len lists.old) self.seen.part.nets }
-        ensures len { vec_len lists.new ≡ vec_len lists.old }
-        ensures own { (n : ℕ) → IsTrue (owns self.seen.part n) → wave_of (lists_in lists.new.items) n ≡ log_of self.seen n }
-        ensures others { (n : ℕ) → owns self.seen.part n ≡ false → wave_of (lists_in lists.new.items) n ≡ wave_of (lists_in lists.old.items) n }
-    {
-        self.kernel.law();
-        let part = self.kernel.into_part();
-        give(&part, self.lists.into_vec(), lists);
-    }
-
-    /// Gives the logs away, as [`Block::give_logs`] does, and answers the block's part and its history up to the horizon: of each own net
-    /// what its log says, in the order of time. There is no answer where something is left to do, or where memory is wanted for what
-    /// nobody reads.
-    pub fn give_history(self, lists: &mut Vec<Vec<Change>>) -> Option<(Part, Steps<Word>)>
-        requires places { All (λ net. net < vec_len lists.old) self.seen.part.nets }
-        ensures len { vec_len lists.new ≡ vec_len lists.old }
-        ensures own { (n : ℕ) → IsTrue (owns self.seen.part n) → wave_of (lists_in lists.new.items) n ≡ log_of self.seen n }
-        ensures others { (n : ℕ) → owns self.seen.part n ≡ false → wave_of (lists_in lists.new.items) n ≡ wave_of (lists_in lists.old.items) n }
-        ensures part { IfSome result (λ told. told.0 ≡ self.seen.part) }
-        ensures history { IfSome result (λ told. TellLogs self.seen told.1) }
-    {
-        let Block {
-            kernel,
-            lists: logs,
-            mut batch,
-        } = self;
-        kernel.law();
-        let (heard, history) = kernel.end(&mut batch);
-        let part = heard.into_part();
-        give(&part, logs.into_vec(), lists);
-        Some((part, history?))
-    }
-
     /// The entry of a net at a time; empty for a net that the block doesn't read, and for an own one.
     pub fn entry(&self, net: u32, time: u64) -> Entry
         ensures { result ≡ entry_of self.now.seen net time }
@@ -290,5 +234,114 @@ impl Block {
         ensures told { IfOk result (λ lists. (i : ℕ) → i < length self.now.seen.part.nets → IsToldOf self.now.seen (slice_index self.now.seen.part.nets i) (get_or (lists_in lists.items) i [])) }
     {
         self.kernel.told()
+    }
+
+    /// The log of a net that other blocks read, as [`Block::log`] answers it; none of another net.
+    pub fn read_log(&self, net: u32) -> Option<&[Change]>
+        ensures some { IfSome result (λ log. log.now ≡ log_of self.now.seen net) }
+        ensures none { IfNone result (readers_of self.now.seen.part net ≡ []) }
+    {
+        self.kernel.law();
+        let part = self.kernel.part();
+        let slot = part.slot(net)?;
+        if part.readers(slot).is_empty() {
+            return None;
+        }
+        Some(self.logs.of_read(part, slot))
+    }
+
+    /// The part, and the history up to the horizon: of each own net what its log says, in the order of time. There is no answer where
+    /// something is left to do, or where memory is wanted for what nobody reads.
+    pub fn into_history(self) -> Option<(Part, Steps<Word>)>
+        ensures part { IfSome result (λ told. told.0 ≡ self.seen.part) }
+        ensures history { IfSome result (λ told. TellLogs self.seen told.1) }
+    {
+        let Block {
+            kernel,
+            mut batch,
+            ..
+        } = self;
+        kernel.law();
+        let (heard, history) = kernel.end(&mut batch);
+        Some((heard.into_part(), history?))
+    }
+}
+
+impl Block {
+    /// A block that keeps the logs of all its nets, and has received nothing but the stimulus's changes up to the horizon, as
+    /// [`Block::open`] answers it.
+    pub fn new(
+        alloc: Global,
+        part: Part,
+        stimulus: &Stimulus,
+        horizon: u64,
+        out: &mut Vec<Message>,
+    ) -> Result<Block, AllocError>
+        requires { horizon ≤ most_horizon }
+        ensures opening { IfOk result (λ block. block.seen ≡ opening_view part stimulus.now horizon) }
+        ensures sends { IfOk result (λ block. SendsOnce (silent_view part stimulus.now horizon) block.seen Plus (λ t. t ≡ 0) out.old.items out.new.items) }
+        ensures told { OnOk result (out.new.items ≡ out.old.items ++ opening_messages part) }
+        ensures untold { OnErr result (out.new.items ≡ out.old.items) }
+    {
+        Block::open(alloc, part, stimulus, horizon, out)
+    }
+
+    /// What it holds, its saved states aside.
+    pub fn look(&self) -> Result<Look, AllocError>
+        ensures { IfOk result (λ look. look ≡ self.now.seen) }
+    {
+        let alloc = self.kernel.alloc();
+        let lists = self.logs.lists.copy(alloc)?;
+        let heard = self.kernel.copy_heard(alloc)?;
+        self.law();
+        Ok(Look::new(heard, self.mark(), lists))
+    }
+
+    /// The changes of a net that the block has computed, after the initial content of a flip-flop, committed ones
+    /// included; none of a net that it doesn't own.
+    pub fn log(&self, net: u32) -> &[Change]
+        ensures { result.now ≡ log_of self.now.seen net }
+    {
+        self.kernel.law();
+        match self.kernel.part().slot(net) {
+            Some(slot) => self.logs.lists.changes(slot),
+            None => &[],
+        }
+    }
+
+    /// Gives the log of each own net to its place among lists that have one for each net of the circuit, in place of what
+    /// stood there; the other lists stay. The block is consumed, and no change is copied: this takes no memory.
+    pub fn give_logs(self, lists: &mut Vec<Vec<Change>>)
+        requires places { All (λ net. net < vec_len lists.old) self.seen.part.nets }
+        ensures len { vec_len lists.new ≡ vec_len lists.old }
+        ensures own { (n : ℕ) → IsTrue (owns self.seen.part n) → wave_of (lists_in lists.new.items) n ≡ log_of self.seen n }
+        ensures others { (n : ℕ) → owns self.seen.part n ≡ false → wave_of (lists_in lists.new.items) n ≡ wave_of (lists_in lists.old.items) n }
+    {
+        self.kernel.law();
+        let part = self.kernel.into_part();
+        give(&part, self.logs.lists.into_vec(), lists);
+    }
+
+    /// Gives the logs away, as [`Block::give_logs`] does, and answers the block's part and its history up to the horizon: of each own net
+    /// what its log says, in the order of time. There is no answer where something is left to do, or where memory is wanted for what
+    /// nobody reads.
+    pub fn give_history(self, lists: &mut Vec<Vec<Change>>) -> Option<(Part, Steps<Word>)>
+        requires places { All (λ net. net < vec_len lists.old) self.seen.part.nets }
+        ensures len { vec_len lists.new ≡ vec_len lists.old }
+        ensures own { (n : ℕ) → IsTrue (owns self.seen.part n) → wave_of (lists_in lists.new.items) n ≡ log_of self.seen n }
+        ensures others { (n : ℕ) → owns self.seen.part n ≡ false → wave_of (lists_in lists.new.items) n ≡ wave_of (lists_in lists.old.items) n }
+        ensures part { IfSome result (λ told. told.0 ≡ self.seen.part) }
+        ensures history { IfSome result (λ told. TellLogs self.seen told.1) }
+    {
+        let Block {
+            kernel,
+            logs,
+            mut batch,
+        } = self;
+        kernel.law();
+        let (heard, history) = kernel.end(&mut batch);
+        let part = heard.into_part();
+        give(&part, logs.lists.into_vec(), lists);
+        Some((part, history?))
     }
 }

@@ -9,8 +9,8 @@
 //! has received, in order of time, from the start: that is the invariant of the types [`Block`] and [`Look`]. Times are
 //! whole numbers in units of the stimulus's timescale.
 //!
-//! A [`LogicalProcess`] is a block that keeps the logs of those nets alone that other blocks read: its calls do the same, and take less time
-//! and memory. Once nothing is left to do it is [`Ended`]. What both have received and played is their `Kernel`.
+//! A block keeps the [`Logs`] of all its nets, or those of the nets alone that other blocks read: `Block<ReadLogs>`, whose calls do the same,
+//! and take less time and memory. What it has received and played is its `Kernel`, which knows nothing of logs.
 //!
 //! A block is a journal (`warp_engine`): what comes true and what gates put out stand in sequence, a rollback cuts ends and
 //! takes values back, and a saved state is a mark down to which the history is taken back. What it has received is `Heard`
@@ -19,20 +19,17 @@
 #![tactic(auto)]
 
 mod block;
-mod ended;
 mod ending;
 mod give;
 mod kernel;
 mod logs;
 mod look;
 mod play;
-mod process;
 mod rollback;
 
 pub use block::Block;
-pub use ended::Ended;
 pub use event_times::SAVE_EVERY;
+pub use logs::{AllLogs, Logs, ReadLogs};
 pub use look::Look;
-pub use process::LogicalProcess;
 pub use warp_part::Part;
 pub use warp_process::{BlockFault, Entry, MOST_HORIZON, Message, Sign};

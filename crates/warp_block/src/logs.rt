@@ -1,20 +1,138 @@
-//! The logs of a block: for each net of its part the list of the net's changes.
-ghost use Rattle.std.specs.Prelude.{◌≡◌, ◌<◌, ◌++◌, ◌∷◌, [], if◌then◌else◌, IfOk, OnOk, OnErr, length, map};
+//! The logs that a block keeps: for each net of its part, or for some, the list of the net's changes.
+ghost use Rattle.std.specs.Prelude.{◌≡◌, ◌<◌, ◌++◌, ◌∷◌, [], ℕ, List, true, if◌then◌else◌, IfOk, OnOk, OnErr, length, map, get_or};
 ghost use Rattle.std.specs.List.{All, filter, list_any};
+ghost use Rattle.gate_values.specs.declared.logic.Change.{Change};
 ghost use Rattle.gate_values.specs.Behaviour.{initial_of};
 ghost use Rattle.warp_stores.specs.declared.stop.TheConstants.{TIMES};
 ghost use Rattle.warp_stores.specs.Lists.{AreLonger};
-ghost use Rattle.warp_block.specs.Inner.Reads.{is_read, AreReadLonger};
-ghost use Rattle.warp_part.specs.Portion.{source_of};
+ghost use Rattle.warp_block.specs.Reads.{is_read, HaveRead};
+ghost use Rattle.warp_block.specs.Inner.Reads.{AreReadLonger};
+ghost use Rattle.warp_part.specs.Portion.{Portion, source_of};
 ghost use Rattle.warp_process.specs.Opening.{initial_log};
 
+use gate_values::Change;
 use part_engine::first_words;
 use std::alloc::{AllocError, Global};
 use warp_part::Part;
 use warp_stores::{Batch, Lists, Word};
 
+/// Lists of the changes of a part's nets, which a block keeps as it plays: of all nets, or of those alone that other blocks read.
+pub trait Logs: Drop {
+    /// They say of nets of a part what some logs do, as far as they are kept.
+    ghost keep: { Self → Portion → List (List Change) → Type 0 };
+
+    /// The logs of a part that has played nothing: of flip-flops what they begin with, where that is known. An error is a refused growth.
+    fn first(alloc: Global, part: &Part) -> Result<Self, AllocError>
+        ensures { IfOk result (λ logs. keep logs part.now (map (λ n. initial_log (initial_of (source_of part.now n))) part.now.nets)) };
+
+    /// Puts what a batch tells behind them, which then are as far as a mark. An error is a refused growth; then nothing is put.
+    fn lengthen(
+        &mut self,
+        part: &Part,
+        batch: &Batch<Word>,
+        mark: u64,
+        horizon: u64,
+    ) -> Result<(), AllocError>
+        requires kept { (logs : List (List Change)) × (length logs ≡ length part.now.nets) × keep self.old part.now logs }
+        requires there { All (λ d. d.1.place < length part.now.nets) batch.now }
+        requires times { All (λ d. d.0 < TIMES) batch.now }
+        ensures ok { OnOk result ((logs more : List (List Change)) → length logs ≡ length part.now.nets → keep self.old part.now logs → AreLonger batch.now logs more → keep self.new part.now more) }
+        ensures err { OnErr result ((logs : List (List Change)) → keep self.old part.now logs → keep self.new part.now logs) };
+
+    /// Takes back what a batch tells, which stands behind them.
+    fn shorten(&mut self, part: &Part, batch: &Batch<Word>)
+        requires kept { (logs : List (List Change)) × (length logs ≡ length part.now.nets) × keep self.old part.now logs }
+        requires there { All (λ d. d.1.place < length part.now.nets) batch.now }
+        ensures { (less logs : List (List Change)) → length less ≡ length part.now.nets → keep self.old part.now logs → AreLonger batch.now less logs → keep self.new part.now less };
+
+    /// The log of a place that other blocks read.
+    fn of_read(&self, part: &Part, place: usize) -> &[Change]
+        requires kept { (logs : List (List Change)) × (length logs ≡ length part.now.nets) × keep self.now part.now logs }
+        requires read { is_read part.now place ≡ true }
+        requires there { place < length part.now.nets }
+        ensures { (logs : List (List Change)) → keep self.now part.now logs → result.now ≡ get_or logs place [] };
+}
+
+/// The logs of all nets.
+#[derive(Debug, Drop)]
+pub struct AllLogs {
+    pub(crate) lists: Lists,
+}
+
+impl Logs for AllLogs {
+    ghost keep = { λ kept _ logs. kept.lists ≡ logs };
+
+    fn first(alloc: Global, part: &Part) -> Result<AllLogs, AllocError> {
+        let lists = first_logs(alloc, part)?;
+        Ok(AllLogs { lists })
+    }
+
+    fn lengthen(
+        &mut self,
+        _part: &Part,
+        batch: &Batch<Word>,
+        mark: u64,
+        horizon: u64,
+    ) -> Result<(), AllocError> {
+        log_more(&mut self.lists, batch, mark, horizon)
+    }
+
+    fn shorten(&mut self, _part: &Part, batch: &Batch<Word>) {
+        self.lists.shorten(batch.words())
+    }
+
+    fn of_read(&self, _part: &Part, place: usize) -> &[Change] {
+        self.lists.changes(place)
+    }
+}
+
+/// The logs of those nets alone that other blocks read. The batch is a place to work in.
+#[derive(Debug, Drop)]
+pub struct ReadLogs {
+    alloc: Global,
+    lists: Lists,
+    read: Batch<Word>,
+}
+
+impl Logs for ReadLogs {
+    ghost keep = { λ kept part logs. HaveRead part logs kept.lists };
+
+    fn first(alloc: Global, part: &Part) -> Result<ReadLogs, AllocError> {
+        let lists = first_logs(alloc, part)?;
+        let read = Batch::new(alloc);
+        Ok(ReadLogs { alloc, lists, read })
+    }
+
+    fn lengthen(
+        &mut self,
+        part: &Part,
+        batch: &Batch<Word>,
+        mark: u64,
+        horizon: u64,
+    ) -> Result<(), AllocError> {
+        log_read(
+            self.alloc,
+            part,
+            batch,
+            &mut self.read,
+            &mut self.lists,
+            mark,
+            horizon,
+        )
+    }
+
+    fn shorten(&mut self, part: &Part, batch: &Batch<Word>) {
+        part.law();
+        self.lists.shorten(batch.words());
+    }
+
+    fn of_read(&self, _part: &Part, place: usize) -> &[Change] {
+        self.lists.changes(place)
+    }
+}
+
 /// The logs of a part that has played nothing: of flip-flops what they begin with, where that is known. An error is a refused growth.
-pub(crate) fn first_logs(alloc: Global, part: &Part) -> Result<Lists, AllocError>
+fn first_logs(alloc: Global, part: &Part) -> Result<Lists, AllocError>
     ensures { IfOk result (λ lists. lists ≡ map (λ n. initial_log (initial_of (source_of part.now n))) part.now.nets) }
 {
     part.law();
@@ -26,7 +144,7 @@ pub(crate) fn first_logs(alloc: Global, part: &Part) -> Result<Lists, AllocError
 }
 
 /// Puts what a batch tells behind the logs, which then are as far as a mark. An error is a refused growth; then nothing is put.
-pub(crate) fn log_more(
+fn log_more(
     lists: &mut Lists,
     batch: &Batch<Word>,
     mark: u64,
@@ -42,7 +160,7 @@ pub(crate) fn log_more(
 
 /// Puts what a batch tells of places that other blocks read behind their lists. An error is a refused growth; then nothing is put. The other
 /// batch is a place to work in.
-pub(crate) fn log_read(
+fn log_read(
     alloc: Global,
     part: &Part,
     batch: &Batch<Word>,

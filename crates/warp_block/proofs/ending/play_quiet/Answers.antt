@@ -1,4 +1,4 @@
-use Rattle.std.proofs.Common.{◌≡◌, ◌∙◌, sym}
+use Rattle.std.proofs.Common.{◌∙◌, sym}
 use Rattle.warp_block.proofs.Stepping.{at_shown}
 use Rattle.warp_block.proofs.Outplayed.{none_quiet, none_done}
 use Rattle.warp_block.proofs.ending.play_quiet.Goals as goal

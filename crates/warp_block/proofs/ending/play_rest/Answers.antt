@@ -1,4 +1,4 @@
-use Rattle.std.proofs.Common.{◌≡◌, ◌≤◌, ◌∙◌, ℕ, false, sym, subst, arith}
+use Rattle.std.proofs.Common.{◌≡◌, ℕ, false, subst, arith}
 use Rattle.warp_process.specs.Played.{played_view}
 use Rattle.warp_process.specs.View.{is_busy}
 use Rattle.warp_block.proofs.Outplayed.{quiet_on}

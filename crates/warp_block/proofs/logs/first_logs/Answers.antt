@@ -1,4 +1,4 @@
-use Rattle.std.proofs.Common.{◌≡◌, ◌∙◌, ◌<◌, ℕ, List, [], length, replicate, map, ap, sym, subst}
+use Rattle.std.proofs.Common.{◌≡◌, ◌∙◌, ◌<◌, ℕ, List, [], length, replicate, ap, sym, subst}
 use Rattle.std.specs.List.{All}
 use Rattle.std.proofs.lemmas.List.{length-replicate}
 use Rattle.gate_values.specs.declared.logic.Change.{Change}
@@ -6,7 +6,6 @@ use Rattle.warp_stores.specs.Words.{Move}
 use Rattle.warp_stores.specs.Dated.{at}
 use Rattle.warp_stores.specs.Lists.{AreLonger}
 use Rattle.warp_part.specs.Portion.{Portion}
-use Rattle.part_engine.specs.FirstMoves.{AreFirstMoves}
 use Rattle.warp_block.proofs.Opening.{first_within, first_lists}
 use Rattle.warp_block.proofs.logs.first_logs.Goals as goal
 

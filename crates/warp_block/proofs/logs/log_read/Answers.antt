@@ -1,12 +1,12 @@
-use Rattle.std.proofs.Common.{◌≡◌, ◌∙◌, ◌<◌, ℕ, false, List, length, sym, subst, arith}
+use Rattle.std.proofs.Common.{◌≡◌, ◌∙◌, ◌<◌, ℕ, false, List, length, sym, subst}
 use Rattle.std.specs.List.{All, filter, list_any}
-use Rattle.gate_values.specs.declared.logic.Change.{Change}
 use Rattle.warp_stores.specs.Words.{Move}
 use Rattle.warp_stores.specs.Dated.{Dated}
 use Rattle.warp_stores.specs.Lists.{AreLonger}
 use Rattle.warp_engine.proofs.Running.{on_ok}
 use Rattle.warp_part.specs.Portion.{Portion}
-use Rattle.warp_block.specs.Inner.Reads.{is_read, AreReadLonger}
+use Rattle.warp_block.specs.Reads.{is_read}
+use Rattle.warp_block.specs.Inner.Reads.{AreReadLonger}
 use Rattle.warp_block.proofs.Shortening.{all_undated}
 use Rattle.warp_block.proofs.Reading.{read_longer, read_same, all_kept}
 use Rattle.warp_block.proofs.logs.log_read.Goals as goal

@@ -1,4 +1,4 @@
-use Rattle.std.proofs.Common.{◌≡◌, ◌∙◌, ◌≤◌, max, map, List, ap, sym, subst, arith}
+use Rattle.std.proofs.Common.{◌≡◌, ◌≤◌, map, sym, subst, arith}
 use Rattle.warp_engine.specs.Runs.{Run}
 use Rattle.warp_process.specs.Lawful.{lawful_log}
 use Rattle.warp_process.specs.View.{View, Process}

@@ -1,4 +1,0 @@
-use Rattle.warp_block.proofs.process.LogicalProcess.commit.Goals as goal
-
-pub returns-clause-refused : goal.returns-clause-refused
-returns-clause-refused c = rw (← c.self.view_is) c.commit.ensures.refused
