@@ -10,7 +10,7 @@ use Rattle.warp_process.specs.View.{Process}
 use Rattle.warp_core.specs.declared.gathering.findings.Finding.{Finding}
 use Rattle.warp_core.specs.Matched.{seen_at, IsBlockOf, IsToldAt, AreTold, EachBlock}
 use Rattle.warp_core.specs.Gather.{IsFirst, IsFirstBlock}
-use Rattle.warp_core.specs.Inner.Findings.{IsFinding, AreFound}
+use Rattle.warp_core.specs.Inner.Findings.{IsFinding, AreFound, AreOfCut}
 use Rattle.warp_core.proofs.Sweeping.{first_block}
 
 module _ (d : Design) (cut : Ownership) (g : Given) (horizon : ℕ) (blocks : List Process) where
@@ -34,8 +34,8 @@ module _ (d : Design) (cut : Ownership) (g : Given) (horizon : ℕ) (blocks : Li
   of_part : (b : ℕ) (f : Finding) → IsFinding d cut g horizon blocks b f → f.is_other ≡ false → IsBlockOf d cut horizon b (seen_at blocks b)
   of_part b f is none = subst (λ (o : Bool). MatchBool o (¬ IsBlockOf d cut horizon b (seen_at blocks b)) (IsBlockOf d cut horizon b (seen_at blocks b))) none is.part
 
-  told_all : (b : ℕ) (f : Finding) → IsFinding d cut g horizon blocks b f → f.untold ≡ None → AreTold cut g horizon blocks (seen_at blocks b)
-  told_all b f is none = subst (λ (o : Option ℕ). MatchOption o (AreTold cut g horizon blocks (seen_at blocks b)) (IsFirst (IsToldAt cut g horizon blocks (seen_at blocks b)))) none is.told
+  told_all : AreOfCut d cut horizon blocks → (b : ℕ) (f : Finding) → IsFinding d cut g horizon blocks b f → f.untold ≡ None → AreTold cut g horizon blocks (seen_at blocks b)
+  told_all of b f is none = subst (λ (o : Option ℕ). MatchOption o (AreTold cut g horizon blocks (seen_at blocks b)) (IsFirst (IsToldAt cut g horizon blocks (seen_at blocks b)))) none (is.told of)
 
   module _ (found : List Finding) (are : AreFound d cut g horizon blocks found) (n : ℕ) where
     module _ (before : (b : ℕ) (f : Finding) → b < n → (get_or found b f).is_other ≡ false) where
@@ -50,9 +50,9 @@ module _ (d : Design) (cut : Ownership) (g : Given) (horizon : ℕ) (blocks : Li
           first_block cut blocks (IsBlockOf d cut horizon) n within (λ b l. mine b (omega (arith, l, within)) l)
           (subst (λ (o : Bool). MatchBool o (¬ IsBlockOf d cut horizon n (seen_at blocks n)) (IsBlockOf d cut horizon n (seen_at blocks n))) other (are.each n blank within).part)
 
-    module _ (before : (b : ℕ) (f : Finding) → b < n → (get_or found b f).untold ≡ None) where
+    module _ (of : AreOfCut d cut horizon blocks) (before : (b : ℕ) (f : Finding) → b < n → (get_or found b f).untold ≡ None) where
       told : (b : ℕ) → b < cut.blocks → b < n → AreTold cut g horizon blocks (seen_at blocks b)
-      told b within l = told_all b (get_or found b blank) (are.each b blank within) (before b blank l)
+      told b within l = told_all of b (get_or found b blank) (are.each b blank within) (before b blank l)
 
       pub none_untold : cut.blocks ≤ n → EachBlock cut blocks (λ _ v. AreTold cut g horizon blocks v)
       none_untold all b l = told b l (omega (arith, l, all))
@@ -60,5 +60,5 @@ module _ (d : Design) (cut : Ownership) (g : Given) (horizon : ℕ) (blocks : Li
       pub first_untold : (net : ℕ) → n < cut.blocks → (get_or found n blank).untold ≡ Some net → IsFirstBlock cut blocks (λ _ v. AreTold cut g horizon blocks v) n × IsFirst (IsToldAt cut g horizon blocks (seen_at blocks n)) net
       first_untold net within some =
           let first : IsFirst (IsToldAt cut g horizon blocks (seen_at blocks n)) net =
-          subst (λ (o : Option ℕ). MatchOption o (AreTold cut g horizon blocks (seen_at blocks n)) (IsFirst (IsToldAt cut g horizon blocks (seen_at blocks n)))) some (are.each n blank within).told in
+          subst (λ (o : Option ℕ). MatchOption o (AreTold cut g horizon blocks (seen_at blocks n)) (IsFirst (IsToldAt cut g horizon blocks (seen_at blocks n)))) some ((are.each n blank within).told of) in
           (first_block cut blocks (λ _ v. AreTold cut g horizon blocks v) n within (λ b l. told b (omega (arith, l, within)) l) (λ all. first.fails (all net)), first)

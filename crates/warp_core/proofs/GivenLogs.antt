@@ -1,5 +1,5 @@
 -- What the lists hold after all blocks have given their logs.
-use Rattle.std.proofs.Common.{◌≡◌, ◌≢◌, ℕ, zero, suc, ◌+◌, ◌-◌, ◌<◌, ◌≤◌, true, false, cond, IfSome, IsTrue, Option, Some, None, List, [], ◌∷◌, length, inl, inr, refl, ap, sym, ◌∙◌, subst, arith, All}
+use Rattle.std.proofs.Common.{◌≡◌, ◌≢◌, ℕ, zero, suc, ◌+◌, ◌<◌, ◌≤◌, true, false, cond, IfSome, IsTrue, Option, Some, None, List, [], ◌∷◌, length, inl, inr, refl, ap, sym, ◌∙◌, subst, arith, All}
 use Rattle.std.proofs.lemmas.Bool.{cases_Bool, cases_lt, cond-true, cond-false, ne_eqb, true≢false}
 use Rattle.std.proofs.lemmas.List.{get_or_default, get_or_past}
 use Rattle.gate_values.specs.declared.logic.Change.{Change}
@@ -20,6 +20,9 @@ use Rattle.warp_core.specs.Gather.{AreCounted}
 use Rattle.warp_core.specs.Inner.Gather.{after_block, after_blocks, AreApart}
 use Rattle.warp_core.proofs.Parts.{owner_owns, other_owns}
 use Rattle.warp_core.proofs.Finished.{given_wave, log_wave}
+
+some_none : (o : ℕ) → ◌≡◌ {A = Option ℕ} (Some o) None → ⊥
+some_none o e = cc
 
 -- what one block gives
 pub after_one : (v : View) (old new : ℕ → List Change) → ((n : ℕ) → IsTrue (owns v.part n) → new n ≡ log_of v n) → ((n : ℕ) → owns v.part n ≡ false → new n ≡ old n)
@@ -88,6 +91,21 @@ module _ (d : Design) (cut : Ownership) (g : Given) (horizon : ℕ) (blocks : Li
           let l = owner_within n b e in
           after_own blocks lists n b (omega (arith, l, count)) (ap (λ (p : Portion). owns p n) (parts b l).part ∙ owner_owns d cut fits b n e)
           (λ c k apart. other_block n c k (ap (is_owner c) e ∙ ne_eqb b c (λ same. apart (sym same))))
+
+  -- so have lists that say it, where those before say nothing of others
+  pub waves_after : (before waves : List (List Change)) → length before ≡ nets_of d → length waves ≡ nets_of d
+      → ((n : ℕ) → n < nets_of d → owner_of cut n ≡ None → wave_of before n ≡ before_time (horizon + 1) (changes_of g n))
+      → ((n : ℕ) → n < nets_of d → wave_of waves n ≡ told_of cut g horizon blocks n) → (n : ℕ) → wave_of waves n ≡ after_blocks blocks (wave_of before) n
+  waves_after before waves short long given are n = elim (cases_lt n (nets_of d)) [
+    | inl within ↦ are n within ∙ sym (after_told (wave_of before) given n within)
+    | inr past ↦
+        get_or_past waves n [] (omega (arith, past, long))
+        ∙ sym (after_none blocks (wave_of before) n (λ b l. other_block n b l (unowned b past (owner_of cut n) refl)) ∙ get_or_past before n [] (omega (arith, past, short)))
+  ]
+    where
+      unowned : (b : ℕ) → nets_of d ≤ n → (o : Option ℕ) → owner_of cut n ≡ o → is_own cut b n ≡ false
+      unowned b past None e = ap (is_owner b) e
+      unowned b past (Some o) e = absurd (some_none o (sym e ∙ get_or_past cut.owners n None (let same = fits.nets in omega (arith, past, same))))
 
   -- no two blocks own a net
   pub blocks_apart : AreApart blocks

@@ -132,6 +132,15 @@ module _ (d : Design) (cut : Ownership) (fits : CutFits d cut) where
       some_same : (x y : ℕ) → ◌≡◌ {A = Option ℕ} (Some x) (Some y) → x ≡ y
       some_same x y e = cc
 
+  -- where a block reads a net of another one, the owner tells somebody
+  pub read_told : (b o n : ℕ) → b < cut.blocks → reads (part_of d cut b) n ≡ true → owner_of cut n ≡ Some o → readers_of (part_of d cut o) n ≡ [] → ⊥
+  read_told b o n below read owned none =
+      let there : is_some (slot_of (part_nets d cut b) n) ≡ true = (and_parts (is_some (slot_of (part_nets d cut b) n)) (not (owns (part_of d cut b) n)) read).0 in
+      let within : n < nets_of d = net_within d cut fits b n there in
+      let inner : is_input (part_of d cut b) n ≡ false = input_is b n there ∙ not_true (is_input_driver (driver_of d n)) (sym (fits.owned n within) ∙ ap is_some owned) in
+      let hear : hears (part_of d cut b) n ≡ true = and_from (reads (part_of d cut b) n) (not (is_input (part_of d cut b) n)) read (ap not inner) in
+      true≢false (sym (heard_told b o n below hear owned) ∙ ap (λ (rs : List ℕ). list_any (λ r. r == b) rs) none)
+
   pub told_heard : (c o n : ℕ) → list_any (λ r. r == c) (readers_of (part_of d cut o) n) ≡ true → (owner_of cut n ≡ Some o) × (c < cut.blocks) × (hears (part_of d cut c) n ≡ true)
   told_heard c o n h = elim (cases_Bool (is_own cut o n)) [
     | inl own ↦ (let owned = owner_of_own o (owner_of cut n) own in

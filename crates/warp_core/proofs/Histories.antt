@@ -1,11 +1,16 @@
 -- The changes that blocks' histories tell beside those that are given are the changes of the lists that have their logs.
 use Rattle.std.proofs.Common.{◌≡◌, ◌≢◌, ◌∙◌, ℕ, ◌+◌, ◌<◌, inl, inr, Bool, true, false, cond, ◌&&◌, nat_eq, Option, Some, None, IfSome, IfOk, Result, Ok, Err, List, [], ◌∷◌, ◌++◌, length, get_or, refl, ap, sym, subst, arith}
-use Rattle.std.proofs.lemmas.Bool.{cases_Bool, cases_lt, true≢false}
+use Rattle.std.proofs.lemmas.Bool.{cases_Bool, cases_lt, cond-true, cond-false, true≢false}
+use Rattle.std.specs.List.{All}
 use Rattle.std.proofs.lemmas.List.{get_or_past}
+use Rattle.std.proofs.lemmas.List.FromFn.{get_or-map-range_with_len, length-map-range_with_len}
 use Rattle.gate_values.specs.declared.logic.Change.{Change}
 use Rattle.gate_values.specs.declared.logic.Logic.TheVariants.{X}
 use Rattle.gate_values.specs.Behaviour.{Outside}
-use Rattle.gate_values.specs.Changes.{pair_at}
+use Rattle.gate_values.specs.Changes.{pair_at, changes}
+use Rattle.gate_netlist.specs.Circuit.{Design, nets_of}
+use Rattle.gate_netlist.specs.Cut.{Ownership}
+use Rattle.gate_vcd.specs.Given.{Given}
 use Rattle.std.specs.declared.alloc.AllocError.{AllocError}
 use Rattle.net_waves.specs.declared.timeline.Stop.{Stop}
 use Rattle.net_waves.specs.declared.by_time.ByTime.{ByTime}
@@ -20,14 +25,18 @@ use Rattle.warp_stores.specs.Words.{Move}
 use Rattle.warp_stores.specs.Dated.{Dated}
 use Rattle.warp_stores.specs.Lists.{changes_at}
 use Rattle.history_waves.specs.Histories.{own_stops}
-use Rattle.history_waves.specs.Stories.{Telling, AreAll}
+use Rattle.history_waves.specs.Stories.{Telling, AreAll, count_in}
 use Rattle.history_waves.proofs.Pending.{count_in-append}
 use Rattle.warp_part.specs.Portion.{IsPortion, slot_of, at_slot, is_driven, owns}
 use Rattle.warp_part.proofs.Slots.{slot_is, slot_at}
-use Rattle.warp_process.specs.View.{View, log_of}
+use Rattle.warp_process.specs.View.{View, Process, log_of}
 use Rattle.part_engine.specs.Histories.{TellLogs}
 use Rattle.warp_core.specs.OwnNets.{AreOwn}
-use Rattle.warp_core.specs.Inner.Gather.{has, AreTelling}
+use Rattle.warp_core.specs.Matched.{told_of}
+use Rattle.warp_core.specs.Values.{value_under, circuit_waves}
+use Rattle.warp_core.specs.Inner.Gather.{after_block, after_blocks, AreApart, IsStory, AreStories, has, AreTelling}
+use Rattle.warp_core.proofs.Finished.{log_wave}
+use Rattle.warp_core.proofs.GivenLogs.{none_rest}
 
 one_other : (s x : Stop) → s.net ≢ x.net → one s x ≡ 0
 one_other s x h = rw (eq_false s.net x.net h) (go (nat_eq s.time x.time))
@@ -129,6 +138,37 @@ module _ (v : View) (portion : IsPortion v.part) (own : List (Option ℕ)) (are 
         omega (arith, told s, more, is, count_in-append s tellings (record { own = own; words = words } ∷ [])))
   ]
 
+-- how often a list for each net has a change
+abbrev has_in : Stop → (ℕ → List Change) → ℕ
+has_in s lists = marked s.value (pair_at (lists s.net) s.time)
+
+-- the story of a block tells what comes to the lists that get its logs
+story_more : (p : Process) (t : Telling) → IsStory p.seen t → (before : ℕ → List Change) → ((n : ℕ) → owns p.seen.part n ≡ true → before n ≡ []) → (s : Stop)
+    → has_in s (after_block p.seen before) ≡ has_in s before + count s (own_stops t.own t.words)
+story_more p t is before none s = elim (cases_Bool (owns p.seen.part s.net)) [
+  | inl driven ↦ (
+      let empty : has_in s before ≡ 0 = ap (λ (cs : List Change). marked s.value (pair_at cs s.time)) (none s.net driven) in
+      let more = own_told p.seen is.lawful.part t.own is.own t.words is.words (λ n. (log_wave p.seen is.lawful n).0) s driven in
+      let after : has_in s (after_block p.seen before) ≡ marked s.value (pair_at (log_of p.seen s.net) s.time) = ap (λ (cs : List Change). marked s.value (pair_at cs s.time)) (cond-true (owns p.seen.part s.net) (log_of p.seen s.net) (before s.net) driven) in
+      omega (arith, empty, more, after))
+  | inr other ↦ (
+      let more = other_told p.seen is.lawful.part t.own is.own t.words is.words (λ n. (log_wave p.seen is.lawful n).0) s other in
+      let after : has_in s (after_block p.seen before) ≡ has_in s before = ap (λ (cs : List Change). marked s.value (pair_at cs s.time)) (cond-false (owns p.seen.part s.net) (log_of p.seen s.net) (before s.net) other) in
+      omega (arith, more, after))
+]
+
+-- so do the stories of all, of whom no two own a net
+pub stories_more : (ps : List Process) (ts : List Telling) → AreStories ps ts → AreApart ps → (before : ℕ → List Change) → All (λ (q : Process). (n : ℕ) → owns q.seen.part n ≡ true → before n ≡ []) ps → (s : Stop)
+    → has_in s (after_blocks ps before) ≡ has_in s before + count_in s ts
+stories_more [] [] are apart before none s = omega arith
+stories_more [] (t ∷ ts) are apart before none s = absurd are
+stories_more (p ∷ ps) [] are apart before none s = absurd are
+stories_more (p ∷ ps) (t ∷ ts) are apart before none s =
+    let first = story_more p t are.0 before (λ n own. none 0 p (omega arith) n own) s in
+    let rest = stories_more ps ts are.1 apart.1 (after_block p.seen before)
+    (none_rest p ps before (after_block p.seen before) apart none (λ n other. cond-false (owns p.seen.part n) (log_of p.seen n) (before n) other)) s in
+    omega (arith, first, rest)
+
 -- what is given, and what histories tell, are the changes of the lists that they tell of
 pub told_in_step : (before after : List (List Change)) (given all : List Stop) (tellings : List Telling) → AreStopsOf before given → AreTelling tellings before after → AreAll given tellings all → AreStopsOf after all
 told_in_step before after given all tellings step told both s = omega (arith, step s, told s, both s)
@@ -144,3 +184,12 @@ pub told_ok : (given : List Stop) (tellings : List Telling) (old new : List (Lis
     → (all : Result (Option ByTime) AllocError) → IfOk all (λ all. IfSome all (λ by_time. AreAll given tellings (stops_in by_time))) → IfOk all (λ all. IfSome all (λ by_time. AreStopsOf new (stops_in by_time)))
 told_ok given tellings old new step told (Ok all) both = told_when given tellings old new step told all both
 told_ok given tellings old new step told (Err error) both = tt
+
+-- where what is told of each net are the changes of its value, what is told by time are the circuit's changes
+pub told_circuit : (d : Design) (cut : Ownership) (g : Given) (horizon : ℕ) (blocks : List Process) (all : Option ByTime)
+    → IfSome all (λ by_time. (waves : List (List Change)) → length waves ≡ nets_of d → ((n : ℕ) → n < nets_of d → wave_of waves n ≡ told_of cut g horizon blocks n) → AreStopsOf waves (stops_in by_time))
+    → ((n : ℕ) → n < nets_of d → changes (value_under d g n) (horizon + 1) ≡ told_of cut g horizon blocks n) → IfSome all (λ by_time. AreStopsOf (circuit_waves d g horizon) (stops_in by_time))
+told_circuit d cut g horizon blocks None told are = tt
+told_circuit d cut g horizon blocks (Some by_time) told are =
+    told (circuit_waves d g horizon) (length-map-range_with_len (λ n. changes (value_under d g n) (horizon + 1)) 0 (nets_of d))
+    (λ n l. get_or-map-range_with_len (λ m. changes (value_under d g m) (horizon + 1)) 0 (nets_of d) n n [] l (omega arith) ∙ are n l)

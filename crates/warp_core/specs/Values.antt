@@ -1,5 +1,6 @@
 -- The values of a circuit under a stimulus.
-use Rattle.std.specs.Prelude.{◌≡◌, ℕ, ◌+◌, ◌<◌, List, length}
+use Rattle.std.specs.Prelude.{◌≡◌, ℕ, ◌+◌, ◌<◌, List, length, map}
+use Rattle.std.specs.List.{range_with_len}
 use Rattle.gate_values.specs.declared.logic.Logic.{Logic}
 use Rattle.gate_values.specs.declared.logic.Change.{Change}
 use Rattle.gate_values.specs.Behaviour.{value}
@@ -20,3 +21,7 @@ value_under d g n t = value (source_of d) (given_by g) n t
 pub record AreCircuitWaves (d : Design) (g : Given) (horizon : ℕ) (lists : List (List Change)) : Type 0 where
   pub nets : length lists ≡ nets_of d
   pub waves : (n : ℕ) → n < nets_of d → wave_of lists n ≡ changes (value_under d g n) (horizon + 1)
+
+-- that list for each net
+abbrev pub circuit_waves : Design → Given → ℕ → List (List Change)
+circuit_waves d g horizon = map (λ n. changes (value_under d g n) (horizon + 1)) (range_with_len 0 (nets_of d))

@@ -11,19 +11,21 @@ ghost use Rattle.warp_core.specs.Matched.{seen_at, EachBlock, AreMatched};
 ghost use Rattle.warp_core.specs.Gather.{AreCounted, IsFirstBlock, IsFault, IsGathered};
 ghost use Rattle.warp_core.specs.Inner.Findings.{AreFound};
 
+mod changes;
 mod entries;
 mod findings;
 mod told;
 mod waves;
 
 use crate::fault::GatherFault;
+pub use changes::gather_changes;
 use findings::Finding;
 use gate_netlist::{Circuit, Cut};
 use gate_vcd::Stimulus;
 use net_waves::Waves;
 use std::alloc::Global;
 use std::thread::Threads;
-use warp_block::Block;
+use warp_block::{Block, Logs};
 use waves::Gathered;
 pub use waves::{given_lists, own_nets};
 
@@ -120,11 +122,11 @@ fn gathered(
 }
 
 /// Whether blocks of which all is found are matched; if they aren't, why.
-fn check(cut: &Cut, blocks: &[Block], found: &[Finding]) -> Result<(), GatherFault>
+fn check<L: Logs>(cut: &Cut, blocks: &[Block<L>], found: &[Finding]) -> Result<(), GatherFault>
     requires count { AreCounted cut.now blocks.now }
     requires found { length found.now ≡ cut.now.blocks }
-    ensures matched { OnOk result ((d : _) (g : _) (horizon : ℕ) → AreFound d cut.now g horizon blocks.now found.now → AreMatched d cut.now g horizon blocks.now) }
-    ensures fault { IfErr result (λ f. (d : _) (g : _) (horizon : ℕ) → AreFound d cut.now g horizon blocks.now found.now → IsFault d cut.now g horizon blocks.now f) }
+    ensures matched { OnOk result ((d : _) (g : _) (horizon : ℕ) → CutFits d cut.now → AreFound d cut.now g horizon blocks.now found.now → AreMatched d cut.now g horizon blocks.now) }
+    ensures fault { IfErr result (λ f. (d : _) (g : _) (horizon : ℕ) → CutFits d cut.now → AreFound d cut.now g horizon blocks.now found.now → IsFault d cut.now g horizon blocks.now f) }
 {
     match findings::other_part(cut, found) {
         Some(block) => return Err(GatherFault::WrongPart { block }),
@@ -146,7 +148,7 @@ fn check(cut: &Cut, blocks: &[Block], found: &[Finding]) -> Result<(), GatherFau
 }
 
 /// What is true of every block.
-fn laws(blocks: &[Block])
+fn laws<L: Logs>(blocks: &[Block<L>])
     ensures { (b : ℕ) → b < length blocks.now → IsLawful (seen_at blocks.now b) }
 {
     for block in blocks {
@@ -155,7 +157,7 @@ fn laws(blocks: &[Block])
 }
 
 /// The first block that has an event time left.
-fn unfinished(cut: &Cut, blocks: &[Block]) -> Option<u32>
+fn unfinished<L: Logs>(cut: &Cut, blocks: &[Block<L>]) -> Option<u32>
     requires { AreCounted cut.now blocks.now }
     ensures { MatchOption result
         (EachBlock cut.now blocks.now (λ _ v. IsDone v))

@@ -29,6 +29,6 @@ mod world;
 pub use driver::{DriveFault, drive};
 pub use event::{Event, PlayFault};
 pub use fault::GatherFault;
-pub use gathering::{gather, gather_by, given_lists, own_nets};
+pub use gathering::{gather, gather_by, gather_changes, given_lists, own_nets};
 pub use schedule::{ScheduleCause, ScheduleFault, read_schedule, schedule_laws};
 pub use world::World;

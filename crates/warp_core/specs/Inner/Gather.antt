@@ -9,6 +9,9 @@ use Rattle.net_waves.specs.Waves.{wave_of}
 use Rattle.history_waves.specs.Stories.{Telling, count_in}
 use Rattle.warp_part.specs.Portion.{owns}
 use Rattle.warp_process.specs.View.{View, Process, log_of}
+use Rattle.warp_process.specs.Lawful.{IsLawful}
+use Rattle.part_engine.specs.Histories.{TellLogs}
+use Rattle.warp_core.specs.OwnNets.{AreOwn}
 
 -- the list of a net after a block has given its logs: its log of an own net, of others what was there
 abbrev pub after_block : View → (ℕ → List Change) → ℕ → List Change
@@ -23,6 +26,19 @@ after_blocks (p ∷ ps) lists = after_blocks ps (after_block p.seen lists)
 abbrev pub AreApart : List Process → Type 0
 AreApart [] = ⊤
 AreApart (p ∷ ps) = All (λ q. (n : ℕ) → owns p.seen.part n ≡ true → owns q.seen.part n ≡ false) ps × AreApart ps
+
+-- What is told of a block: its own nets, and what its history says of them.
+pub record IsStory (v : View) (t : Telling) : Type 0 where
+  pub lawful : IsLawful v
+  pub own : AreOwn v.part t.own
+  pub words : TellLogs v t.words
+
+-- one story of each of some blocks, in order
+abbrev pub AreStories : List Process → List Telling → Type 0
+AreStories [] [] = ⊤
+AreStories [] (t ∷ ts) = ⊥
+AreStories (p ∷ ps) [] = ⊥
+AreStories (p ∷ ps) (t ∷ ts) = IsStory p.seen t × AreStories ps ts
 
 -- how often lists have a change: once, or not at all
 abbrev pub has : Stop → List (List Change) → ℕ

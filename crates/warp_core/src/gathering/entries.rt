@@ -5,10 +5,10 @@ ghost use Rattle.warp_core.specs.Matched.{seen_at, AreSettled, EachBlock};
 ghost use Rattle.warp_core.specs.Gather.{AreCounted, IsFirstBlock, IsFirstUnsettled};
 
 use gate_netlist::Cut;
-use warp_block::Block;
+use warp_block::{Block, Logs};
 
 /// The first net of a block with an entry that isn't settled, and the first time of it.
-fn unsettled_entry(block: &Block) -> Option<(u32, u64)>
+fn unsettled_entry<L: Logs>(block: &Block<L>) -> Option<(u32, u64)>
     ensures { MatchOption result
         (AreSettled block.now.seen)
         (λ p. IsFirstUnsettled block.now.seen p.0 p.1) }
@@ -18,7 +18,7 @@ fn unsettled_entry(block: &Block) -> Option<(u32, u64)>
 }
 
 /// The first block, net and time whose entry isn't settled.
-pub(super) fn unsettled(cut: &Cut, blocks: &[Block]) -> Option<(u32, u32, u64)>
+pub(super) fn unsettled<L: Logs>(cut: &Cut, blocks: &[Block<L>]) -> Option<(u32, u32, u64)>
     requires { AreCounted cut.now blocks.now }
     ensures { MatchOption result
         (EachBlock cut.now blocks.now (λ _ v. AreSettled v))

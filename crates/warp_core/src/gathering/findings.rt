@@ -5,7 +5,7 @@ ghost use Rattle.gate_netlist.specs.Circuit.{CutFits};
 ghost use Rattle.warp_process.specs.Limits.{most_horizon};
 ghost use Rattle.warp_core.specs.Matched.{seen_at, IsBlockOf, IsToldAt, AreTold, EachBlock};
 ghost use Rattle.warp_core.specs.Gather.{AreCounted, IsFirst, IsFirstBlock};
-ghost use Rattle.warp_core.specs.Inner.Findings.{IsFinding, AreFound};
+ghost use Rattle.warp_core.specs.Inner.Findings.{IsFinding, AreFound, AreOfCut};
 
 use super::told::untold_net;
 use gate_netlist::{Circuit, Cut};
@@ -13,7 +13,7 @@ use gate_vcd::Stimulus;
 use std::alloc::{AllocError, Global};
 use std::thread;
 use std::thread::Threads;
-use warp_block::{Block, Part};
+use warp_block::{Block, Logs, Part};
 
 /// What is found of a block.
 #[derive(Clone, Copy)]
@@ -25,20 +25,20 @@ pub(super) struct Finding {
 }
 
 /// Whether a block is of a part, and goes up to a horizon.
-fn is_of(block: &Block, part: &Part, horizon: u64) -> bool
+fn is_of<L: Logs>(block: &Block<L>, part: &Part, horizon: u64) -> bool
     ensures { IsTrue result ↔ ((block.now.seen.part ≡ part.now) × (block.now.seen.horizon ≡ horizon)) }
 {
     *block.part() == *part && block.horizon() == horizon
 }
 
 /// What is found of the block of a number. An error is a refused growth.
-fn finding_of(
+fn finding_of<L: Logs>(
     alloc: Global,
     circuit: &Circuit,
     cut: &Cut,
     stimulus: &Stimulus,
     horizon: u64,
-    blocks: &[Block],
+    blocks: &[Block<L>],
     number: u32,
 ) -> Result<Finding, AllocError>
     requires cut { CutFits circuit.now cut.now }
@@ -49,7 +49,7 @@ fn finding_of(
 {
     let block = &blocks[number as usize];
     let part = Part::of(alloc, circuit, cut, number)?;
-    let untold = untold_net(cut, stimulus, horizon, blocks, block)?;
+    let untold = untold_net(cut, stimulus, horizon, blocks, number)?;
     Ok(Finding {
         is_other: !is_of(block, &part, horizon),
         untold,
@@ -57,13 +57,13 @@ fn finding_of(
 }
 
 /// What is found of each block, one after another. An error is a refused growth.
-pub(super) fn find(
+pub(super) fn find<L: Logs>(
     alloc: Global,
     circuit: &Circuit,
     cut: &Cut,
     stimulus: &Stimulus,
     horizon: u64,
-    blocks: &[Block],
+    blocks: &[Block<L>],
 ) -> Result<Vec<Finding>, AllocError>
     requires cut { CutFits circuit.now cut.now }
     requires count { AreCounted cut.now blocks.now }
@@ -79,7 +79,7 @@ pub(super) fn find(
 }
 
 /// What is found of each block, by up to `workers` threads side by side. An error is a refused growth.
-pub(super) fn find_by<R: Threads + Sync>(
+pub(super) fn find_by<L: Logs + Sync, R: Threads + Sync>(
     rt: &R,
     alloc: Global,
     workers: u32,
@@ -87,7 +87,7 @@ pub(super) fn find_by<R: Threads + Sync>(
     cut: &Cut,
     stimulus: &Stimulus,
     horizon: u64,
-    blocks: &[Block],
+    blocks: &[Block<L>],
 ) -> Result<Vec<Finding>, AllocError>
     requires workers { 1 ≤ workers }
     requires cut { CutFits circuit.now cut.now }
@@ -144,10 +144,10 @@ pub(super) fn other_part(cut: &Cut, found: &[Finding]) -> Option<u32>
     None
 }
 
-/// The first block, and net that it reads, that wasn't told as the net's owner, or the stimulus, says.
+/// The first block, and net that it reads, that wasn't told as the net's owner, or the stimulus, says, of blocks of a cut circuit.
 pub(super) fn untold(cut: &Cut, found: &[Finding]) -> Option<(u32, u32)>
     requires { length found.now ≡ cut.now.blocks }
-    ensures { (d : _) (g : _) (horizon : ℕ) (blocks : _) → AreFound d cut.now g horizon blocks found.now → MatchOption result
+    ensures { (d : _) (g : _) (horizon : ℕ) (blocks : _) → AreFound d cut.now g horizon blocks found.now → AreOfCut d cut.now horizon blocks → MatchOption result
         (EachBlock cut.now blocks (λ _ v. AreTold cut.now g horizon blocks v))
         (λ p. IsFirstBlock cut.now blocks (λ _ v. AreTold cut.now g horizon blocks v) p.0
         × IsFirst (IsToldAt cut.now g horizon blocks (seen_at blocks p.0)) p.1) }

@@ -10,11 +10,11 @@ use Rattle.warp_core.proofs.gathering.gathered.Goals as goal
 pub returns-in_err-check-clause-fault : goal.returns-in_err-check-clause-fault
 returns-in_err-check-clause-fault c =
     let p = err_from_is_err_and c.from_residual.result c.from_residual.ensures.1 in
-    rw (p.1, p.2) (rw c.as_slice.ensures.value at c.in_err-check.ensures.fault c.args.circuit.now c.args.stimulus.now c.args.horizon (rw c.as_slice-2.ensures.value c.requires.found))
+    rw (p.1, p.2) (rw c.as_slice.ensures.value at c.in_err-check.ensures.fault c.args.circuit.now c.args.stimulus.now c.args.horizon c.requires.cut (rw c.as_slice-2.ensures.value c.requires.found))
 
 pub lists_of-requires-clause-parts : goal.lists_of-requires-clause-parts
 lists_of-requires-clause-parts c =
-    (rw c.as_slice.ensures.value at c.in_ok-check.ensures.matched c.args.circuit.now c.args.stimulus.now c.args.horizon (rw c.as_slice-2.ensures.value c.requires.found)).parts
+    (rw c.as_slice.ensures.value at c.in_ok-check.ensures.matched c.args.circuit.now c.args.stimulus.now c.args.horizon c.requires.cut (rw c.as_slice-2.ensures.value c.requires.found)).parts
 
 pub lists_of-requires-clause-told : goal.lists_of-requires-clause-told
 lists_of-requires-clause-told c =
@@ -22,7 +22,7 @@ lists_of-requires-clause-told c =
     let cut = c.args.cut.now in
     let g = c.args.stimulus.now in
     let blocks = c.args.blocks.items in
-    let matched : AreMatched d cut g c.args.horizon blocks = rw c.as_slice.ensures.value at c.in_ok-check.ensures.matched d g c.args.horizon (rw c.as_slice-2.ensures.value c.requires.found) in
+    let matched : AreMatched d cut g c.args.horizon blocks = rw c.as_slice.ensures.value at c.in_ok-check.ensures.matched d g c.args.horizon c.requires.cut (rw c.as_slice-2.ensures.value c.requires.found) in
     let each = rw c.as_slice-3.ensures.value at c.laws.ensures in
     let lawful : EachBlock cut blocks (λ _ v. IsLawful v) = λ b l. each b (omega (arith, l, matched.count)) in
     told_wave d cut g c.args.horizon blocks c.requires.cut c.law.ensures matched.count matched.parts c.requires.horizon c.law-2.ensures lawful
@@ -33,7 +33,7 @@ returns-clause-gathered c =
     let cut = c.args.cut.now in
     let g = c.args.stimulus.now in
     let blocks = c.args.blocks.items in
-    let matched : AreMatched d cut g c.args.horizon blocks = rw c.as_slice.ensures.value at c.in_ok-check.ensures.matched d g c.args.horizon (rw c.as_slice-2.ensures.value c.requires.found) in
+    let matched : AreMatched d cut g c.args.horizon blocks = rw c.as_slice.ensures.value at c.in_ok-check.ensures.matched d g c.args.horizon c.requires.cut (rw c.as_slice-2.ensures.value c.requires.found) in
     let each = rw c.as_slice-3.ensures.value at c.laws.ensures in
     let lawful : EachBlock cut blocks (λ _ v. IsLawful v) = λ b l. each b (omega (arith, l, matched.count)) in (
       matched,

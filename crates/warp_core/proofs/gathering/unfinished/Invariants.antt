@@ -4,4 +4,4 @@ use Rattle.warp_core.specs.Matched.{seen_at}
 use Rattle.warp_core.proofs.gathering.unfinished.Given as goal
 
 abbrev pub invariant-loop-block : goal.invariant-loop-block
-invariant-loop-block l = (b : ℕ) → b < l.block → IsDone (seen_at l.blocks b)
+invariant-loop-block g l = (b : ℕ) → b < l.block → IsDone (seen_at l.blocks b)

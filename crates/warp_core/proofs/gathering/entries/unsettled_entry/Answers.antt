@@ -14,4 +14,4 @@ either v lawful None none some = none_unsettled v lawful none
 either v lawful (Some p) none some = first_unsettled v lawful p.0 p.1 some
 
 pub returns : goal.returns
-returns c = either c.args.block.now.seen c.law.ensures.seen c.first_unsettled.result c.first_unsettled.ensures.none c.first_unsettled.ensures.some
+returns g c = either c.args.block.now.seen c.law.ensures.seen c.first_unsettled.result c.first_unsettled.ensures.none c.first_unsettled.ensures.some

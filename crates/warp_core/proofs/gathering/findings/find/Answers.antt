@@ -3,7 +3,7 @@ use Rattle.warp_core.proofs.Finding.{found_more}
 use Rattle.warp_core.proofs.gathering.findings.find.Goals as goal
 
 pub loop-number-preserved : goal.loop-number-preserved
-loop-number-preserved c =
+loop-number-preserved g c =
     let h = c.loop-number.invariant in
     record {
       count = omega (arith, h.count, c.in_ok-push.ensures.len);
@@ -12,7 +12,7 @@ loop-number-preserved c =
     }
 
 pub returns : goal.returns
-returns c =
+returns g c =
     let h = c.loop-number.invariant in
     record {
       count = omega (arith, h.count, c.loop-number.found.ok.0, c.loop-number-test.false);

@@ -5,7 +5,7 @@ use Rattle.warp_core.proofs.gathering.findings.find.Given as goal
 
 -- so many blocks have been looked at
 abbrev pub invariant-loop-number : goal.invariant-loop-number
-invariant-loop-number l = record {
+invariant-loop-number g l = record {
   count : vec_len l.found ≡ l.number;
   each : (b : ℕ) (f : Finding) → b < l.number → IsFinding l.circuit l.cut l.stimulus l.horizon l.blocks b (get_or l.found.items b f);
 }
