@@ -10,7 +10,7 @@ ghost use Rattle.warp_process.specs.Commit.{IsCommittable, IsCommitted, IsCommit
 ghost use Rattle.warp_process.specs.Sends.{SendsOnce};
 ghost use Rattle.warp_rounds.specs.Counts.{IsCounted};
 
-use warp_block::{Block, BlockFault, Message};
+use warp_block::{Block, BlockFault, Logs, Message};
 
 /// What is counted of a block's turns. The event times from `since` on count; in a run these are all. A count that is full
 /// stays so, but that of the steps: where it would be passed, what was taken back until then is forgotten.
@@ -59,7 +59,7 @@ impl Counts {
     }
 
     /// What is known of a block that has taken no turn yet. It counts from the block's floor on.
-    pub(crate) fn of(block: &Block) -> Counts
+    pub(crate) fn of<L: Logs>(block: &Block<L>) -> Counts
         ensures { IsCounted block.now.seen result }
     {
         block.law();
@@ -117,7 +117,7 @@ impl Counts {
 }
 
 /// How many event times from a time on a block has finished; none are sought where that isn't before its mark.
-fn finished_after(block: &Block, time: u64) -> u64
+fn finished_after<L: Logs>(block: &Block<L>, time: u64) -> u64
     ensures { block.now.seen.floor ≤ time → time < block.now.seen.mark → result ≡ busy_times block.now.seen time block.now.seen.mark }
 {
     if block.floor() <= time && time < block.mark() {
@@ -127,8 +127,8 @@ fn finished_after(block: &Block, time: u64) -> u64
 }
 
 /// Receives a message, as [`Block::receive`] does, and counts what it takes back.
-pub(crate) fn receive(
-    block: &mut Block,
+pub(crate) fn receive<L: Logs>(
+    block: &mut Block<L>,
     counts: &mut Counts,
     message: Message,
     out: &mut Vec<Message>,
@@ -160,7 +160,11 @@ pub(crate) fn receive(
 }
 
 /// Commits what is below a floor, as [`Block::commit`] does: the counts stay.
-pub(crate) fn commit(block: &mut Block, counts: &Counts, floor: u64) -> Result<(), BlockFault>
+pub(crate) fn commit<L: Logs>(
+    block: &mut Block<L>,
+    counts: &Counts,
+    floor: u64,
+) -> Result<(), BlockFault>
     requires counted { IsCounted block.old.seen counts.now }
     ensures counted { IsCounted block.new.seen counts.now }
     ensures ok { OnOk result (IsCommitted block.old block.new floor) }
@@ -181,8 +185,8 @@ pub(crate) fn commit(block: &mut Block, counts: &Counts, floor: u64) -> Result<(
 }
 
 /// Finishes event times, as [`Block::advance`] does, and counts them.
-pub(crate) fn advance(
-    block: &mut Block,
+pub(crate) fn advance<L: Logs>(
+    block: &mut Block<L>,
     counts: &mut Counts,
     steps: u32,
     out: &mut Vec<Message>,

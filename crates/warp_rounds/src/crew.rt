@@ -14,6 +14,7 @@ use std::alloc::Global;
 use std::sync::atomic::AtomicU64;
 use std::sync::atomic::Ordering::SeqCst;
 use std::sync::{Condvar, Mutex, Wait};
+use warp_block::Logs;
 
 /// What lies under the lock of a crew.
 #[derive(Drop)]
@@ -78,13 +79,13 @@ impl Crew {
 
     /// Plays a round of so many draws by all workers, the first in the caller's thread. It tells nothing where another one met a fault,
     /// which is handed back by that worker at the end.
-    pub(crate) fn play_round<G: Gate, R: Wait>(
+    pub(crate) fn play_round<L: Logs, G: Gate<L>, R: Wait>(
         &self,
         rt: &R,
         alloc: Global,
         draws: u32,
         order: Order,
-        sites: &[Site],
+        sites: &[Site<L>],
         desk: &mut Desk,
         gate: &G,
     ) -> Result<Option<Played>, RunFault>
@@ -163,12 +164,12 @@ impl Crew {
     }
 
     /// Plays a round at a place until no block is left, or a fault is met: a turn's, or that it told a time that isn't past the floor.
-    fn play_out<G: Gate, R: Wait>(
+    fn play_out<L: Logs, G: Gate<L>, R: Wait>(
         &self,
         rt: &R,
         place: usize,
         order: Order,
-        sites: &[Site],
+        sites: &[Site<L>],
         desk: &mut Desk,
         gate: &G,
     ) -> Result<(), RunFault>
@@ -211,12 +212,12 @@ impl Crew {
     }
 
     /// A worker at a place plays round after round, until there are no more, or it meets a fault.
-    pub(crate) fn stay<G: Gate, R: Wait>(
+    pub(crate) fn stay<L: Logs, G: Gate<L>, R: Wait>(
         &self,
         rt: &R,
         alloc: Global,
         place: usize,
-        sites: &[Site],
+        sites: &[Site<L>],
         term: Term,
         gate: &G,
     ) -> Result<(), RunFault>
@@ -250,9 +251,9 @@ impl Crew {
 
 /// Lets the block that a number stands for take a turn, and some near it, as [`play_drawn`] does. Where they tell a time that isn't past
 /// the floor, the round stalled.
-fn play_past<G: Gate, R: Wait>(
+fn play_past<L: Logs, G: Gate<L>, R: Wait>(
     rt: &R,
-    sites: &[Site],
+    sites: &[Site<L>],
     number: u32,
     desk: &mut Desk,
     order: Order,
@@ -281,9 +282,9 @@ fn play_past<G: Gate, R: Wait>(
 }
 
 /// Lets the blocks that some numbers stand for take their turns, one after another.
-fn play_some<G: Gate, R: Wait>(
+fn play_some<L: Logs, G: Gate<L>, R: Wait>(
     rt: &R,
-    sites: &[Site],
+    sites: &[Site<L>],
     drawn: Drawn,
     desk: &mut Desk,
     order: Order,

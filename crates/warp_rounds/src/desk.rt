@@ -7,7 +7,7 @@ use crate::fault::RunFault;
 use crate::site::Site;
 use std::alloc::{AllocError, Global};
 use std::sync::Wait;
-use warp_block::{BlockFault, Message};
+use warp_block::{BlockFault, Logs, Message};
 
 /// Lists for messages, which keep their memory.
 #[derive(Drop)]
@@ -35,7 +35,7 @@ impl Desk {
     /// inbox's lock once. After that nothing is left to be sent.
     ///
     /// A message for a block that isn't there is refused, as each other block would refuse it. Then nothing is put.
-    pub fn deliver<R: Wait>(&mut self, rt: &R, sites: &[Site]) -> Result<(), RunFault>
+    pub fn deliver<L: Logs, R: Wait>(&mut self, rt: &R, sites: &[Site<L>]) -> Result<(), RunFault>
         ensures there { OnOk result (AreThere (length sites.now) self.old.sent.items) }
         ensures done { OnOk result (self.new.sent.items ≡ []) }
         ensures fault { IfErr result (IsUndelivered (length sites.now) self.old.sent.items) }
@@ -81,9 +81,9 @@ fn sort_out(
 }
 
 // Puts the list of a block into its inbox, and empties it.
-fn put_list<R: Wait>(
+fn put_list<L: Logs, R: Wait>(
     rt: &R,
-    sites: &[Site],
+    sites: &[Site<L>],
     block: usize,
     lists: &mut Vec<Vec<Message>>,
 ) -> Result<(), AllocError> {

@@ -9,6 +9,7 @@ use crate::gate::Gate;
 use crate::pace::{Pace, Reach, Tally};
 use crate::site::Site;
 use std::sync::Wait;
+use warp_block::Logs;
 
 /// So many blocks are looked at for a draw at most.
 const LOOKS: u32 = 1 << 10;
@@ -40,9 +41,9 @@ impl Played {
 /// Lets a block take a turn for a number, in the first lap the one that the number stands for, and where that is short, so do the blocks
 /// of its group that have something to do, again and again. What they send is delivered. As a lap begins, all are asked how far they have
 /// come.
-pub(crate) fn play_drawn<G: Gate, R: Wait>(
+pub(crate) fn play_drawn<L: Logs, G: Gate<L>, R: Wait>(
     rt: &R,
-    sites: &[Site],
+    sites: &[Site<L>],
     number: u32,
     desk: &mut Desk,
     floor: u64,
@@ -86,7 +87,7 @@ fn block_of(number: u32, blocks: usize) -> usize
 
 // The block that takes a turn for a number that all have been drawn before: from the worker's home on the first that has something to do,
 // of some. Where none of these has, it's the number's own, or one that nobody visits.
-fn busy(sites: &[Site], own: usize, floor: u64, pace: &Pace<'_>) -> usize
+fn busy<L: Logs>(sites: &[Site<L>], own: usize, floor: u64, pace: &Pace<'_>) -> usize
     requires { own < length sites.now }
     ensures { result < length sites.now }
 {
@@ -106,7 +107,7 @@ fn busy(sites: &[Site], own: usize, floor: u64, pace: &Pace<'_>) -> usize
 }
 
 // Claims a group of blocks: that of a block, or where another worker has it, one of the next. The answer is its first block.
-fn claimed(sites: &[Site], block: usize, group: usize) -> Option<usize>
+fn claimed<L: Logs>(sites: &[Site<L>], block: usize, group: usize) -> Option<usize>
     ensures { IfSome result (λ first. first < length sites.now) }
 {
     let group = group.max(1);
@@ -125,9 +126,9 @@ fn claimed(sites: &[Site], block: usize, group: usize) -> Option<usize>
 
 // Lets the blocks of a group take short turns, as long as one of them has something to do within the pace's reach, and all turns are
 // short, those before included.
-fn go_over<G: Gate, R: Wait>(
+fn go_over<L: Logs, G: Gate<L>, R: Wait>(
     rt: &R,
-    sites: &[Site],
+    sites: &[Site<L>],
     first: usize,
     before: Played,
     desk: &mut Desk,
@@ -166,9 +167,9 @@ fn idle_after(idle: usize, before: Played, after: Played) -> usize {
 }
 
 // Lets a block take a short turn, if it has something to do within the pace's reach. The answer is of this turn and those before.
-fn play_near<G: Gate, R: Wait>(
+fn play_near<L: Logs, G: Gate<L>, R: Wait>(
     rt: &R,
-    sites: &[Site],
+    sites: &[Site<L>],
     block: usize,
     before: Played,
     desk: &mut Desk,
@@ -207,9 +208,9 @@ fn after(block: usize, first: usize, end: usize, blocks: usize) -> usize
 // Lets a block take a turn, and delivers what it sent. The block's lock is kept until it is delivered, and so long the visit is under way:
 // else who visits the block next, or finds that nobody visits it, could say that all that it told is in the inboxes while this worker is
 // held up and what it sent isn't.
-fn play<G: Gate, R: Wait>(
+fn play<L: Logs, G: Gate<L>, R: Wait>(
     rt: &R,
-    sites: &[Site],
+    sites: &[Site<L>],
     block: usize,
     desk: &mut Desk,
     floor: u64,

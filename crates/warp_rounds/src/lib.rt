@@ -22,6 +22,7 @@
 //! does to a seat.
 #![tactic(auto)]
 
+mod changes;
 mod counts;
 mod crew;
 mod desk;
@@ -39,6 +40,7 @@ mod turns;
 mod watch;
 mod work;
 
+pub use changes::run_changes;
 pub use counts::{Counts, RunCounts};
 pub use fault::RunFault;
 pub use gate::{Gate, NoGate};

@@ -9,7 +9,7 @@ use gate_netlist::{Circuit, Cut};
 use std::alloc::{AllocError, Global};
 use std::sync::atomic::AtomicU64;
 use std::sync::atomic::Ordering::SeqCst;
-use warp_block::Part;
+use warp_block::{Logs, Part};
 
 /// How far above the floor blocks go in the first round.
 const FIRST: u64 = 8;
@@ -404,7 +404,7 @@ impl<'a> Pace<'a> {
     }
 
     /// Asks all blocks how far they have come.
-    pub(crate) fn meet(&self, sites: &[Site]) {
+    pub(crate) fn meet<L: Logs>(&self, sites: &[Site<L>]) {
         let mut front = u64::MAX;
         for site in sites {
             front = front.min(site.signs().settled());

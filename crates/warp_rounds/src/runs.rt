@@ -30,7 +30,7 @@ use std::alloc::{AllocError, Global};
 use std::sync::Wait;
 use std::thread;
 use std::thread::{Promise, PromisedHandle, Threads};
-use warp_block::{Block, Message, Part};
+use warp_block::{AllLogs, Block, Logs, Message, Part};
 use warp_core::gather_by;
 
 /// The waves of a circuit under a stimulus, from time 0 to the horizon, which is at most 10^12. The blocks of the cut are
@@ -45,7 +45,7 @@ use warp_core::gather_by;
 /// gathered, up to `workers` threads looking at them side by side. The answer of a run that ends without a fault is the
 /// waves of the circuit's values, whatever the threads did; that a run ends, and without a fault, is not promised. Each fault tells
 /// where it comes from: want of memory is in no other one, and a block's and a stall are those of a visit at a floor up to the horizon.
-pub fn run<G: Gate + Sync, R: Threads + Wait + Sync>(
+pub fn run<G: Gate<AllLogs> + Sync, R: Threads + Wait + Sync>(
     rt: &R,
     alloc: Global,
     circuit: &Circuit,
@@ -91,7 +91,7 @@ pub struct Watched {
 /// A run, as [`run`] plays it, that is watched: after each round it is told the floor that it led to, and what its blocks did is
 /// counted. Of the event times of each block that its turns finished, those that weren't taken back are those of the block whose
 /// log is that of the circuit's values.
-pub fn run_watched<G: Gate + Sync, W: Watch, R: Threads + Wait + Sync>(
+pub fn run_watched<G: Gate<AllLogs> + Sync, W: Watch, R: Threads + Wait + Sync>(
     rt: &R,
     alloc: Global,
     circuit: &Circuit,
@@ -138,20 +138,20 @@ pub fn run_watched<G: Gate + Sync, W: Watch, R: Threads + Wait + Sync>(
 
 // A block behind its locks, and what it sends at the start.
 #[derive(Drop)]
-struct Made {
-    site: Site,
+struct Made<L: Logs> {
+    site: Site<L>,
     sent: Vec<Message>,
 }
 
 // The block of a number. What it sends is for blocks of the cut.
-fn made_of(
+fn made_of<L: Logs>(
     alloc: Global,
     circuit: &Circuit,
     cut: &Cut,
     stimulus: &Stimulus,
     horizon: u64,
     number: u32,
-) -> Result<Made, AllocError>
+) -> Result<Made<L>, AllocError>
     requires cut { CutFits circuit.now cut.now }
     requires horizon { horizon ≤ most_horizon }
     requires number { number < cut.now.blocks }
@@ -160,13 +160,13 @@ fn made_of(
     let part = Part::of(alloc, circuit, cut, number)?;
     let tellers = tellers_of(alloc, circuit, cut, &part)?;
     let mut sent = Vec::new(alloc);
-    let block = Block::new(alloc, part, stimulus, horizon, &mut sent)?;
+    let block = Block::<L>::open(alloc, part, stimulus, horizon, &mut sent)?;
     let site = Site::told_by(alloc, block, tellers, sent.len());
     Ok(Made { site, sent })
 }
 
 // The blocks of a cut, made by up to `workers` threads side by side, at least one; none stands for a refused growth.
-fn made_by<R: Threads + Sync>(
+fn made_by<L: Logs + Send, R: Threads + Sync>(
     rt: &R,
     alloc: Global,
     workers: u32,
@@ -174,7 +174,7 @@ fn made_by<R: Threads + Sync>(
     cut: &Cut,
     stimulus: &Stimulus,
     horizon: u64,
-) -> Result<Vec<Option<Made>>, AllocError>
+) -> Result<Vec<Option<Made<L>>>, AllocError>
     requires workers { 1 ≤ workers }
     requires cut { CutFits circuit.now cut.now }
     requires horizon { horizon ≤ most_horizon }
@@ -190,7 +190,7 @@ fn made_by<R: Threads + Sync>(
         rt,
         made.as_mut_slice(),
         workers as usize,
-        &|place: usize, made: &mut Option<Made>|
+        &|place: usize, made: &mut Option<Made<L>>|
             requires { (place < cut.now.blocks) × CutFits circuit.now cut.now × (horizon ≤ most_horizon) }
             ensures { IfSome made.exit.now (λ one. AreThere cut.entry.now.blocks one.sent.items) }
         {
@@ -204,7 +204,7 @@ fn made_by<R: Threads + Sync>(
 }
 
 // The blocks of a cut, each behind its locks; what they send at the start is in the inboxes.
-fn sites_of<R: Threads + Wait + Sync>(
+pub(crate) fn sites_of<L: Logs + Send, R: Threads + Wait + Sync>(
     rt: &R,
     alloc: Global,
     workers: u32,
@@ -212,7 +212,7 @@ fn sites_of<R: Threads + Wait + Sync>(
     cut: &Cut,
     stimulus: &Stimulus,
     horizon: u64,
-) -> Result<Vec<Site>, RunFault>
+) -> Result<Vec<Site<L>>, RunFault>
     requires workers { 1 ≤ workers }
     requires cut { CutFits circuit.now cut.now }
     requires horizon { horizon ≤ most_horizon }
@@ -235,10 +235,10 @@ fn sites_of<R: Threads + Wait + Sync>(
 
 // Plays rounds until the floor is past the horizon, and answers how many. One worker plays all in the caller's thread; of more each other
 // one has a thread of its own, which stays for all rounds.
-fn play_rounds<G: Gate + Sync, W: Watch, R: Threads + Wait + Sync>(
+pub(crate) fn play_rounds<L: Logs + Send, G: Gate<L> + Sync, W: Watch, R: Threads + Wait + Sync>(
     rt: &R,
     alloc: Global,
-    sites: &[Site],
+    sites: &[Site<L>],
     horizon: u64,
     workers: u32,
     window: u32,
@@ -294,11 +294,11 @@ fn play_rounds<G: Gate + Sync, W: Watch, R: Threads + Wait + Sync>(
 
 // Plays rounds until the floor is past the horizon: by all workers, but by one alone where the round before had little work, or
 // nearly all of it in one turn. The answer is how many; it is none where another worker met a fault, which that one hands back.
-fn rounds_of<G: Gate + Sync, W: Watch, R: Threads + Wait + Sync>(
+fn rounds_of<L: Logs, G: Gate<L> + Sync, W: Watch, R: Threads + Wait + Sync>(
     rt: &R,
     alloc: Global,
     crew: &Crew,
-    sites: &[Site],
+    sites: &[Site<L>],
     term: Term,
     gate: &G,
     watch: &mut W,
@@ -340,12 +340,12 @@ fn rounds_of<G: Gate + Sync, W: Watch, R: Threads + Wait + Sync>(
 }
 
 // Plays a round: by one worker alone, or by the crew.
-fn play_at<G: Gate + Sync, R: Threads + Wait + Sync>(
+fn play_at<L: Logs, G: Gate<L> + Sync, R: Threads + Wait + Sync>(
     rt: &R,
     alloc: Global,
     crew: &Crew,
     order: Order,
-    sites: &[Site],
+    sites: &[Site<L>],
     desk: &mut Desk,
     gate: &G,
 ) -> Result<Option<Played>, RunFault>
@@ -407,13 +407,16 @@ impl Promise<Result<(), RunFault>> for OfRun {
 
 // Blocks, and what is counted of each.
 #[derive(Drop)]
-struct Parted {
-    blocks: Vec<Block>,
+pub(crate) struct Parted<L: Logs> {
+    pub(crate) blocks: Vec<Block<L>>,
     counts: Vec<Counts>,
 }
 
 // The blocks, taken out of their sites, and what is counted of each.
-fn taken_out(alloc: Global, sites: Vec<Site>) -> Result<Parted, AllocError>
+pub(crate) fn taken_out<L: Logs>(
+    alloc: Global,
+    sites: Vec<Site<L>>,
+) -> Result<Parted<L>, AllocError>
     ensures count { IfOk result (λ parted. vec_len parted.blocks ≡ vec_len sites) }
     ensures lawful { IfOk result (λ parted. All IsLawfulProcess parted.blocks.items) }
     ensures counted { IfOk result (λ parted. AreCounted parted.blocks.items parted.counts.items) }
@@ -429,7 +432,7 @@ fn taken_out(alloc: Global, sites: Vec<Site>) -> Result<Parted, AllocError>
 }
 
 // Takes the block out of a site, and what is counted of it, behind those of others. An error is a refused growth.
-fn take_out(site: Site, parted: &mut Parted) -> Result<(), AllocError>
+fn take_out<L: Logs>(site: Site<L>, parted: &mut Parted<L>) -> Result<(), AllocError>
     requires lawful { All IsLawfulProcess parted.old.blocks.items }
     requires counted { AreCounted parted.old.blocks.items parted.old.counts.items }
     ensures count { OnOk result (vec_len parted.new.blocks ≡ vec_len parted.old.blocks + 1) }

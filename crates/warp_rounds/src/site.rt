@@ -16,7 +16,7 @@ use crate::turns::{TurnReport, Turned, least_pending, turn_through};
 use std::alloc::{AllocError, Global};
 use std::mem;
 use std::sync::{Mutex, MutexGuard, Wait};
-use warp_block::{Block, BlockFault, Look, Message};
+use warp_block::{AllLogs, Block, BlockFault, Logs, Look, Message};
 
 /// A block behind its lock, and an inbox behind its own: a message may come while the block takes a turn, and waits for
 /// the next one.
@@ -24,8 +24,8 @@ use warp_block::{Block, BlockFault, Look, Message};
 /// Whoever takes the block's lock finds a lawful block: [`Block`] keeps its invariant at every moment, so also where a
 /// turn ended with a fault.
 #[derive(Drop)]
-pub struct Site {
-    held: Mutex<Held>,
+pub struct Site<L: Logs = AllLogs> {
+    held: Mutex<Held<L>>,
     inbox: Mutex<Vec<Message>>,
     /// What others see of it. It sets the pace alone.
     signs: Signs,
@@ -35,8 +35,8 @@ pub struct Site {
 
 /// What a site's lock keeps: the block, and what its visits leave to one another.
 #[derive(Drop)]
-pub(crate) struct Held {
-    block: Block,
+pub(crate) struct Held<L: Logs> {
+    block: Block<L>,
     /// What is counted of its turns.
     counts: Counts,
     /// How its event times have lain.
@@ -50,12 +50,12 @@ pub(crate) struct Held {
 
 /// A block that was taken out of its site, and what is counted of its turns.
 #[derive(Drop)]
-pub(crate) struct Finished {
-    pub(crate) block: Block,
+pub(crate) struct Finished<L: Logs> {
+    pub(crate) block: Block<L>,
     pub(crate) counts: Counts,
 }
 
-impl Held {
+impl<L: Logs> Held<L> {
     /// A turn of the block with the messages that were taken, of up to `most` event times; where a reach is given, of as
     /// many as are to be expected within it.
     fn turn(
@@ -136,8 +136,8 @@ impl Held {
 
 /// A turn of a block, where it is known when something is left first. It is short where there is nothing to receive and to
 /// finish.
-fn turn_from(
-    block: &mut Block,
+fn turn_from<L: Logs>(
+    block: &mut Block<L>,
     counts: &mut Counts,
     start: Option<u64>,
     messages: &[Message],
@@ -160,8 +160,8 @@ fn turn_from(
 }
 
 /// A turn of a block that receives and finishes nothing, where its next time is known: it commits at the floor.
-fn rest(
-    block: &mut Block,
+fn rest<L: Logs>(
+    block: &mut Block<L>,
     counts: &mut Counts,
     next: Option<u64>,
     messages: &[Message],
@@ -203,20 +203,20 @@ fn least_time(messages: &[Message]) -> u64 {
     least
 }
 
-impl Site {
+impl<L: Logs> Site<L> {
     /// The block behind its lock, and no message in the inbox. It takes no memory: what the inbox grows by is asked of the
     /// allocator later.
-    pub fn new(alloc: Global, block: Block) -> Site {
+    pub fn new(alloc: Global, block: Block<L>) -> Site<L> {
         Site::told_by(alloc, block, Vec::new(alloc), 0)
     }
 
     /// The same, where it is known who tells the block, and that it has sent so many messages.
     pub(crate) fn told_by(
         alloc: Global,
-        block: Block,
+        block: Block<L>,
         tellers: Vec<Teller>,
         messages: usize,
-    ) -> Site {
+    ) -> Site<L> {
         let mut counts = Counts::of(&block);
         counts.tell(messages);
         Site {
@@ -235,7 +235,7 @@ impl Site {
 
     /// Up to when nothing will be taken back that the block was told, by what its tellers say at a floor. A message
     /// below it lies in the inbox by then.
-    pub(crate) fn sure(&self, sites: &[Site], floor: u64) -> u64 {
+    pub(crate) fn sure(&self, sites: &[Site<L>], floor: u64) -> u64 {
         let mut sure = u64::MAX;
         for teller in &self.tellers {
             if let Some(site) = sites.get(teller.block as usize) {
@@ -247,13 +247,13 @@ impl Site {
     }
 
     /// Whether the block has something to do before a time, or before its tellers may take something back, and nobody visits it.
-    pub(crate) fn has_work(&self, sites: &[Site], floor: u64, until: u64) -> bool {
+    pub(crate) fn has_work(&self, sites: &[Site<L>], floor: u64, until: u64) -> bool {
         let first = self.signs.first();
         !self.signs.is_visited() && (first < until || self.is_sure(sites, floor, first))
     }
 
     /// Whether nothing will be taken back up to a time, and at it, that the block was told.
-    fn is_sure(&self, sites: &[Site], floor: u64, time: u64) -> bool {
+    fn is_sure(&self, sites: &[Site<L>], floor: u64, time: u64) -> bool {
         for teller in &self.tellers {
             if let Some(site) = sites.get(teller.block as usize) {
                 let settled = site.signs.settled().max(floor);
@@ -266,7 +266,7 @@ impl Site {
     }
 
     /// Says of a block that has nothing to do yet, if nobody visits it, up to when nothing will be taken back that it tells.
-    pub(crate) fn stays(&self, sites: &[Site], floor: u64) {
+    pub(crate) fn stays(&self, sites: &[Site<L>], floor: u64) {
         let sure = self.sure(sites, floor);
         let first = self.signs.first();
         if !self.signs.is_visited() {
@@ -300,7 +300,7 @@ impl Site {
     /// The turn finishes up to `window` event times, and one at least, if the window isn't 0 and one is left at the floor.
     ///
     /// After a fault the messages that were taken out of the inbox are gone, and what the turn did before stands.
-    pub fn visit<R: Wait, G: Gate>(
+    pub fn visit<R: Wait, G: Gate<L>>(
         &self,
         rt: &R,
         floor: u64,
@@ -319,16 +319,16 @@ impl Site {
     }
 
     /// Takes the block's lock, for a visit.
-    pub(crate) fn hold<R: Wait>(&self, rt: &R) -> MutexGuard<'_, Held> {
+    pub(crate) fn hold<R: Wait>(&self, rt: &R) -> MutexGuard<'_, Held<L>> {
         self.held.lock(rt)
     }
 
     /// A visit under the block's lock, whose turn, where a reach is given, goes about as far as that; with what it did beside what it
     /// reports. Who has delivered what it sent says that it ends.
-    pub(crate) fn visit_held<R: Wait, G: Gate>(
+    pub(crate) fn visit_held<R: Wait, G: Gate<L>>(
         &self,
         rt: &R,
-        held: &mut Held,
+        held: &mut Held<L>,
         floor: u64,
         window: u32,
         reach: Option<Reach>,
@@ -348,25 +348,15 @@ impl Site {
         turned
     }
 
-    /// What the block holds, its saved states and the inbox aside. The error is a refused growth.
-    pub fn look<R: Wait>(&self, rt: &R) -> Result<Look, AllocError>
-        ensures { IfOk result (λ look. IsLawful look) }
-    {
-        let guard = self.held.lock(rt);
-        let look = guard.block.look()?;
-        look.law();
-        Ok(look)
-    }
-
     /// The block. What the inbox holds is dropped.
-    pub fn into_block(self) -> Block
+    pub fn into_block(self) -> Block<L>
         ensures { IsLawfulProcess result }
     {
         self.finished().block
     }
 
     /// The block, and what is counted of its turns.
-    pub(crate) fn finished(self) -> Finished
+    pub(crate) fn finished(self) -> Finished<L>
         ensures lawful { IsLawfulProcess result.block }
         ensures counted { IsCounted result.block.seen result.counts }
     {
@@ -385,5 +375,17 @@ impl Site {
         } = held.into_inner();
         block.law();
         Finished { block, counts }
+    }
+}
+
+impl Site {
+    /// What the block holds, its saved states and the inbox aside. The error is a refused growth.
+    pub fn look<R: Wait>(&self, rt: &R) -> Result<Look, AllocError>
+        ensures { IfOk result (λ look. IsLawful look) }
+    {
+        let guard = self.held.lock(rt);
+        let look = guard.block.look()?;
+        look.law();
+        Ok(look)
     }
 }

@@ -8,7 +8,7 @@ ghost use Rattle.warp_rounds.specs.Inner.Turn.{IsFromPending, AreFelt};
 
 use crate::counts;
 use crate::counts::Counts;
-use warp_block::{Block, BlockFault, Message};
+use warp_block::{Block, BlockFault, Logs, Message};
 
 /// What a turn answers.
 #[derive(Clone, Copy, Debug, PartialEq, Eq)]
@@ -40,8 +40,8 @@ pub(crate) struct Turned {
 ///
 /// The faults are those of [`Block::receive`], [`Block::commit`] and [`Block::advance`]. What was done and sent before a
 /// fault stands.
-pub fn turn(
-    block: &mut Block,
+pub fn turn<L: Logs>(
+    block: &mut Block<L>,
     messages: &[Message],
     floor: u64,
     window: u32,
@@ -62,8 +62,8 @@ pub fn turn(
 }
 
 /// A turn, with what it did beside what it reports. It is counted.
-pub(crate) fn turn_through(
-    block: &mut Block,
+pub(crate) fn turn_through<L: Logs>(
+    block: &mut Block<L>,
     counts: &mut Counts,
     messages: &[Message],
     floor: u64,
@@ -108,8 +108,8 @@ pub(crate) fn turn_through(
 }
 
 /// Receives some messages in order, up to one that is refused.
-fn receive_all(
-    block: &mut Block,
+fn receive_all<L: Logs>(
+    block: &mut Block<L>,
     counts: &mut Counts,
     messages: &[Message],
     out: &mut Vec<Message>,
@@ -132,7 +132,11 @@ fn receive_all(
 }
 
 /// The least of the next time of a block, which is known, and the times of some messages.
-pub(crate) fn least_pending(block: &Block, next: Option<u64>, messages: &[Message]) -> Option<u64>
+pub(crate) fn least_pending<L: Logs>(
+    block: &Block<L>,
+    next: Option<u64>,
+    messages: &[Message],
+) -> Option<u64>
     requires { IsLeast (IsEventTime block.now.seen) next }
     ensures { IsLeast (IsPending block.now.seen messages.now) result }
 {

@@ -14,6 +14,7 @@ use crate::site::Site;
 use std::alloc::Global;
 use std::sync::Wait;
 use std::sync::atomic::AtomicU64;
+use warp_block::Logs;
 
 /// The worker of a round.
 #[derive(Drop)]
@@ -27,10 +28,10 @@ pub struct Worker {
 
 /// Plays a round by one worker, in the caller's thread: every block takes some turns at the floor, each of up to the window's event
 /// times, about as far as its tellers or the lead allow. The least time that is told is above the floor; else the round stalled.
-pub(crate) fn play_alone<G: Gate, R: Wait>(
+pub(crate) fn play_alone<L: Logs, G: Gate<L>, R: Wait>(
     rt: &R,
     alloc: Global,
-    sites: &[Site],
+    sites: &[Site<L>],
     desk: &mut Desk,
     order: Order,
     gate: &G,
@@ -75,10 +76,10 @@ pub(crate) fn draws_of(blocks: u32, laps: u32) -> u32
 }
 
 // A worker's round: it draws blocks until none is left, and then reports the least time that their turns told, or until a fault.
-fn work<G: Gate, R: Wait>(
+fn work<L: Logs, G: Gate<L>, R: Wait>(
     rt: &R,
     round: &Round,
-    sites: &[Site],
+    sites: &[Site<L>],
     desk: &mut Desk,
     mut worker: Worker,
     order: Order,

@@ -4,7 +4,7 @@ use Rattle.warp_rounds.proofs.Accounting.{room_back, received_back, received_on,
 use Rattle.warp_rounds.proofs.counts.receive.Goals as goal
 
 pub roll_back-requires : goal.roll_back-requires
-roll_back-requires c =
+roll_back-requires g c =
     let back : c.receive.new.self.seen.mark < c.args.block.now.seen.mark = omega (arith, c.if-mark.true, c.mark.ensures, c.mark-mark.ensures) in
     let told : c.finished_after-undone.result ≡ busy_times c.args.block.now.seen c.args.message.time c.args.block.now.seen.mark =
     c.finished_after-undone.ensures
@@ -14,7 +14,7 @@ roll_back-requires c =
     c.args.counts.now c.finished_after-undone.result c.requires.counted back told
 
 pub returns-then-mark-clause-counted : goal.returns-then-mark-clause-counted
-returns-then-mark-clause-counted c =
+returns-then-mark-clause-counted g c =
     let back : c.receive.new.self.seen.mark < c.args.block.now.seen.mark = omega (arith, c.if-mark.true, c.mark.ensures, c.mark-mark.ensures) in
     let told : c.finished_after-undone.result ≡ busy_times c.args.block.now.seen c.args.message.time c.args.block.now.seen.mark =
     c.finished_after-undone.ensures
@@ -24,6 +24,6 @@ returns-then-mark-clause-counted c =
     c.args.counts.now c.roll_back.new.self c.finished_after-undone.result c.requires.counted back told c.roll_back.ensures.since c.roll_back.ensures.steps c.roll_back.ensures.undone
 
 pub returns-else-mark-clause-counted : goal.returns-else-mark-clause-counted
-returns-else-mark-clause-counted c =
+returns-else-mark-clause-counted g c =
     let on : c.args.block.now.seen.mark ≤ c.receive.new.self.seen.mark = omega (arith, c.if-mark.false, c.mark.ensures, c.mark-mark.ensures) in
     received_on c.args.block.now.seen c.receive.new.self.seen c.args.message c.law.ensures.seen c.law-in-Ok.ensures.seen c.in-Ok.ensures.taken c.args.counts.now c.requires.counted on

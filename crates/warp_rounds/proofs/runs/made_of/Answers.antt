@@ -6,7 +6,7 @@ use Rattle.warp_rounds.proofs.Faulting.{told_there}
 use Rattle.warp_rounds.proofs.runs.made_of.Goals as goal
 
 pub returns : goal.returns
-returns c =
+returns g c =
     told_there c.args.circuit.now c.args.cut.now c.requires.cut c.args.number c.args.horizon c.args.stimulus.now c.in_ok-part.part c.in_ok-block.block.seen
-    c.new-sent.result.items c.new.new.out.items c.in_ok-part.ensures c.in_ok-block.ensures.sends
+    c.new-sent.result.items c.open.new.out.items c.in_ok-part.ensures c.in_ok-block.ensures.sends
     (subst (AreThere c.args.cut.now.blocks) (sym c.new-sent.ensures.items) (All-nil (λ (m : Message). m.block < c.args.cut.now.blocks)))

@@ -4,4 +4,4 @@ use Rattle.warp_rounds.specs.Turn.{IsPending}
 use Rattle.warp_rounds.proofs.turns.least_pending.Given as goal
 
 abbrev pub invariant-loop-message : goal.invariant-loop-message
-invariant-loop-message l = IsLeast (IsPending l.block.seen (take l.message-index l.messages)) l.least
+invariant-loop-message g l = IsLeast (IsPending l.block.seen (take l.message-index l.messages)) l.least

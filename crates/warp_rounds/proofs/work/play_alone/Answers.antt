@@ -1,8 +1,8 @@
-use Rattle.std.proofs.Common.{◌≡◌, ◌≤◌, ◌∙◌, [], ◌∷◌, ◌++◌, List, All, length, refl, ap, subst, arith}
+use Rattle.std.proofs.Common.{◌≡◌, ◌∙◌, [], ◌∷◌, ◌++◌, List, All, length, refl, ap, subst, arith}
 use Rattle.std.proofs.lemmas.List.Elements.{All-nil, All-push, All-same}
-use Rattle.warp_rounds.specs.Seats.{SeatView, least_of}
+use Rattle.warp_rounds.specs.Seats.{SeatView}
 use Rattle.warp_rounds.specs.Inner.Work.{IsOver, IsPlayedOut}
-use Rattle.warp_rounds.proofs.Working.{stalled_round, never_refused}
+use Rattle.warp_rounds.proofs.Working.{over_laps, stalled_round, never_refused}
 use Rattle.warp_rounds.proofs.work.play_alone.Goals.{in_default-end-2, in_default-end}
 use Rattle.warp_rounds.proofs.work.play_alone.Goals as goal
 
@@ -19,3 +19,6 @@ returns-clause-fault g c =
       | in_default-end-2 w ↦ rw w.result-is (refl, stalled_round r floor window c.requires.floor c.push.new.self.items all (omega (arith, w.in-Ok.ensures.answer.2, w.if-order-least.false)))
       | in_default-end w ↦ absurd (never_refused c.in_ok-round.round r floor window c.push.new.self.items _ (omega (arith, c.in_ok-round.ensures.seats)) (omega (arith, ap length items, c.in_ok-round.ensures.seats)) all w.in_default-end.ensures.answer)
     ]
+
+pub work-seat-requires-clause-count : goal.work-seat-requires-clause-count
+work-seat-requires-clause-count g c = over_laps (length c.args.sites.now) c.laps.result c.draws_of-draws.result c.in_ok-round.round.round c.draws_of-draws.ensures c.in_ok-round.ensures.blocks
