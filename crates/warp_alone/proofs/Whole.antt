@@ -31,7 +31,7 @@ use Rattle.warp_process.proofs.Playing.{played_lawful}
 use Rattle.part_engine.specs.Histories.{TellLogs}
 use Rattle.warp_core.specs.OwnNets.{AreOwn}
 use Rattle.warp_core.specs.Matched.{seen_at, IsBlockOf, EachBlock, AreMatched, told_by, told_of}
-use Rattle.warp_core.specs.Values.{value_under}
+use Rattle.warp_core.specs.Values.{value_under, circuit_waves}
 use Rattle.warp_core.specs.World.{Scene, IsBefore, IsLawfulWorld, IsFlying}
 use Rattle.warp_core.proofs.Finished.{log_wave}
 use Rattle.warp_core.proofs.Finishing.{world_matched}
@@ -39,7 +39,6 @@ use Rattle.warp_core.proofs.Hearing.{heard_from}
 use Rattle.warp_core.proofs.Histories.{told_more, told_when}
 use Rattle.warp_core.proofs.Matching.{matched_changes}
 use Rattle.warp_core.proofs.Parts.{owner_owns, other_owns}
-use Rattle.warp_alone.specs.Alone.{circuit_waves}
 
 owner_is : (b : ℕ) (o : Option ℕ) → is_owner b o ≡ true → o ≡ Some b
 owner_is b None e = absurd cc

@@ -9,7 +9,7 @@ ghost use Rattle.warp_process.specs.Opening.{silent_view};
 ghost use Rattle.warp_process.specs.Played.{played_view};
 ghost use Rattle.part_engine.specs.Histories.{TellLogs};
 ghost use Rattle.warp_core.specs.OwnNets.{AreOwn};
-ghost use Rattle.warp_alone.specs.Alone.{circuit_waves};
+ghost use Rattle.warp_core.specs.Values.{circuit_waves};
 
 use crate::playing::history_of;
 use gate_netlist::{Circuit, Cut};

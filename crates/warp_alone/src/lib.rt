@@ -1,7 +1,7 @@
 //! A run of one block that has the whole circuit. Nobody tells it anything but the stimulus, so that it never rolls back: it is played
 //! from time 0 to the horizon, and all that came true tells the changes of all nets by time. No list of any net's changes is made.
 //!
-//! The definitions stand in `specs/Alone`.
+//! What it tells are the circuit's changes by `specs/Values` of `warp_core`.
 #![tactic(auto)]
 
 mod alone;
