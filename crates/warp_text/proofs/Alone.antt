@@ -14,8 +14,7 @@ use Rattle.net_waves.specs.Stops.{AreStopsOf}
 use Rattle.net_waves.specs.Waves.{wave_of, IsWave}
 use Rattle.gate_vcd.specs.Given.{Given}
 use Rattle.gate_vcd.proofs.WaveValues.{pair_at-wave, changes-IsWave}
-use Rattle.warp_core.specs.Values.{value_under, AreCircuitWaves}
-use Rattle.warp_alone.specs.Alone.{circuit_waves}
+use Rattle.warp_core.specs.Values.{value_under, circuit_waves, AreCircuitWaves}
 use Rattle.warp_text.specs.Inner.Firsts.{AreFirstsOf}
 
 pub circuit_waves-are : (d : Design) (g : Given) (horizon : ℕ) → AreCircuitWaves d g horizon (circuit_waves d g horizon)

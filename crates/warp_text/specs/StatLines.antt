@@ -1,5 +1,5 @@
 -- How what is counted of a run is told, as TOML.
-use Rattle.std.specs.Prelude.{ℕ, ◌+◌, ◌-◌, ◌*◌, ◌/◌, ◌%◌, ◌==◌, min, if◌then◌else◌, List, [], ◌∷◌, ◌++◌, fold, flat_map, map, codes, decimal}
+use Rattle.std.specs.Prelude.{ℕ, ◌+◌, ◌-◌, ◌*◌, ◌/◌, ◌%◌, ◌==◌, min, if◌then◌else◌, List, ◌++◌, fold, flat_map, codes, decimal}
 use Rattle.warp_rounds.specs.declared.counts.Counts.{Counts}
 use Rattle.warp_text.specs.declared.stats.BlockStats.{BlockStats}
 use Rattle.warp_text.specs.declared.stats.Stats.{Stats}

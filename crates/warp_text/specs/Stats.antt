@@ -9,7 +9,6 @@ use Rattle.warp_rounds.specs.Counts.{AccountsFor}
 use Rattle.warp_text.specs.Answer.{IsCircuitOf}
 use Rattle.warp_text.specs.declared.fault.Fault.{Fault}
 use Rattle.warp_text.specs.declared.simulate.Simulated.{Simulated}
-use Rattle.warp_text.specs.declared.stats.BlockStats.{BlockStats}
 use Rattle.warp_text.specs.declared.stats.Stats.{Stats}
 
 -- the dump of what is answered

@@ -1,17 +1,18 @@
 //! From three texts to a dump.
-ghost use Rattle.std.specs.Prelude.{◌≡◌, IfOk, IfErr, IfSome, option_map};
+ghost use Rattle.std.specs.Prelude.{◌≡◌, IfOk, IfErr, IfSome, codes, option_map};
 ghost use Rattle.gate_netlist.specs.Circuit.{CutFits};
 ghost use Rattle.gate_netlist.specs.Bench.{bench_of};
 ghost use Rattle.gate_netlist.specs.Faults.{out_of_memory, MemoryHasNoLine};
 ghost use Rattle.gate_netlist.specs.Gives.{Gives};
 ghost use Rattle.gate_netlist.specs.Meaning.{IsRead};
 ghost use Rattle.gate_vcd.specs.Given.{Fits};
-ghost use Rattle.warp_core.specs.Values.{AreCircuitWaves};
+ghost use Rattle.gate_vcd.specs.Dump.{vcd_text};
+ghost use Rattle.warp_core.specs.Values.{value_under, AreCircuitWaves};
 ghost use Rattle.warp_text.specs.Answer.{IsAnswer, IsCounted, IsListed};
 ghost use Rattle.warp_text.specs.Stats.{dumped, Accounts, IsAccountOf, AreCountsOf};
 ghost use Rattle.warp_text.specs.Inner.Answer.{IsCircuitAnswer, IsDumped};
 
-use crate::dump::{alone_dump, dump_by};
+use crate::dump::{alone_dump, dump_by, parted_dump};
 use crate::fault::Fault;
 use crate::nets::nets_text;
 use crate::options::Options;
@@ -22,6 +23,7 @@ use net_waves::Waves;
 use std::alloc::Global;
 use std::sync::Wait;
 use std::thread::{Threads, join};
+use warp_block::AllLogs;
 use warp_rounds::{Gate, NoGate, NoWatch, RunFault, Watch, run_watched};
 
 /// A settings text of so many bytes is worth a thread beside the one that reads the bench.
@@ -77,7 +79,7 @@ pub(crate) fn circuit_by<R: Threads + Sync>(
 }
 
 /// Runs the blocks of a cut circuit.
-fn run_cut<G: Gate + Sync, W: Watch, R: Threads + Wait + Sync>(
+fn run_cut<G: Gate<AllLogs> + Sync, W: Watch, R: Threads + Wait + Sync>(
     rt: &R,
     alloc: Global,
     circuit: &Circuit,
@@ -122,7 +124,7 @@ pub(crate) fn settled_cut(circuit: &Circuit) -> Option<&Cut>
 
 /// Runs the blocks of a circuit, which is cut evenly where the options give a number of blocks, else as its settings
 /// say, else not at all.
-pub(crate) fn run_blocks<G: Gate + Sync, W: Watch, R: Threads + Wait + Sync>(
+pub(crate) fn run_blocks<G: Gate<AllLogs> + Sync, W: Watch, R: Threads + Wait + Sync>(
     rt: &R,
     alloc: Global,
     circuit: &Circuit,
@@ -147,7 +149,7 @@ pub(crate) fn run_blocks<G: Gate + Sync, W: Watch, R: Threads + Wait + Sync>(
 }
 
 /// The dump of a circuit's nets under a stimulus text.
-fn dump_under<G: Gate + Sync, W: Watch, R: Threads + Wait + Sync>(
+fn dump_under<G: Gate<AllLogs> + Sync, W: Watch, R: Threads + Wait + Sync>(
     rt: &R,
     alloc: Global,
     circuit: &Circuit,
@@ -182,7 +184,7 @@ fn dump_under<G: Gate + Sync, W: Watch, R: Threads + Wait + Sync>(
 /// The texts are judged in this order, and the first that is refused is answered, with its fault; then the run's fault.
 /// Want of memory in any part is `Fault::Memory`, and no other fault carries it. The gate is lent each block as its
 /// turns begin and end.
-pub fn simulate_text<G: Gate + Sync, R: Threads + Wait + Sync>(
+pub fn simulate_text<G: Gate<AllLogs> + Sync, R: Threads + Wait + Sync>(
     rt: &R,
     alloc: Global,
     bench: &[u8],
@@ -236,15 +238,65 @@ fn plain_dump<W: Watch, R: Threads + Wait + Sync>(
     ensures { IsDumped circuit.now stimulus.now options.now.until result }
 {
     let stimulus = read_stimulus(alloc, stimulus, circuit)?;
+    if let Some(dump) = listless_dump(rt, alloc, circuit, &stimulus, options, watch)? {
+        return Ok(dump);
+    }
     let workers = options.workers();
     let until = options.until();
-    if is_whole(circuit, options) {
-        if let Some(dump) = alone_dump(rt, alloc, workers, circuit, &stimulus, until, watch)? {
-            return Ok(dump);
-        }
-    }
     let ran = run_blocks(rt, alloc, circuit, &stimulus, options, &NoGate, watch)?;
     Ok(dump_by(rt, alloc, workers, circuit, &stimulus, ran.waves, until)?)
+}
+
+/// The dump of a circuit that is played with no list of a net's changes but those that other blocks read; none where its changes can't be
+/// had by time as they come.
+fn listless_dump<W: Watch, R: Threads + Wait + Sync>(
+    rt: &R,
+    alloc: Global,
+    circuit: &Circuit,
+    stimulus: &Stimulus,
+    options: &Options,
+    watch: &mut W,
+) -> Result<Option<Vec<u8>>, RunFault>
+    requires { Fits stimulus.now circuit.now }
+    ensures { IfOk result (λ dump. IfSome dump (λ dump. dump.items ≡ vcd_text (codes "top") circuit.now stimulus.now (value_under circuit.now stimulus.now) options.now.until)) }
+{
+    if is_whole(circuit, options) {
+        let workers = options.workers();
+        let until = options.until();
+        let dump = alone_dump(rt, alloc, workers, circuit, stimulus, until, watch)?;
+        return Ok(dump);
+    }
+    blocks_dump(rt, alloc, circuit, stimulus, options, watch)
+}
+
+/// The dump of a circuit that is played in blocks, cut as [`run_blocks`] cuts it, which keep no list of a net that no other block reads; none
+/// where its changes can't be had by time as they come.
+fn blocks_dump<W: Watch, R: Threads + Wait + Sync>(
+    rt: &R,
+    alloc: Global,
+    circuit: &Circuit,
+    stimulus: &Stimulus,
+    options: &Options,
+    watch: &mut W,
+) -> Result<Option<Vec<u8>>, RunFault>
+    requires { Fits stimulus.now circuit.now }
+    ensures { IfOk result (λ dump. IfSome dump (λ dump. dump.items ≡ vcd_text (codes "top") circuit.now stimulus.now (value_under circuit.now stimulus.now) options.now.until)) }
+{
+    let until = options.until();
+    let workers = options.workers();
+    let window = options.window();
+    let even = match (options.blocks(), settled_cut(circuit)) {
+        (None, Some(cut)) => {
+            return parted_dump(
+                rt, alloc, circuit, cut, stimulus, until, workers, window, watch,
+            );
+        }
+        (None, None) => Cut::even(alloc, circuit, 1)?,
+        (Some(blocks), _) => Cut::even(alloc, circuit, blocks)?,
+    };
+    parted_dump(
+        rt, alloc, circuit, &even, stimulus, until, workers, window, watch,
+    )
 }
 
 /// Whether a circuit is played in one block, asked for or not.
@@ -269,7 +321,7 @@ pub(crate) fn dump_alone(answer: Result<Simulated, Fault>) -> Result<Vec<u8>, Fa
 /// As [`simulate_text`], with what is counted of the run: of the event times of each block that were finished, those that weren't
 /// taken back are those of the block whose log is that of the circuit's values. The watch is told how far the run has come.
 #[tactic(auto, unfolding(crate::specs::Answer::IsAnswer))]
-pub fn simulate_watched<G: Gate + Sync, W: Watch, R: Threads + Wait + Sync>(
+pub fn simulate_watched<G: Gate<AllLogs> + Sync, W: Watch, R: Threads + Wait + Sync>(
     rt: &R,
     alloc: Global,
     bench: &[u8],

@@ -19,6 +19,7 @@ use std::alloc::{AllocError, Global};
 use std::sync::Wait;
 use std::thread::Threads;
 use vcd_only::told_text;
+use warp_block::AllLogs;
 use warp_core::read_schedule;
 use warp_rounds::{Gate, NoWatch, Watch};
 
@@ -50,7 +51,7 @@ fn told_dump_of(
 }
 
 /// The dump of the nets that are told, under a stimulus text.
-fn told_under<G: Gate + Sync, W: Watch, R: Threads + Wait + Sync>(
+fn told_under<G: Gate<AllLogs> + Sync, W: Watch, R: Threads + Wait + Sync>(
     rt: &R,
     alloc: Global,
     circuit: &Circuit,
@@ -77,7 +78,7 @@ fn told_under<G: Gate + Sync, W: Watch, R: Threads + Wait + Sync>(
 /// changes, but 0 and `until`.
 ///
 /// The text of names is judged behind the settings.
-pub fn simulate_told<G: Gate + Sync, R: Threads + Wait + Sync>(
+pub fn simulate_told<G: Gate<AllLogs> + Sync, R: Threads + Wait + Sync>(
     rt: &R,
     alloc: Global,
     bench: &[u8],
@@ -106,7 +107,7 @@ pub fn simulate_told<G: Gate + Sync, R: Threads + Wait + Sync>(
 /// As [`simulate_told`], with what is counted of the run, and a watch that is told how far it has come, as
 /// [`simulate_watched`](crate::simulate_watched) says.
 #[tactic(auto, unfolding(crate::specs::Only::IsToldAnswer))]
-pub fn simulate_told_watched<G: Gate + Sync, W: Watch, R: Threads + Wait + Sync>(
+pub fn simulate_told_watched<G: Gate<AllLogs> + Sync, W: Watch, R: Threads + Wait + Sync>(
     rt: &R,
     alloc: Global,
     bench: &[u8],

@@ -1,5 +1,5 @@
 use Rattle.std.proofs.Common.{codes}
-use Rattle.warp_alone.specs.Alone.{circuit_waves}
+use Rattle.warp_core.specs.Values.{circuit_waves}
 use Rattle.warp_text.proofs.Alone.{circuit_waves-are, each_wave}
 use Rattle.warp_text.proofs.Simulating.{waves_until, dump-waves}
 use Rattle.warp_text.proofs.dump.changes_by.Goals as goal

@@ -1,4 +1,4 @@
-use Rattle.warp_alone.specs.Alone.{circuit_waves}
+use Rattle.warp_core.specs.Values.{circuit_waves}
 use Rattle.warp_text.proofs.dump.changes_by.Given as goal
 
 abbrev pub ghost-changes_dump_by : goal.ghost-changes_dump_by

@@ -6,7 +6,7 @@ pub returns-in-Some : goal.returns-in-Some
 returns-in-Some g c =
     let (r, read, means) = c.in_ok-stimulus.ensures in
     let dump = rw c.in-Some.is at c.in_ok-dump.ensures in
-    (r, read, (rw c.until-until.ensures at dump) ∙ dump-means (codes "top") c.args.circuit.now r c.in_ok-stimulus.stimulus c.args.options.now.until means)
+    (r, read, dump ∙ dump-means (codes "top") c.args.circuit.now r c.in_ok-stimulus.stimulus c.args.options.now.until means)
 
 pub returns : goal.returns
 returns g c =
