@@ -8,7 +8,7 @@ use std::sync::atomic::AtomicBool;
 use std::sync::atomic::Ordering::SeqCst;
 use std::test::Fail;
 use std::thread::Threads;
-use warp_block::Block;
+use warp_block::{AllLogs, Block};
 use warp_rounds::Gate;
 use warp_text::{Options, simulate_text};
 
@@ -55,7 +55,7 @@ impl Meeting {
     }
 }
 
-impl Gate for Meeting {
+impl Gate<AllLogs> for Meeting {
     fn entered(&self, block: &Block) {
         let number = block.part().block() as usize;
         set(&self.begun, number, true);

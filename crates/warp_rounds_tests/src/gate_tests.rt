@@ -9,7 +9,7 @@ use std::sync::atomic::Ordering::SeqCst;
 use std::sync::atomic::{AtomicBool, AtomicU64};
 use std::test::Fail;
 use std::thread::Threads;
-use warp_block::Block;
+use warp_block::{AllLogs, Block};
 use warp_rounds::{Gate, run};
 
 /// Four buffers, each over an input of its own: in four blocks none tells another anything.
@@ -52,7 +52,7 @@ impl Ruler {
     }
 }
 
-impl Gate for Ruler {
+impl Gate<AllLogs> for Ruler {
     fn entered(&self, block: &Block) {
         if let Some(mark) = self.mark_of(block) {
             mark.store(block.mark(), SeqCst);
@@ -88,7 +88,7 @@ impl Crowd {
     }
 }
 
-impl Gate for Crowd {
+impl Gate<AllLogs> for Crowd {
     fn entered(&self, _block: &Block) {
         let others = self.held.fetch_add(1, SeqCst);
         self.most.fetch_max(others.saturating_add(1), SeqCst);
@@ -107,7 +107,7 @@ impl Gate for Crowd {
 }
 
 /// Runs the buffers in four blocks, up to 20.
-fn run_buffers<G: Gate + Sync, R: Threads + Wait + Sync>(
+fn run_buffers<G: Gate<AllLogs> + Sync, R: Threads + Wait + Sync>(
     rt: &R,
     alloc: Global,
     workers: u32,
@@ -124,7 +124,7 @@ fn run_buffers<G: Gate + Sync, R: Threads + Wait + Sync>(
     ran
 }
 
-fn run_circuit<G: Gate + Sync, R: Threads + Wait + Sync>(
+fn run_circuit<G: Gate<AllLogs> + Sync, R: Threads + Wait + Sync>(
     rt: &R,
     alloc: Global,
     circuit: &Circuit,
@@ -184,7 +184,7 @@ struct First {
     mark: AtomicU64,
 }
 
-impl Gate for First {
+impl Gate<AllLogs> for First {
     fn entered(&self, _block: &Block) {}
 
     fn leaving(&self, block: &Block) {
@@ -195,7 +195,7 @@ impl Gate for First {
 }
 
 /// Runs the swing by one worker up to 500.
-fn run_swing<G: Gate + Sync, R: Threads + Wait + Sync>(
+fn run_swing<G: Gate<AllLogs> + Sync, R: Threads + Wait + Sync>(
     rt: &R,
     alloc: Global,
     circuit: &Circuit,
@@ -261,7 +261,7 @@ fn next_of(block: &Block) -> u64 {
     block.next_time().unwrap_or(0)
 }
 
-impl Gate for Floors {
+impl Gate<AllLogs> for Floors {
     fn entered(&self, block: &Block) {
         if block.part().block() == 1 {
             self.next.store(next_of(block), SeqCst);

@@ -13,7 +13,7 @@ use std::sync::atomic::AtomicBool;
 use std::sync::atomic::Ordering::SeqCst;
 use std::test::Fail;
 use std::thread::Threads;
-use warp_block::Block;
+use warp_block::{AllLogs, Block};
 use warp_rounds::{Gate, NoGate, Watch, Watched, run, run_watched};
 
 const BENCH: &str = "INPUT(P)\nINPUT(Q)\nA = BUFF(P)\nB = BUFF(Q)\nY = AND(A, B)\nZ = NOT(Y)\n";
@@ -64,7 +64,7 @@ impl Meeting {
     }
 }
 
-impl Gate for Meeting {
+impl Gate<AllLogs> for Meeting {
     fn entered(&self, block: &Block) {
         let block = block.part().block() as usize;
         store(&self.begun, block, true);
