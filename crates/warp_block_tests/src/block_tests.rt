@@ -9,11 +9,13 @@ use std::test::Fail;
 use warp_block::{Block, BlockFault, Entry, Look, MOST_HORIZON, Message, Part, Sign};
 
 /// Two buffers, an AND and a NOT, in three blocks; nets P, Q, A, B, Y, Z.
-const PAIR: &str = "INPUT(P)\nINPUT(Q)\nA = BUFF(P)\nB = BUFF(Q)\nY = AND(A, B)\nZ = NOT(Y)\n";
+pub(crate) const PAIR: &str =
+    "INPUT(P)\nINPUT(Q)\nA = BUFF(P)\nB = BUFF(Q)\nY = AND(A, B)\nZ = NOT(Y)\n";
 
-const PAIR_CUT: &str = "[block]\nA = 0\nB = 0\nY = 1\nZ = 2\n";
+pub(crate) const PAIR_CUT: &str = "[block]\nA = 0\nB = 0\nY = 1\nZ = 2\n";
 
-const PAIR_UNSET: &str = "$var wire 1 p P $end $var wire 1 q Q $end $enddefinitions $end";
+pub(crate) const PAIR_UNSET: &str =
+    "$var wire 1 p P $end $var wire 1 q Q $end $enddefinitions $end";
 
 /// A buffer in one block, and a flip-flop in another; nets P, A, Q, CK.
 const SAMPLED: &str = "INPUT(P)\nA = BUFF(P)\nQ = DFF(A)\n";
@@ -32,7 +34,7 @@ pub(crate) const B: u32 = 3;
 pub(crate) const Y: u32 = 4;
 
 /// The circuit that two texts give.
-fn circuit_of(alloc: Global, bench: &str, settings: &str) -> Result<Circuit, Fail> {
+pub(crate) fn circuit_of(alloc: Global, bench: &str, settings: &str) -> Result<Circuit, Fail> {
     let bench = read_bench(alloc, bench.as_bytes())?;
     Ok(Circuit::of(alloc, bench, settings.as_bytes())?)
 }

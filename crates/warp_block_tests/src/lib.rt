@@ -18,3 +18,5 @@ mod memory_tests;
 mod opening_tests;
 #[cfg(test)]
 mod part_tests;
+#[cfg(test)]
+mod read_tests;
