@@ -1,11 +1,12 @@
 //! The circuits of the benchmarks, and their stimuli, each made of a text.
 ghost use Rattle.std.specs.Prelude.{IfOk};
-ghost use Rattle.gate_vcd.specs.Given.{Fits};
+ghost use Rattle.gate_stimulus.specs.Given.{Fits};
 
 use crate::texts;
 use anyhow::Result;
 use gate_netlist::{Bench, Circuit, read_bench};
-use gate_vcd::{Stimulus, read_stimulus};
+use gate_stimulus::Stimulus;
+use gate_vcd::read_stimulus;
 use std::alloc::Global;
 
 /// The circuit of a bench text, with no settings.

@@ -6,8 +6,8 @@ use crate::circuits::{self, Given};
 use crate::timer::{self, report};
 use anyhow::Result;
 use gate_netlist::{Circuit, Cut};
+use gate_stimulus::Stimulus;
 use gate_values::Logic;
-use gate_vcd::Stimulus;
 use std::rt::Clock;
 
 /// A prime above every size, so that its multiples reach each number below the size once.

@@ -1,6 +1,6 @@
 //! What events cost.
 ghost use Rattle.gate_netlist.specs.Circuit.{CutFits};
-ghost use Rattle.gate_vcd.specs.Given.{Fits};
+ghost use Rattle.gate_stimulus.specs.Given.{Fits};
 
 use crate::circuits::{self, Given};
 use crate::timer::{self, report};

@@ -1,7 +1,7 @@
 //! What rounds cost.
 ghost use Rattle.std.specs.Prelude.{◌<◌, ◌≤◌};
 ghost use Rattle.gate_netlist.specs.Circuit.{CutFits};
-ghost use Rattle.gate_vcd.specs.Given.{Fits};
+ghost use Rattle.gate_stimulus.specs.Given.{Fits};
 
 use crate::circuits::{self, Given};
 use crate::texts::STILL;

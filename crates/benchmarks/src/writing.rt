@@ -9,10 +9,10 @@ use crate::timer::{self, report};
 use anyhow::Result;
 use byte_sinks::Grow;
 use gate_values::{Change, Logic};
-use gate_vcd::write_vcd;
 use net_waves::Waves;
 use std::alloc::{AllocError, Global};
 use std::rt::Clock;
+use vcd_dumps::write_vcd;
 
 /// The other of 0 and 1 than the last value of a net.
 fn other_value(changes: &[Change]) -> Logic {

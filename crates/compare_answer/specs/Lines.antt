@@ -1,8 +1,8 @@
 -- The lines of a comparison's answer.
 use Rattle.std.specs.Prelude.{ℕ, ◌==◌, ◌&&◌, if◌then◌else◌, List, [], ◌∷◌, ◌++◌, flat_map, codes, decimal, length}
-use Rattle.gate_vcd.specs.Dump.{letter}
-use Rattle.gate_vcd.specs.Timescales.{unit_name}
-use Rattle.gate_vcd.specs.declared.timescale.Timescale.{Timescale}
+use Rattle.vcd_dumps.specs.Dump.{letter}
+use Rattle.gate_stimulus.specs.Timescales.{unit_name}
+use Rattle.gate_stimulus.specs.declared.timescale.Timescale.{Timescale}
 use Rattle.vcd_compare.specs.declared.report.Differing.{Differing}
 use Rattle.vcd_compare.specs.declared.report.Report.{Report}
 use Rattle.compare_answer.specs.Listing.{at_most}

@@ -1,10 +1,10 @@
 //! The lines of a comparison's answer.
 ghost use Rattle.std.specs.Prelude.{◌≡◌, [], ◌∷◌, ◌++◌, ◌==◌, ◌&&◌, OnOk, decimal, flat_map, length};
-ghost use Rattle.gate_vcd.specs.Dump.{letter};
+ghost use Rattle.vcd_dumps.specs.Dump.{letter};
 ghost use Rattle.compare_answer.specs.Lines.{alone_counts, differing_line, differing_lines, in_actual, in_expected, last_line, lonely, span, verdict};
 
+use gate_stimulus::Timescale;
 use gate_values::Logic;
-use gate_vcd::Timescale;
 use std::alloc::{AllocError, Global};
 use vcd_compare::{Differing, Report};
 

@@ -6,8 +6,9 @@ use crate::sentence::Piece;
 use crate::stamps::{is_behind_declarations, last_stamp};
 use crate::words::{Word, word_at, word_behind};
 use Piece::{Number, Quoted, Text};
-use gate_vcd::{StimCause, is_numeral};
+use gate_vcd::StimCause;
 use std::alloc::{AllocError, Global};
+use text_numbers::is_numeral;
 use text_places::Source;
 
 /// What a fault of a dump is about that has a place in the text.

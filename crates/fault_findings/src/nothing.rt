@@ -13,8 +13,8 @@ use crate::variables::{Wanted, find_variable};
 use crate::words::{Word, is_space};
 use Piece::{Bytes, Number, Quoted, Text};
 use gate_netlist::next_line;
-use gate_vcd::number_up_to;
 use std::alloc::{AllocError, Global};
+use text_numbers::number_up_to;
 use text_places::Source;
 use vcd_compare::Options;
 

@@ -6,8 +6,8 @@ use crate::look::Look;
 use crate::sentence::Piece;
 use crate::words::{Word, line_of, word_behind, word_from};
 use Piece::{Number, Quoted, Text};
-use gate_vcd::{is_numeral, number_up_to};
 use std::alloc::{AllocError, Global};
+use text_numbers::{is_numeral, number_up_to};
 use text_places::Source;
 
 const MOST_NUMBER: u64 = 4_294_967_295;

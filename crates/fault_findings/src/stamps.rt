@@ -1,6 +1,6 @@
 //! Which words of a dump are stamps.
 use crate::words::{Word, is_space};
-use gate_vcd::is_numeral;
+use text_numbers::is_numeral;
 
 /// What the next word of a dump belongs to.
 #[derive(Clone, Copy, PartialEq, Eq)]

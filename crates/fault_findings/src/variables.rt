@@ -1,7 +1,8 @@
 //! The variables that a stimulus declares.
 use crate::words::{Word, is_space};
-use gate_vcd::{Keyword, Scopes, keyword_of, number_up_to};
+use gate_vcd::{Keyword, Scopes, keyword_of};
 use std::alloc::{AllocError, Global};
+use text_numbers::number_up_to;
 
 /// A variable, as its `$var` says.
 #[derive(Drop)]

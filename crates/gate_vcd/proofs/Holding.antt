@@ -6,7 +6,8 @@ use Rattle.gate_values.specs.declared.logic.Logic.TheVariants.{X}
 use Rattle.gate_values.specs.declared.logic.Change.{Change}
 use Rattle.gate_values.specs.Changes.{changes, latest}
 use Rattle.gate_values.proofs.ChangeLists.{changes-agree}
-use Rattle.gate_vcd.specs.Changes.{Event, Source, changes_with, value_at_place, value_with, last_stamp}
+use Rattle.gate_vcd.specs.Changes.{Event, Source, changes_with, value_at_place, value_with}
+use Rattle.gate_stimulus.specs.Given.{last_stamp}
 use Rattle.gate_vcd.specs.Inner.Items.{AreHeld, AreKept, AreSettled, Taken, given_after, last_of, makes, reaches}
 use Rattle.gate_vcd.specs.Inner.Settled.{settled}
 use Rattle.gate_vcd.specs.Shown.Words.{texts}

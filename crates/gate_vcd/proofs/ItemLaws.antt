@@ -9,11 +9,12 @@ use Rattle.gate_vcd.specs.declared.fault.StimFault.{StimFault}
 use Rattle.gate_vcd.specs.declared.fault.StimCause.TheVariants as causes
 use Rattle.gate_vcd.specs.declared.known.KnownCodes.{KnownCodes}
 use Rattle.gate_vcd.specs.Tokens.{Token, fault_at}
-use Rattle.gate_vcd.specs.Numbers.{number}
+use Rattle.text_numbers.specs.Numbers.{number}
 use Rattle.gate_netlist.specs.Bench.{◌>>=◌}
 use Rattle.gate_vcd.specs.Reading.{Fails}
 use Rattle.gate_vcd.specs.Inner.Reading.{Reads}
-use Rattle.gate_vcd.specs.Changes.{Item, stamp, change, wrong, Event, events_from, event_at, last_time, stamped, last_stamp}
+use Rattle.gate_vcd.specs.Changes.{Item, stamp, change, wrong, Event, events_from, event_at, last_time, stamped}
+use Rattle.gate_stimulus.specs.Given.{last_stamp}
 use Rattle.gate_vcd.specs.Inner.Items.{AreHeld, AreTaken, IsTaken, Taken, TakesItem, fault_of}
 use Rattle.gate_vcd.specs.Inner.Known.{knows, sources_in}
 use Rattle.gate_vcd.specs.Shown.Known.{source}

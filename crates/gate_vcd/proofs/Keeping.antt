@@ -8,11 +8,10 @@ use Rattle.std.proofs.lemmas.List.{map-append, length-replicate, get_or-replicat
 use Rattle.std.proofs.lemmas.List.Elements.{filter-append}
 use Rattle.std.proofs.lemmas.Slice.Eq.{bytes_eq-Decides}
 use Rattle.std.proofs.lemmas.List.Sums.{prefix_len_stops}
-use Rattle.gate_values.specs.declared.logic.Logic.{Logic}
-use Rattle.gate_values.specs.declared.logic.Logic.TheVariants.{X}
 use Rattle.gate_values.specs.declared.logic.Change.{Change}
-use Rattle.gate_values.specs.Changes.{changes, latest}
-use Rattle.gate_vcd.specs.Changes.{Event, Source, changes_with, change_of, value_with, last_stamp}
+use Rattle.gate_vcd.specs.Changes.{Event, Source, changes_with, change_of, value_with}
+use Rattle.gate_stimulus.specs.Given.{last_stamp}
+use Rattle.gate_stimulus.proofs.ChangesOf.{changes-none, latest-none}
 use Rattle.gate_vcd.specs.Inner.Items.{AreKept}
 use Rattle.net_waves.specs.Waves.{lists_in}
 use Rattle.gate_vcd.proofs.Links.{slice_get-within}
@@ -73,16 +72,6 @@ past-more now (x ∷ es) e h all = (all.0, past-more now es e h all.1)
 pub past-later : (now next : ℕ) (es : List Event) → now ≤ next → AllByRecursion (λ (x : Event). x.time ≤ now) es → AllByRecursion (λ (x : Event). x.time ≤ next) es
 past-later now next [] h all = tt
 past-later now next (x ∷ es) h all = (omega (arith, all.0), past-later now next es h all.1)
-
-pub latest-none : (t : ℕ) → latest X [] t ≡ X
-unfolding latest
-latest-none t = refl
-
-pub changes-none : (f : ℕ → Logic) (b : ℕ) → ((t : ℕ) → f t ≡ X) → changes f b ≡ []
-unfolding changes
-changes-none f zero h = refl
-changes-none f (suc zero) h = rw (h 0) refl
-changes-none f (suc (suc t)) h = rw (changes-none f (suc t) h, h (suc t), h t) refl
 
 -- before the first change
 pub kept-none : (sources : List Source) (n : ℕ) → n ≡ length sources → AreKept sources 0 [] (replicate n [])

@@ -5,7 +5,6 @@ use Rattle.std.specs.Option.{option_map_or}
 use Rattle.std.specs.Str.{bytes_eq}
 use Rattle.std.proofs.lemmas.Bool.{cases_eq}
 use Rattle.std.proofs.lemmas.Bool.Decides.{nat_tests}
-use Rattle.std.proofs.lemmas.Grind.{common_steps}
 use Rattle.std.proofs.lemmas.List.{length-map, get_or_default}
 use Rattle.std.proofs.lemmas.Option.{same_Some}
 use Rattle.gate_values.specs.declared.logic.Logic.{Logic}
@@ -18,11 +17,12 @@ use Rattle.gate_vcd.specs.declared.fault.StimFault.{StimFault}
 use Rattle.gate_vcd.specs.declared.fault.StimCause.{StimCause}
 use Rattle.std.proofs.lemmas.Slice.Eq.{bytes_eq-Decides}
 use Rattle.gate_vcd.specs.Tokens.{Token, tokens_of}
-use Rattle.gate_vcd.specs.declared.timescale.Timescale.{Timescale}
+use Rattle.gate_stimulus.specs.declared.timescale.Timescale.{Timescale}
 use Rattle.gate_netlist.specs.Bench.{◌>>=◌}
 use Rattle.gate_vcd.specs.Reading.{Fails}
 use Rattle.gate_vcd.specs.Declarations.{Header, Variable, no_header, declaring}
-use Rattle.gate_vcd.specs.Changes.{Item, stamp, change, wrong, Event, Source, items, nothing, events_from, stamped, changes_with, value_with, last_stamp}
+use Rattle.gate_vcd.specs.Changes.{Item, stamp, change, wrong, Event, Source, items, nothing, events_from, stamped, changes_with, value_with}
+use Rattle.gate_stimulus.specs.Given.{last_stamp, Given, AreItsChanges, Fits, changes_of, value_at}
 use Rattle.gate_vcd.specs.Inner.Items.{AreKept}
 use Rattle.gate_vcd.specs.Inner.Known.{AreNumbers, IsNumber, knows}
 use Rattle.gate_vcd.specs.Shown.Known.{is_of, is_used}
@@ -31,18 +31,16 @@ use Rattle.gate_vcd.specs.declared.known.KnownCodes.{KnownCodes}
 use Rattle.std.specs.Option.{option_or}
 use Rattle.gate_vcd.specs.Inputs.{bit_source, first_given, is_scalar_of, scalar_code, source_in, source_of, source_of_net, source_or_fault, sources_below}
 use Rattle.net_waves.specs.Waves.{lists_in}
-use Rattle.net_waves.specs.Inner.Lists.{IsRising}
-use Rattle.gate_vcd.specs.Given.{Given, AreItsChanges, Fits, changes_of, value_at}
-use Rattle.gate_vcd.specs.Inner.Held.{AreLaidOut}
-use Rattle.gate_vcd.specs.Shown.Held.{given_by}
+use Rattle.gate_stimulus.specs.Shown.Held.{AreLaidOut, given_by}
 use Rattle.gate_vcd.specs.Sources.{AreDeclared}
 use Rattle.gate_vcd.specs.Stimulus.{reading_of, has_code, value_of_source, Means}
 use Rattle.gate_vcd.proofs.DeclarationLaws.{fails_then}
-use Rattle.gate_vcd.proofs.Settling.{AreBelow, latest-flat, changes-below}
+use Rattle.gate_stimulus.proofs.ChangesOf.{changes-none, latest-none}
+use Rattle.gate_vcd.proofs.Settling.{latest-flat}
 use Rattle.gate_vcd.proofs.InputLaws.{any-more}
-use Rattle.gate_vcd.proofs.Keeping.{same_bytes, up_to_with, past-later, changes-none, latest-none}
+use Rattle.gate_vcd.proofs.Keeping.{same_bytes, up_to_with, past-later}
 use Rattle.gate_vcd.proofs.Links.{slice_get-within}
-use Rattle.gate_vcd.proofs.Latest.{latest-split, fits-all, some-mapped}
+use Rattle.gate_stimulus.proofs.Latest.{latest-split, fits-all, some-mapped}
 use Rattle.std.proofs.Math.Seq.{get_or-append_seam}
 use Rattle.std.proofs.Math.ListN.{get_or-append, get_or-map as map-at}
 
@@ -120,29 +118,6 @@ module _ (f : ℕ → Logic) where
       go false e =
           let past : b + 1 ≤ t = grind (arith, nat_tests, e) in
           past-changes (b + 1) t past ∙ rw (add-one b) (sym (flat t (omega arith)))
-
-below-at : (b : ℕ) (cs : List Change) (i : ℕ) (d : Change) → AreBelow b cs → i < length cs → (get_or cs i d).time < b
-below-at b [] i d a h = absurd (omega arith)
-below-at b (c ∷ cs) zero d a h = a.0
-below-at b (c ∷ cs) (suc i) d a h = below-at b cs i d a.1 (omega arith)
-
-rising-push : (cs : List Change) (c : Change) → IsRising cs → AreBelow c.time cs → IsRising (cs ++ c ∷ [])
-rising-push cs c rising below i j d h l = elim (cases_eq j (length cs)) [
-  | inl e ↦ (let front : i < length cs = omega arith in
-      rw (e, get_or-append_seam cs c [] d, get_or-append cs (c ∷ []) d i front) (below-at c.time cs i d below front))
-  | inr n ↦ (let lj : j < length cs = omega (arith, length-append cs (c ∷ [])) in let li : i < length cs = omega arith in
-      rw (get_or-append cs (c ∷ []) d i li, get_or-append cs (c ∷ []) d j lj) (rising i j d h lj))
-]
-
-append-nil : (cs : List Change) → cs ++ [] ≡ cs
-append-nil cs = grind (arith, common_steps)
-
-pub changes-rising : (f : ℕ → Logic) (b : ℕ) → IsRising (changes f b)
-unfolding changes
-changes-rising f zero = λ i j d h l. absurd (omega arith)
-changes-rising f (suc b) =
-    elim (same (f b) (just_before f b)) as (λ s. IsRising (changes f b ++ cond s [] (record { time = b; value = f b } ∷ [])))
-    [ true ↦ rw (append-nil (changes f b)) (changes-rising f b) | false ↦ rising-push (changes f b) (record { time = b; value = f b }) (changes-rising f b) (changes-below f b) ]
 
 -- the changes of a function are those of the values that they leave
 its-changes : (f : ℕ → Logic) (b : ℕ) → changes f b ≡ changes (latest X (changes f b)) b

@@ -12,9 +12,10 @@ use Rattle.gate_vcd.specs.declared.keyword.Keyword.TheVariants as words
 use Rattle.gate_vcd.specs.Tokens.{Token, tokens_of, is_end}
 use Rattle.gate_netlist.specs.Bench.{◌>>=◌}
 use Rattle.gate_vcd.specs.Reading.{or_fault}
-use Rattle.gate_vcd.specs.Numbers.{number}
+use Rattle.text_numbers.specs.Numbers.{number}
 use Rattle.gate_vcd.specs.Declarations.{Header, Command, Variable, no_header, keyword_of, timescale_of, variable_of, is_counted, declared, ends_declarations, opens_command, declaring}
-use Rattle.gate_vcd.specs.Changes.{Source, Item, stamp, change, wrong, Awaited, nothing, code_of, end_of, form_of, item_by, items, last_stamp, stamped, events_from}
+use Rattle.gate_vcd.specs.Changes.{Source, Item, stamp, change, wrong, Awaited, nothing, code_of, end_of, form_of, item_by, items, stamped, events_from}
+use Rattle.gate_stimulus.specs.Given.{last_stamp}
 use Rattle.gate_vcd.specs.Inputs.{is_named_for, source_of, source_or_fault, source_of_net, sources_below}
 use Rattle.gate_vcd.specs.Stimulus.{has_code, reading_of}
 use Rattle.gate_vcd.specs.Refusals.{IsOfStimulus}

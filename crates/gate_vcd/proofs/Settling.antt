@@ -9,13 +9,11 @@ use Rattle.gate_values.specs.declared.logic.Logic.TheVariants.{X}
 use Rattle.gate_values.specs.declared.logic.Change.{Change}
 use Rattle.gate_values.specs.Changes.{changes, change_at, just_before, latest, last_value, same}
 use Rattle.gate_values.proofs.ChangeLists.{changes-agree, changes-quiet, last_value-changes}
+use Rattle.gate_stimulus.proofs.ChangesOf.{AreBelow, changes-below}
 use Rattle.gate_vcd.specs.Inner.Settled.{value_after, ends_at, undone, settled}
 
 abbrev pub AreUpTo : ℕ → List Change → Type 0
 AreUpTo t cs = AllByRecursion (λ (c : Change). c.time ≤ t) cs
-
-abbrev pub AreBelow : ℕ → List Change → Type 0
-AreBelow t cs = AllByRecursion (λ (c : Change). c.time < t) cs
 
 append-nil : (xs : List Change) → xs ++ [] ≡ xs
 append-nil xs = grind (arith, common_steps)
@@ -51,20 +49,6 @@ flat-changes f t (suc k) h =
 -- a function that stays from a time on has no change past it
 pub changes-flat : (f : ℕ → Logic) (t b : ℕ) → t < b → ((u : ℕ) → t ≤ u → f u ≡ f t) → changes f b ≡ changes f (suc t)
 changes-flat f t b l h = ap (changes f) (let e : b ≡ suc t + (b - suc t) = omega arith in e) ∙ flat-changes f t (b - suc t) h
-
-below_more : (a b : ℕ) (cs : List Change) → a ≤ b → AreBelow a cs → AreBelow b cs
-below_more a b [] h all = tt
-below_more a b (c ∷ cs) h all = (omega (arith, all.0), below_more a b cs h all.1)
-
-below-append : (b : ℕ) (cs ds : List Change) → AreBelow b cs → AreBelow b ds → AreBelow b (cs ++ ds)
-below-append b [] ds x y = y
-below-append b (c ∷ cs) ds x y = (x.0, below-append b cs ds x.1 y)
-
-pub changes-below : (f : ℕ → Logic) (b : ℕ) → AreBelow b (changes f b)
-unfolding changes
-changes-below f zero = tt
-changes-below f (suc t) = below-append (suc t) (changes f t) (change_at f t) (below_more t (suc t) (changes f t) (omega arith) (changes-below f t))
-    (elim (same (f t) (just_before f t)) as (λ s. AreBelow (suc t) (cond s [] (record { time = t; value = f t } ∷ []))) [ true ↦ tt | false ↦ (omega arith, tt) ])
 
 -- what ends at a time
 ends-below : (t : ℕ) (cs : List Change) (i : ℕ) → AreBelow t cs → ends_at t (slice_get cs i) ≡ false

@@ -13,7 +13,8 @@ use Rattle.gate_vcd.specs.declared.form.Form.{Form}
 use Rattle.gate_vcd.specs.declared.form.Form.TheVariants as forms
 use Rattle.gate_vcd.specs.Tokens.{Token, is_end, fault_at}
 use Rattle.gate_netlist.specs.Bench.{◌>>=◌}
-use Rattle.gate_vcd.specs.Numbers.{is_numeral, number}
+use Rattle.text_numbers.specs.Numbers.{is_numeral, number}
+use Rattle.gate_stimulus.specs.Given.{last_stamp}
 
 -- the value that a byte writes
 abbrev pub value_of : ℕ → Option Logic
@@ -86,9 +87,6 @@ pub record Event : Type 0 where
   pub time : ℕ
   pub code : List ℕ
   pub digits : List ℕ
-
-abbrev pub last_stamp : ℕ
-last_stamp = 1000000000000000000
 
 -- the time of a stamp after this time
 abbrev pub stamped : Token → ℕ → Result ℕ StimFault

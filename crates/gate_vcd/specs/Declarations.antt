@@ -4,16 +4,16 @@ use Rattle.std.specs.List.{list_all, concat, starts_with}
 use Rattle.std.specs.Str.{bytes_eq}
 use Rattle.gate_vcd.specs.declared.fault.StimFault.{StimFault}
 use Rattle.gate_vcd.specs.declared.fault.StimCause.TheVariants as causes
-use Rattle.gate_vcd.specs.declared.timescale.Timescale.{Timescale}
-use Rattle.gate_vcd.specs.declared.timescale.Unit.{Unit}
-use Rattle.gate_vcd.specs.declared.timescale.Unit.TheVariants as units
+use Rattle.gate_stimulus.specs.declared.timescale.Timescale.{Timescale}
+use Rattle.gate_stimulus.specs.declared.timescale.Unit.{Unit}
+use Rattle.gate_stimulus.specs.declared.timescale.Unit.TheVariants as units
 use Rattle.gate_vcd.specs.declared.keyword.Keyword.{Keyword}
 use Rattle.gate_vcd.specs.declared.keyword.Keyword.TheVariants as words
-use Rattle.gate_vcd.specs.Timescales.{unit_name, default_timescale}
+use Rattle.gate_stimulus.specs.Timescales.{unit_name, default_timescale}
 use Rattle.gate_vcd.specs.Tokens.{Token, is_end, fault_at}
 use Rattle.gate_netlist.specs.Bench.{◌>>=◌}
 use Rattle.gate_vcd.specs.Reading.{or_fault}
-use Rattle.gate_vcd.specs.Numbers.{is_numeral, number}
+use Rattle.text_numbers.specs.Numbers.{is_numeral, number}
 
 -- A variable: its reference text, its code and its size; whether its changes have bits, and whether it counts.
 pub record Variable : Type 0 where

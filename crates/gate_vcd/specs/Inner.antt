@@ -2,11 +2,8 @@
 pub mod Bundles
 pub mod Commands
 pub mod Headers
-pub mod Held
 pub mod Items
 pub mod Known
-pub mod Merged
-pub mod Pieces
 pub mod Reading
 pub mod Runs
 pub mod Scalars
@@ -14,5 +11,4 @@ pub mod Scopes
 pub mod Settled
 pub mod Sought
 pub mod Table
-pub mod Walk
 pub mod Words

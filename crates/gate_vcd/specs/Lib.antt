@@ -1,11 +1,6 @@
 pub mod Faults
-pub mod Timescales
-pub mod Given
-pub mod Codes
-pub mod Dump
 pub mod Tokens
 pub mod Reading
-pub mod Numbers
 pub mod Declarations
 pub mod Changes
 pub mod Vectors

@@ -1,7 +1,6 @@
 -- What contracts and views of this crate speak of: what its types show of what they hold, and what its calls do with that.
 pub mod Commands
 pub mod Headers
-pub mod Held
 pub mod Known
 pub mod Scalars
 pub mod Scopes

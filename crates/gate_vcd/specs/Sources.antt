@@ -6,7 +6,7 @@ use Rattle.gate_vcd.specs.Reading.{Fails}
 use Rattle.gate_vcd.specs.Declarations.{Variable}
 use Rattle.gate_vcd.specs.Changes.{Event, Source, Item, events_from, last_time}
 use Rattle.gate_vcd.specs.Stimulus.{has_code, value_of_source}
-use Rattle.gate_vcd.specs.Given.{value_at}
+use Rattle.gate_stimulus.specs.Given.{value_at}
 use Rattle.gate_vcd.specs.Shown.Known.{is_used}
 
 -- each taker has the values of its source, up to the last stamp

@@ -7,14 +7,14 @@ use Rattle.gate_values.specs.declared.logic.Logic.TheVariants.{X}
 use Rattle.gate_values.specs.Changes.{changes}
 use Rattle.gate_netlist.specs.Circuit.{Design, nets_of}
 use Rattle.gate_vcd.specs.declared.fault.StimFault.{StimFault}
-use Rattle.gate_vcd.specs.declared.timescale.Timescale.{Timescale}
+use Rattle.gate_stimulus.specs.declared.timescale.Timescale.{Timescale}
 use Rattle.gate_vcd.specs.Tokens.{tokens_of}
 use Rattle.gate_netlist.specs.Bench.{◌>>=◌}
 use Rattle.gate_vcd.specs.Reading.{Fails}
 use Rattle.gate_vcd.specs.Declarations.{Variable, no_header, declaring}
-use Rattle.gate_vcd.specs.Changes.{Event, Source, items, nothing, events_from, value_with, last_stamp}
+use Rattle.gate_vcd.specs.Changes.{Event, Source, items, nothing, events_from, value_with}
+use Rattle.gate_stimulus.specs.Given.{last_stamp, Given, Fits, value_at, changes_of}
 use Rattle.gate_vcd.specs.Inputs.{sources_below}
-use Rattle.gate_vcd.specs.Given.{Given, Fits, value_at, changes_of}
 
 -- A text, read: its timescale, the changes of its codes in their order, and where each net takes its values
 -- from, which only an input does.

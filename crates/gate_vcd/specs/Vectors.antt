@@ -4,7 +4,7 @@ use Rattle.std.specs.Int.{abs_diff}
 use Rattle.std.specs.List.{ends_with, starts_with}
 use Rattle.std.specs.Path.{rfind_below}
 use Rattle.std.specs.Str.{bytes_eq}
-use Rattle.gate_vcd.specs.Numbers.{is_numeral, number_up_to}
+use Rattle.text_numbers.specs.Numbers.{is_numeral, number_up_to}
 use Rattle.gate_vcd.specs.Declarations.{Variable}
 
 -- the greatest number of a bit

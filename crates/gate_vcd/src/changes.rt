@@ -18,11 +18,11 @@ use crate::fault::{StimCause, StimFault};
 use crate::form::after_first;
 use crate::items::{Item, next_item};
 use crate::known::KnownCodes;
-use crate::numbers::number_up_to;
 use crate::source::Source;
 use crate::words::{Word, Words};
 use gate_values::{Change, Logic};
 use std::alloc::Global;
+use text_numbers::number_up_to;
 
 /// The greatest time of a stimulus.
 const LAST_STAMP: u64 = 1_000_000_000_000_000_000;

@@ -13,9 +13,9 @@ use crate::fault::{StimCause, StimFault};
 use crate::items::skip_command;
 use crate::keyword::{Keyword, is_end, keyword_of, opens_command, timescale_of};
 use crate::scopes::Scopes;
-use crate::timescale::{Timescale, Unit};
 use crate::variable::{Variable, joined, variable_of};
 use crate::words::{Word, Words};
+use gate_stimulus::{Timescale, Unit};
 use std::alloc::Global;
 
 /// What the declarations of a stimulus said so far.

@@ -38,13 +38,6 @@ pub struct StimFault {
     pub cause: StimCause,
 }
 
-/// How much of a dump was written before the sink failed, in bytes.
-#[derive(Clone, Copy, Debug, PartialEq, Eq, thiserror::Error)]
-#[error("the sink failed after {written} bytes")]
-pub struct WriteFault {
-    pub written: u128,
-}
-
 impl StimCause {
     /// The number of the cause.
     pub fn number(self) -> u32

@@ -3,7 +3,7 @@ ghost use Rattle.gate_vcd.specs.Changes.{is_mark, form_by, form_of};
 
 use crate::digits::{are_values, value_of};
 use crate::keyword::{is_end, is_word};
-use crate::numbers::is_numeral;
+use text_numbers::is_numeral;
 
 /// What a word among the changes of a stimulus is.
 #[derive(Clone, Copy, Debug, PartialEq, Eq)]

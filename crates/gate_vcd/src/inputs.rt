@@ -1,7 +1,7 @@
 ghost use Rattle.std.specs.Prelude.{◌≡◌, ◌<◌, ◌&&◌, ◌++◌, ℕ, List, Err, None, Ok, codes, length, nat_eq, nat_lt, option_map, IfErr, IfOk, IfSome, IsUtf8, MatchResult};
 ghost use Rattle.std.specs.List.{list_any, starts_with};
 ghost use Rattle.std.specs.Str.{bytes_eq};
-ghost use Rattle.gate_netlist.specs.Circuit.{nets_of, driver_of, is_input, name_of};
+ghost use Rattle.gate_netlist.specs.Circuit.{nets_of, name_of};
 ghost use Rattle.gate_vcd.specs.Shown.Commands.{variable as variable_of, variables};
 ghost use Rattle.gate_vcd.specs.Faults.{out_of_memory};
 ghost use Rattle.std.specs.Option.{option_or};
@@ -12,12 +12,13 @@ ghost use Rattle.gate_vcd.specs.Inner.Sought.{IsGiven};
 
 use crate::fault::{StimCause, StimFault};
 use crate::keyword::is_word;
-use crate::numbers::number_up_to;
 use crate::source::Source;
 use crate::variable::Variable;
 use crate::vectors::{Vectors, bit_of};
-use gate_netlist::{Circuit, Driver, TextSeed};
+use gate_netlist::{Circuit, TextSeed};
+use gate_stimulus::is_input;
 use std::alloc::Global;
+use text_numbers::number_up_to;
 
 /// Whether a net has this name.
 fn has_name(circuit: &Circuit, net: u32, name: &[u8]) -> bool
@@ -226,14 +227,6 @@ impl<'v, 'a> Given<'v, 'a> {
             }),
         }
     }
-}
-
-/// Whether a net of the circuit is an input.
-pub fn is_input(circuit: &Circuit, net: u32) -> bool
-    requires { net < nets_of circuit.now }
-    ensures { result ≡ is_input (driver_of circuit.now net) }
-{
-    matches!(circuit.driver(net), Driver::Input)
 }
 
 /// The source of a net, which only an input has, where the first scalar of its name gives this one.

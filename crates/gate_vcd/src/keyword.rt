@@ -3,7 +3,7 @@ ghost use Rattle.std.specs.Str.{bytes_eq};
 ghost use Rattle.gate_vcd.specs.Declarations.{keyword_of, unit_of, scaled, timescale_of, opens_command};
 ghost use Rattle.gate_vcd.specs.Tokens.{is_end};
 
-use crate::timescale::{Timescale, Unit};
+use gate_stimulus::{Timescale, Unit};
 
 /// What a command of the declarations is about.
 #[derive(Clone, Copy, Debug, PartialEq, Eq)]

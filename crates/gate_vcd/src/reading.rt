@@ -6,9 +6,9 @@ use crate::declarations::read_declarations;
 use crate::fault::StimFault;
 use crate::inputs::{Inputs, inputs_of};
 use crate::known::Numbered;
-use crate::stimulus::Stimulus;
 use crate::words::Words;
 use gate_netlist::{Circuit, TextSeed};
+use gate_stimulus::Stimulus;
 use std::alloc::Global;
 
 /// Reads a stimulus text, a value change dump, for a circuit.

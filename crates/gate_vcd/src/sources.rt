@@ -7,11 +7,10 @@ use crate::changes::read_changes;
 use crate::fault::StimFault;
 use crate::known::Numbered;
 use crate::source::Source;
-use crate::stimulus::Stimulus;
-use crate::timescale::Timescale;
 use crate::variable::Variable;
 use crate::words::Words;
 use gate_netlist::TextSeed;
+use gate_stimulus::{Stimulus, Timescale};
 use std::alloc::Global;
 
 /// What the changes of a text give to takers with numbers, and the time of its last stamp.

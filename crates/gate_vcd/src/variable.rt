@@ -11,10 +11,10 @@ ghost use Rattle.gate_vcd.specs.Shown.Words.{texts, token_of};
 
 use crate::fault::{StimCause, StimFault};
 use crate::keyword::is_word;
-use crate::numbers::is_numeral;
 use crate::words::Word;
 use std::alloc::Global;
 use std::borrow::CowSlice;
+use text_numbers::is_numeral;
 
 /// A variable of a stimulus, as far as inputs ask for it.
 #[derive(Drop)]

@@ -10,13 +10,13 @@ ghost use Rattle.gate_vcd.specs.Shown.Scalars.{vector as vector_in, vector_by};
 ghost use Rattle.gate_vcd.specs.Vectors.{bit_of, bracketed, index_in, is_between, is_plain, last_bit, number_in, parted, range_in, ranged, vector_of};
 
 use crate::fault::StimFault;
-use crate::numbers::{is_numeral, number_up_to};
 use crate::runs::{Kept, Runs};
 use crate::source::Source;
 use crate::variable::Variable;
 use gate_netlist::TextSeed;
 use indexmap::IndexSet;
 use std::alloc::Global;
+use text_numbers::{is_numeral, number_up_to};
 
 /// The greatest number of a bit.
 const LAST_BIT: u64 = 4_294_967_295;

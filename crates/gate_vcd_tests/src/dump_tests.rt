@@ -4,11 +4,12 @@ ghost use Rattle.net_waves.specs.Waves.{wave_of, IsUntil};
 use crate::rows::{circuit, stimulus};
 use byte_sinks::{Grow, Sink};
 use gate_netlist::Circuit;
+use gate_stimulus::Stimulus;
 use gate_values::{Change, Logic};
-use gate_vcd::{Stimulus, WriteFault, code, write_vcd};
 use net_waves::{Waves, are_waves};
 use std::alloc::Global;
 use std::test::Fail;
+use vcd_dumps::{WriteFault, code, write_vcd};
 
 pub const BENCH: &str = "INPUT(A)\nOUTPUT(Y)\nY = NOT(A)\n";
 

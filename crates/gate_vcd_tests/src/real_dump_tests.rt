@@ -3,7 +3,7 @@
 //! off, from 10 to 20, it says x.
 
 use crate::rows::{Row, assert_rows, stimulus};
-use gate_vcd::{Timescale, Unit};
+use gate_stimulus::{Timescale, Unit};
 use std::alloc::Global;
 use std::test::Fail;
 

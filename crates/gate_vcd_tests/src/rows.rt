@@ -1,8 +1,9 @@
 //! Rows of tests, and what they say of a stimulus text.
 
 use gate_netlist::{Circuit, read_bench};
+use gate_stimulus::Stimulus;
 use gate_values::{Change, Logic};
-use gate_vcd::{Stimulus, read_stimulus};
+use gate_vcd::read_stimulus;
 use std::alloc::Global;
 use std::process::Abort;
 use std::test::Fail;

@@ -1,9 +1,9 @@
 use crate::dump_tests::{DUMP, write};
 use byte_sinks::Sink;
-use gate_vcd::WriteFault;
 use std::alloc::Global;
 use std::process::Abort;
 use std::test::Fail;
+use vcd_dumps::WriteFault;
 
 /// A sink that takes so many bytes as it has room for, and then fails: it answers that it took none, or nothing.
 #[derive(Drop)]

@@ -1,6 +1,6 @@
 use crate::rows::{Row, assert_changes, assert_rows, circuit, stimulus};
+use gate_stimulus::{Stimulus, Timescale, Unit};
 use gate_values::Logic;
-use gate_vcd::{Stimulus, Timescale, Unit};
 use std::alloc::Global;
 use std::test::Fail;
 

@@ -2,8 +2,8 @@ ghost use Rattle.std.specs.Prelude.{◌≡◌, ℕ, IfOk, length};
 ghost use Rattle.net_waves.specs.Waves.{wave_of, IsUntil};
 
 use gate_netlist::{Circuit, read_bench};
+use gate_stimulus::{Timescale, Unit};
 use gate_values::{Change, Logic};
-use gate_vcd::{Timescale, Unit};
 use net_waves::Waves;
 use std::alloc::Global;
 use std::process::Abort;

@@ -4,12 +4,13 @@
 //! circuit by the calls below it, in two blocks by two workers, and prints the changes of one net.
 #![tactic(auto)]
 
-ghost use Rattle.gate_vcd.specs.Given.{Fits};
+ghost use Rattle.gate_stimulus.specs.Given.{Fits};
 
 use anyhow::{Result, bail};
 use gate_netlist::{Circuit, Cut, read_bench};
+use gate_stimulus::Stimulus;
 use gate_values::Logic;
-use gate_vcd::{Stimulus, read_stimulus};
+use gate_vcd::read_stimulus;
 use net_waves::Waves;
 use std::alloc::{AllocError, Global};
 use std::fmt::Write as _;

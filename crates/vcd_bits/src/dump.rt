@@ -14,7 +14,8 @@ ghost use Rattle.vcd_bits.specs.Shown.Tables.{bits_in};
 use crate::scoped::{Scoped, read_scoped};
 use crate::table::Table;
 use gate_netlist::TextSeed;
-use gate_vcd::{Followed, Source, StimFault, Timescale, Variable, Words, read_sources};
+use gate_stimulus::Timescale;
+use gate_vcd::{Followed, Source, StimFault, Variable, Words, read_sources};
 use std::alloc::Global;
 
 /// A dump whose declarations are read: the bits of a scope, and what is left of its text.

@@ -5,9 +5,10 @@ ghost use Rattle.gate_vcd.specs.Shown.Scalars.{vector as vector_in};
 ghost use Rattle.gate_vcd.specs.Vectors.{last_bit};
 ghost use Rattle.vcd_bits.specs.Names.{after_scope, below, named_in, number_from_left, single_name};
 
-use gate_vcd::{StimFault, Variable, Vector, number_up_to};
+use gate_vcd::{StimFault, Variable, Vector};
 use itoa::Buffer;
 use std::alloc::Global;
+use text_numbers::number_up_to;
 
 /// What follows a scope's text in a path: nothing, or a dot and the path below it.
 fn after_scope(rest: &[u8]) -> Option<&[u8]>

@@ -11,7 +11,7 @@ use Rattle.gate_vcd.specs.declared.fault.StimCause.TheVariants as causes
 use Rattle.gate_vcd.specs.Tokens.{Token, tokens_of}
 use Rattle.gate_vcd.specs.Reading.{Fails}
 use Rattle.gate_vcd.specs.Changes.{Event, changes_with, items, nothing, events_from, last_time}
-use Rattle.gate_vcd.specs.Given.{Given, changes_of, value_at}
+use Rattle.gate_stimulus.specs.Given.{Given, changes_of, value_at}
 use Rattle.gate_vcd.specs.Stimulus.{has_code, value_of_source}
 use Rattle.gate_vcd.specs.Shown.Known.{is_used, sources_by}
 use Rattle.gate_vcd.proofs.DeclarationLaws.{fails_then}

@@ -6,8 +6,8 @@ use Rattle.gate_vcd.specs.declared.fault.StimFault.{StimFault}
 use Rattle.gate_vcd.specs.declared.fault.StimCause.TheVariants as causes
 use Rattle.gate_vcd.specs.declared.keyword.Keyword.{Keyword}
 use Rattle.gate_vcd.specs.declared.keyword.Keyword.TheVariants as words
-use Rattle.gate_vcd.specs.declared.timescale.Timescale.{Timescale}
-use Rattle.gate_vcd.specs.declared.timescale.Unit.{Unit}
+use Rattle.gate_stimulus.specs.declared.timescale.Timescale.{Timescale}
+use Rattle.gate_stimulus.specs.declared.timescale.Unit.{Unit}
 use Rattle.gate_netlist.specs.Bench.{◌>>=◌}
 use Rattle.gate_vcd.specs.Reading.{or_fault}
 use Rattle.gate_vcd.specs.Tokens.{Token, is_end, fault_at}

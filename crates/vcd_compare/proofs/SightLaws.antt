@@ -5,10 +5,9 @@ use Rattle.gate_values.specs.declared.logic.Logic.{Logic}
 use Rattle.gate_values.specs.declared.logic.Logic.TheVariants.{X}
 use Rattle.gate_values.specs.declared.logic.Change.{Change}
 use Rattle.gate_values.specs.Changes.{latest}
-use Rattle.gate_vcd.specs.Changes.{last_stamp}
-use Rattle.gate_vcd.specs.Given.{AreItsChanges}
-use Rattle.gate_vcd.proofs.Settling.{AreBelow, changes-below}
-use Rattle.gate_vcd.proofs.Laid.{its_rising}
+use Rattle.gate_stimulus.specs.Given.{last_stamp, AreItsChanges}
+use Rattle.gate_stimulus.proofs.ChangesOf.{AreBelow, changes-below}
+use Rattle.gate_stimulus.proofs.Laid.{its_rising}
 use Rattle.bit_compare.specs.declared.difference.Difference.{Difference}
 use Rattle.bit_compare.specs.declared.difference.Tolerance.{Tolerance}
 use Rattle.bit_compare.specs.declared.times.Times.{Times}

@@ -2,7 +2,7 @@
 use Rattle.std.specs.Prelude.{◌≡◌, ℕ, ◌<◌, nat_eq, if◌then◌else◌, List, [], ◌∷◌, slice_get, length, Option, Some, None, option_map}
 use Rattle.std.specs.List.{AllByRecursion}
 use Rattle.gate_values.specs.declared.logic.Logic.{Logic}
-use Rattle.gate_vcd.specs.declared.timescale.Timescale.{Timescale}
+use Rattle.gate_stimulus.specs.declared.timescale.Timescale.{Timescale}
 use Rattle.gate_vcd.specs.Changes.{Event, Source, changes_with}
 use Rattle.bit_compare.specs.declared.difference.Difference.{Difference}
 use Rattle.bit_compare.specs.Bits.{Lens, value_through}

@@ -1,7 +1,7 @@
 -- What a dump says of bits over time.
 use Rattle.std.specs.Prelude.{ℕ, List, Option, None, Result, Ok}
 use Rattle.gate_vcd.specs.declared.fault.StimFault.{StimFault}
-use Rattle.gate_vcd.specs.declared.timescale.Timescale.{Timescale}
+use Rattle.gate_stimulus.specs.declared.timescale.Timescale.{Timescale}
 use Rattle.gate_netlist.specs.Bench.{◌>>=◌}
 use Rattle.gate_vcd.specs.Tokens.{tokens_of}
 use Rattle.gate_vcd.specs.Changes.{Event, items, nothing, events_from, last_time}

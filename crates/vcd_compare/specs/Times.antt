@@ -1,9 +1,9 @@
 -- The common unit of two dumps, and the times that are compared in it.
 use Rattle.std.specs.Prelude.{◌≡◌, ℕ, ◌*◌, ◌/◌, ◌<◌, nat_le, if◌then◌else◌, List, Option, Some, None, option_map, unwrap_or}
 use Rattle.std.specs.Borrow.{Bor}
-use Rattle.gate_vcd.specs.declared.timescale.Timescale.{Timescale}
-use Rattle.gate_vcd.specs.declared.timescale.Unit.{Unit}
-use Rattle.gate_vcd.specs.declared.timescale.Unit.TheVariants as units
+use Rattle.gate_stimulus.specs.declared.timescale.Timescale.{Timescale}
+use Rattle.gate_stimulus.specs.declared.timescale.Unit.{Unit}
+use Rattle.gate_stimulus.specs.declared.timescale.Unit.TheVariants as units
 use Rattle.bit_compare.specs.declared.times.Times.{Times}
 use Rattle.bit_compare.specs.declared.difference.Tolerance.{Tolerance}
 use Rattle.bit_compare.specs.Bits.{Lens}

@@ -15,7 +15,8 @@ use crate::pairs::Pairs;
 use crate::report::{Options, Report};
 use crate::sight::Sight;
 use crate::times::finer;
-use gate_vcd::{Followed, StimCause, StimFault, Timescale};
+use gate_stimulus::Timescale;
+use gate_vcd::{Followed, StimCause, StimFault};
 use std::alloc::Global;
 use vcd_bits::{Dump, Table};
 

@@ -1,5 +1,5 @@
 ghost use Rattle.std.specs.Prelude.{◌≡◌, ◌≤◌, ◌<◌, ◌^◌, ℕ, List, Some, length, get_or, IfErr, IfOk, OnOk};
-ghost use Rattle.gate_vcd.specs.Given.{changes_of};
+ghost use Rattle.gate_stimulus.specs.Given.{changes_of};
 ghost use Rattle.bit_compare.specs.Agreement.{IsFinding};
 ghost use Rattle.bit_compare.specs.Bits.{value_through};
 ghost use Rattle.vcd_bits.specs.Shown.Tables.{bits_in};
@@ -13,7 +13,7 @@ use crate::pairs::Pairs;
 use crate::report::Differing;
 use crate::sight::Sight;
 use bit_compare::Difference;
-use gate_vcd::Stimulus;
+use gate_stimulus::Stimulus;
 use std::alloc::Global;
 use vcd_bits::Table;
 

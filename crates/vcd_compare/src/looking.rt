@@ -5,7 +5,7 @@ ghost use Rattle.vcd_compare.specs.Inner.Sights.{IsSmallSight, sight_by};
 use crate::report::Options;
 use crate::sight::Sight;
 use crate::times::{finer, how_of, times_of, units_in};
-use gate_vcd::Timescale;
+use gate_stimulus::Timescale;
 
 /// How two dumps with these timescales are looked at, where the last stamp of the one that is expected is this.
 pub fn sight_of(options: &Options, expected: Timescale, actual: Timescale, last: u64) -> Sight

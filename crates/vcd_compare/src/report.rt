@@ -1,5 +1,5 @@
 use bit_compare::{Difference, Times, Tolerance};
-use gate_vcd::Timescale;
+use gate_stimulus::Timescale;
 
 /// What is compared of two dumps, and how. Times are in units of the timescale of the dump that is expected.
 #[derive(Clone, Copy, Debug)]

@@ -1,11 +1,11 @@
 ghost use Rattle.std.specs.Prelude.{◌≡◌, ◌<◌, ◌≤◌, ◌^◌};
-ghost use Rattle.gate_vcd.specs.Given.{changes_of};
+ghost use Rattle.gate_stimulus.specs.Given.{changes_of};
 ghost use Rattle.bit_compare.specs.Agreement.{IsFinding};
 ghost use Rattle.bit_compare.specs.Bits.{value_through};
 ghost use Rattle.vcd_compare.specs.Inner.Sights.{IsSmallSight, actual_through, expected_through};
 
 use bit_compare::{Difference, Shown, Times, Tolerance, first_difference};
-use gate_vcd::Stimulus;
+use gate_stimulus::Stimulus;
 
 /// How two dumps are looked at, in the common unit of time.
 #[derive(Clone, Copy, Debug)]

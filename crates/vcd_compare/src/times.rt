@@ -4,7 +4,7 @@ ghost use Rattle.vcd_compare.specs.Times.{femtoseconds, femtoseconds_in, finer, 
 
 use crate::report::Options;
 use bit_compare::{Times, Tolerance};
-use gate_vcd::{Timescale, Unit};
+use gate_stimulus::{Timescale, Unit};
 
 /// How long a unit of time is, in fs.
 fn femtoseconds_in(unit: Unit) -> u64

@@ -6,12 +6,12 @@ use Rattle.gate_values.specs.declared.logic.Logic.{Logic}
 use Rattle.gate_values.specs.declared.logic.Logic.TheVariants.{X}
 use Rattle.gate_values.specs.declared.logic.Change.{Change}
 use Rattle.gate_values.specs.Changes.{changes}
-use Rattle.gate_vcd.specs.declared.timescale.Timescale.{Timescale}
-use Rattle.gate_vcd.specs.declared.timescale.Unit.TheVariants.{Ns}
-use Rattle.gate_vcd.specs.Dump.{var_line, var_lines, value_line, first_lines, header, moments, dump_text}
+use Rattle.gate_stimulus.specs.declared.timescale.Timescale.{Timescale}
+use Rattle.gate_stimulus.specs.declared.timescale.Unit.TheVariants.{Ns}
+use Rattle.vcd_dumps.specs.Dump.{var_line, var_lines, value_line, first_lines, header, moments, dump_text}
 use Rattle.net_waves.specs.Waves.{wave_of, wave_value}
-use Rattle.gate_vcd.proofs.DumpLaws.{dump_text-agree}
-use Rattle.gate_vcd.proofs.WaveValues.{latest-changes}
+use Rattle.vcd_dumps.proofs.DumpLaws.{dump_text-agree}
+use Rattle.gate_stimulus.proofs.WaveValues.{latest-changes}
 use Rattle.vcd_only.specs.Told.{is_told, if_told, told_vars, told_header, told_first, hidden, told_text}
 
 some_scale : Timescale

@@ -7,15 +7,15 @@ use Rattle.gate_values.specs.declared.logic.Logic.{Logic}
 use Rattle.gate_values.specs.declared.logic.Logic.TheVariants.{X}
 use Rattle.gate_values.specs.declared.logic.Change.{Change}
 use Rattle.gate_values.specs.Changes.{latest}
-use Rattle.gate_vcd.specs.Dump.{moments}
+use Rattle.vcd_dumps.specs.Dump.{moments}
 use Rattle.net_waves.specs.Waves.{wave_of, wave_value, IsWave, IsUntil}
 use Rattle.net_waves.specs.declared.timeline.Stop.{Stop}
 use Rattle.net_waves.specs.Timeline.{InOrder, count}
 use Rattle.net_waves.specs.Inner.Stops.{stops_of, stops_below}
-use Rattle.gate_vcd.specs.Inner.Walk.{walked, last_stop, tail_line}
+use Rattle.vcd_dumps.specs.Inner.Walk.{walked, last_stop, tail_line}
 use Rattle.net_waves.proofs.Compared.{cases_lt}
-use Rattle.gate_vcd.proofs.Stops.{moments-walked, known_below, all_stops, all_stops-rising}
-use Rattle.gate_vcd.proofs.WaveValues.{stops_are}
+use Rattle.vcd_dumps.proofs.Stops.{moments-walked, known_below, all_stops, all_stops-rising}
+use Rattle.vcd_dumps.proofs.WaveStops.{stops_are}
 use Rattle.net_waves.proofs.Waving.{in_step-of}
 use Rattle.vcd_only.specs.Told.{is_told, hidden}
 use Rattle.vcd_only.specs.Inner.Stops.{shown_wave, shown}

@@ -2,8 +2,8 @@
 use Rattle.std.specs.Prelude.{ℕ, zero, suc, Bool, false, if◌then◌else◌, List, [], ◌++◌, length, get_or, codes}
 use Rattle.gate_values.specs.declared.logic.Logic.{Logic}
 use Rattle.gate_values.specs.declared.logic.Logic.TheVariants.{X}
-use Rattle.gate_vcd.specs.declared.timescale.Timescale.{Timescale}
-use Rattle.gate_vcd.specs.Dump.{timescale_line, scope_line, var_line, value_line, moments}
+use Rattle.gate_stimulus.specs.declared.timescale.Timescale.{Timescale}
+use Rattle.vcd_dumps.specs.Dump.{timescale_line, scope_line, var_line, value_line, moments}
 
 -- `told` says of each net whether it is told; of a net that it doesn't speak of it isn't
 abbrev pub is_told : List Bool → ℕ → Bool

@@ -1,7 +1,7 @@
 ghost use Rattle.std.specs.Prelude.{◌≡◌, ℕ, ◌<◌, ◌≤◌, Bool, true, List, length};
 ghost use Rattle.gate_values.specs.declared.logic.Logic.{Logic};
-ghost use Rattle.gate_vcd.specs.declared.timescale.Timescale.{Timescale};
-ghost use Rattle.gate_vcd.specs.Dump.{dump_text};
+ghost use Rattle.gate_stimulus.specs.declared.timescale.Timescale.{Timescale};
+ghost use Rattle.vcd_dumps.specs.Dump.{dump_text};
 ghost use Rattle.vcd_only.specs.Told.{is_told, told_text};
 
 /// What is true of these texts: where each net is told it is the whole dump, and values that agree for the named nets up

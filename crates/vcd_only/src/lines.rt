@@ -1,13 +1,14 @@
 //! The lines of a dump, one at a time, at the end of a text.
 
 ghost use Rattle.std.specs.Prelude.{◌≡◌, ◌<◌, ◌∷◌, ◌++◌, [], decimal, OnOk};
-ghost use Rattle.gate_vcd.specs.Codes.{code_of};
-ghost use Rattle.gate_vcd.specs.Dump.{letter, stamp, value_line, var_line, timescale_line, scope_line};
+ghost use Rattle.vcd_dumps.specs.Codes.{code_of};
+ghost use Rattle.vcd_dumps.specs.Dump.{letter, stamp, value_line, var_line, timescale_line, scope_line};
 
+use gate_stimulus::Timescale;
 use gate_values::Logic;
-use gate_vcd::{Timescale, code};
 use itoa::Buffer;
 use std::alloc::AllocError;
+use vcd_dumps::code;
 
 fn letter(value: Logic) -> u8
     ensures { result ≡ letter value }

@@ -6,8 +6,8 @@ ghost use Rattle.gate_netlist.specs.Circuit.{nets_of};
 ghost use Rattle.gate_values.specs.declared.logic.Logic.TheVariants.{X};
 ghost use Rattle.gate_values.specs.Changes.{latest};
 ghost use Rattle.net_waves.specs.declared.timeline.Stop.{Stop};
-ghost use Rattle.gate_vcd.specs.Dump.{var_line, value_line};
-ghost use Rattle.gate_vcd.specs.Inner.Walk.{stop_lines, walked, last_stop, tail_line};
+ghost use Rattle.vcd_dumps.specs.Dump.{var_line, value_line};
+ghost use Rattle.vcd_dumps.specs.Inner.Walk.{stop_lines, walked, last_stop, tail_line};
 ghost use Rattle.net_waves.specs.Waves.{wave_of, wave_value, IsWave, IsUntil};
 ghost use Rattle.vcd_only.specs.Inner.Stops.{stops_in};
 ghost use Rattle.vcd_only.specs.Told.{if_told, told_vars, told_header, told_first, told_text};
@@ -15,8 +15,8 @@ ghost use Rattle.vcd_only.specs.Told.{if_told, told_vars, told_header, told_firs
 use crate::lines::{push_scope, push_stamp, push_text, push_timescale, push_value, push_var};
 use crate::stops::{Told, is_told, stops_of};
 use gate_netlist::Circuit;
+use gate_stimulus::Timescale;
 use gate_values::{Change, Logic};
-use gate_vcd::Timescale;
 use net_waves::Waves;
 use std::alloc::{AllocError, Global};
 
@@ -94,7 +94,7 @@ fn push_vars(text: &mut Vec<u8>, circuit: &Circuit, told: &[bool]) -> Result<(),
 }
 
 /// The value at 0 that the changes of a net leave.
-#[tactic(auto, using(gate_vcd::proofs::WaveValues::first_values))]
+#[tactic(auto, using(gate_stimulus::proofs::WaveValues::first_values))]
 fn first_value(changes: &[Change]) -> Logic
     requires { IsWave changes.now }
     ensures { result ≡ latest X changes.now 0 }

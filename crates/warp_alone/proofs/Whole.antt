@@ -8,7 +8,7 @@ use Rattle.gate_values.specs.declared.logic.Change.{Change}
 use Rattle.gate_values.specs.Changes.{changes, before_time}
 use Rattle.gate_netlist.specs.Circuit.{Design, CutFits, nets_of}
 use Rattle.gate_netlist.specs.Cut.{Ownership, IsOwnership, is_owner, owner_of}
-use Rattle.gate_vcd.specs.Given.{Given, Fits, AreItsChanges, changes_of}
+use Rattle.gate_stimulus.specs.Given.{Given, Fits, AreItsChanges, changes_of}
 use Rattle.net_waves.specs.declared.timeline.Stop.{Stop}
 use Rattle.net_waves.specs.declared.by_time.ByTime.{ByTime}
 use Rattle.net_waves.specs.ByTime.{stops_in}

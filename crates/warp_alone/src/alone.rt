@@ -1,6 +1,6 @@
 //! The changes of a circuit's nets by time.
 ghost use Rattle.std.specs.Prelude.{◌≤◌, ◌+◌, IfOk, IfSome};
-ghost use Rattle.gate_vcd.specs.Given.{Fits};
+ghost use Rattle.gate_stimulus.specs.Given.{Fits};
 ghost use Rattle.net_waves.specs.ByTime.{stops_in};
 ghost use Rattle.net_waves.specs.Stops.{AreStopsOf};
 ghost use Rattle.warp_process.specs.Heard.{IsReceived};
@@ -13,7 +13,7 @@ ghost use Rattle.warp_core.specs.Values.{circuit_waves};
 
 use crate::playing::history_of;
 use gate_netlist::{Circuit, Cut};
-use gate_vcd::Stimulus;
+use gate_stimulus::Stimulus;
 use history_waves::by_time_of;
 use net_waves::{ByTime, stops_by_time};
 use std::alloc::{AllocError, Global};

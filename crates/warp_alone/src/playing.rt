@@ -10,7 +10,7 @@ ghost use Rattle.warp_part.specs.Placing.{place_source, place_given};
 ghost use Rattle.part_engine.specs.Runs.{IsEngineOf, IsNextBrought, begins_of};
 ghost use Rattle.part_engine.specs.Histories.{TellLogs};
 
-use gate_vcd::Stimulus;
+use gate_stimulus::Stimulus;
 use part_engine::{begins, bring, bring_first, next_brought, next_time, opening_engine};
 use std::alloc::{AllocError, Global};
 use warp_engine::Engine;

@@ -12,7 +12,7 @@ use Rattle.gate_values.specs.Behaviour.{Source, Outside, Gate, Flop, value, sour
 use Rattle.gate_values.specs.Changes.{changes, before_time, same}
 use Rattle.gate_values.proofs.ChangeLists.{before_time-changes, changes-agree, changes-quiet}
 use Rattle.gate_values.proofs.Beginning.{initial_before}
-use Rattle.gate_vcd.specs.Given.{Given}
+use Rattle.gate_stimulus.specs.Given.{Given}
 use Rattle.event_times.specs.Marks.{Played, AreTimes}
 use Rattle.warp_stores.specs.Words.{Move}
 use Rattle.warp_stores.specs.Dated.{Dated, at}

@@ -1,8 +1,9 @@
 use Logic::{One, X, Z, Zero};
 use Sign::{Minus, Plus};
 use gate_netlist::{Circuit, Cut, read_bench};
+use gate_stimulus::Stimulus;
 use gate_values::{Change, Logic};
-use gate_vcd::{Stimulus, read_stimulus};
+use gate_vcd::read_stimulus;
 use std::alloc::Global;
 use std::process::Abort;
 use std::test::Fail;

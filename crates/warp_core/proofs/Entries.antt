@@ -2,7 +2,7 @@
 use Rattle.std.proofs.Common.{◌≡◌, ℕ, ◌+◌, arith, false, Option, None, is_some, not, ◌&&◌, List, inl, inr, ap, sym, ◌∙◌}
 use Rattle.std.proofs.lemmas.Bool.{cases_Bool, cases_lt, true≢false}
 use Rattle.gate_netlist.specs.Cut.{Ownership}
-use Rattle.gate_vcd.specs.Given.{Given}
+use Rattle.gate_stimulus.specs.Given.{Given}
 use Rattle.warp_process.specs.Entries.{is_settled}
 use Rattle.warp_part.specs.Portion.{slot_of, reads, owns}
 use Rattle.warp_process.specs.View.{View, Process, entry_of}

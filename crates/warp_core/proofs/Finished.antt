@@ -6,10 +6,9 @@ use Rattle.gate_values.specs.Behaviour.{source_delay}
 use Rattle.gate_values.specs.Changes.{changes, before_time, latest}
 use Rattle.gate_values.specs.declared.logic.Logic.TheVariants.{X}
 use Rattle.gate_values.proofs.ChangeLists.{before_time-changes}
-use Rattle.gate_vcd.specs.Given.{AreItsChanges}
-use Rattle.gate_vcd.specs.Changes.{last_stamp}
+use Rattle.gate_stimulus.specs.Given.{AreItsChanges, last_stamp}
 use Rattle.net_waves.specs.Waves.{IsWave, IsUntil}
-use Rattle.gate_vcd.proofs.WaveValues.{changes-IsWave}
+use Rattle.gate_stimulus.proofs.WaveValues.{changes-IsWave}
 use Rattle.warp_process.specs.Limits.{most_horizon}
 use Rattle.warp_part.specs.Portion.{source_of, owns}
 use Rattle.warp_process.specs.View.{View, IsDone, log_of, effective_at, block_value}

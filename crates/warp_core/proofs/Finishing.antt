@@ -7,7 +7,7 @@ use Rattle.gate_values.specs.declared.logic.Change.{Change}
 use Rattle.gate_values.specs.Changes.{pair_at, before_time}
 use Rattle.gate_netlist.specs.Circuit.{driver_of, is_input as is_input_driver}
 use Rattle.gate_netlist.specs.Cut.{IsOwnership, owner_of}
-use Rattle.gate_vcd.specs.Given.{AreItsChanges, changes_of}
+use Rattle.gate_stimulus.specs.Given.{AreItsChanges, changes_of}
 use Rattle.net_waves.specs.Waves.{IsWaveFrom, end_time}
 use Rattle.warp_process.specs.Entries.{effective_of, no_messages, is_settled}
 use Rattle.warp_part.specs.PartOf.{part_of, part_nets}

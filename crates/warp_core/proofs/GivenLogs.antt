@@ -6,7 +6,7 @@ use Rattle.gate_values.specs.declared.logic.Change.{Change}
 use Rattle.gate_values.specs.Changes.{before_time}
 use Rattle.gate_netlist.specs.Circuit.{Design, CutFits, nets_of}
 use Rattle.gate_netlist.specs.Cut.{Ownership, IsOwnership, is_owner, owner_of}
-use Rattle.gate_vcd.specs.Given.{Given, AreItsChanges, changes_of}
+use Rattle.gate_stimulus.specs.Given.{Given, AreItsChanges, changes_of}
 use Rattle.net_waves.specs.Waves.{wave_of, IsWave}
 use Rattle.net_waves.proofs.Compared.{cases_eq}
 use Rattle.warp_process.specs.Limits.{most_horizon}

@@ -10,7 +10,7 @@ use Rattle.gate_values.specs.Behaviour.{Outside}
 use Rattle.gate_values.specs.Changes.{pair_at, changes}
 use Rattle.gate_netlist.specs.Circuit.{Design, nets_of}
 use Rattle.gate_netlist.specs.Cut.{Ownership}
-use Rattle.gate_vcd.specs.Given.{Given}
+use Rattle.gate_stimulus.specs.Given.{Given}
 use Rattle.std.specs.declared.alloc.AllocError.{AllocError}
 use Rattle.net_waves.specs.declared.timeline.Stop.{Stop}
 use Rattle.net_waves.specs.declared.by_time.ByTime.{ByTime}

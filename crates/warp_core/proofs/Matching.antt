@@ -11,7 +11,7 @@ use Rattle.gate_values.proofs.Behaving.{Joined, same_values, outside_is}
 use Rattle.gate_values.proofs.ChangeLists.{held-changes, pair_at-changes, changes-agree}
 use Rattle.gate_netlist.specs.Circuit.{Design, CutFits, nets_of, source_of as circuit_source}
 use Rattle.gate_netlist.specs.Cut.{Ownership, IsOwnership, owner_of}
-use Rattle.gate_vcd.specs.Given.{Given, AreItsChanges, value_at, changes_of}
+use Rattle.gate_stimulus.specs.Given.{Given, AreItsChanges, value_at, changes_of}
 use Rattle.warp_process.specs.Limits.{most_horizon}
 use Rattle.warp_part.specs.Portion.{Portion, owns, reads, slot_of, source_of}
 use Rattle.warp_process.specs.View.{View, Process, effective_at, given_by as received, block_value, log_of}

@@ -3,7 +3,7 @@ use Rattle.std.proofs.Common.{◌≡◌, ℕ, ◌+◌, Bool, true, false, cond, 
 use Rattle.std.specs.Str.{bytes_eq}
 use Rattle.gate_netlist.specs.Lines.{lines_of}
 use Rattle.gate_netlist.specs.Bench.{◌>>=◌}
-use Rattle.gate_vcd.specs.Numbers.{is_numeral}
+use Rattle.text_numbers.specs.Numbers.{is_numeral}
 use Rattle.warp_core.specs.declared.schedule.fault.ScheduleCause.{ScheduleCause}
 use Rattle.warp_core.specs.declared.schedule.fault.ScheduleCause.TheVariants.{BadLine, NumberTooLarge, Memory}
 use Rattle.warp_core.specs.Schedule.{number_of, deliver, advance, event_of, begins_comment, said, words_of, meaning_of, at_line, events_from, schedule_of, IsOfSchedule}

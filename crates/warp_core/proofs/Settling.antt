@@ -9,7 +9,7 @@ use Rattle.gate_values.specs.declared.logic.Logic.TheVariants.{Zero, One, X, Z}
 use Rattle.gate_values.specs.declared.logic.Change.{Change}
 use Rattle.gate_values.specs.Changes.{same, pair_at, before_time}
 use Rattle.gate_netlist.specs.Cut.{owner_of}
-use Rattle.gate_vcd.specs.Given.{changes_of}
+use Rattle.gate_stimulus.specs.Given.{changes_of}
 use Rattle.net_waves.specs.Waves.{IsWaveFrom}
 use Rattle.warp_process.specs.declared.entry.Entry.{Entry}
 use Rattle.warp_process.specs.declared.message.Message.{Message}

@@ -10,7 +10,7 @@ use Rattle.gate_values.specs.declared.logic.Logic.TheVariants.{Zero, One, X, Z}
 use Rattle.gate_netlist.specs.Circuit.{Design, CutFits}
 use Rattle.gate_netlist.specs.Cut.{Ownership, owner_of}
 use Rattle.gate_netlist.proofs.Grouping.{range_more}
-use Rattle.gate_vcd.specs.Given.{Given, Fits}
+use Rattle.gate_stimulus.specs.Given.{Given, Fits}
 use Rattle.warp_process.specs.Limits.{most_horizon}
 use Rattle.warp_process.specs.declared.message.Message.{Message}
 use Rattle.warp_process.specs.declared.message.Sign.TheVariants.{Plus}

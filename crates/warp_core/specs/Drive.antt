@@ -3,7 +3,7 @@ use Rattle.std.specs.Prelude.{◌≡◌, ℕ, zero, suc, ◌+◌, ◌<◌, ◌�
 use Rattle.std.specs.List.{All, count_by}
 use Rattle.gate_netlist.specs.Circuit.{Design}
 use Rattle.gate_netlist.specs.Cut.{Ownership}
-use Rattle.gate_vcd.specs.Given.{Given}
+use Rattle.gate_stimulus.specs.Given.{Given}
 use Rattle.warp_process.specs.declared.message.Message.{Message}
 use Rattle.warp_core.specs.declared.driver.DriveFault.{DriveFault}
 use Rattle.warp_core.specs.declared.driver.DriveFault.TheVariants.{Memory, BadOrder}

@@ -3,7 +3,7 @@ use Rattle.std.specs.Prelude.{◌≡◌, ℕ, ◌<◌, List, codes, length, Resu
 use Rattle.gate_values.specs.declared.logic.Change.{Change}
 use Rattle.gate_netlist.specs.Circuit.{Design}
 use Rattle.gate_netlist.specs.Cut.{Ownership}
-use Rattle.gate_vcd.specs.Given.{Given}
+use Rattle.gate_stimulus.specs.Given.{Given}
 use Rattle.warp_process.specs.View.{View, Process, IsDone}
 use Rattle.warp_core.specs.declared.fault.GatherFault.{GatherFault}
 use Rattle.warp_core.specs.declared.fault.GatherFault.TheVariants.{WrongCount, WrongPart, Unfinished, Unsettled, Mismatch, Memory}

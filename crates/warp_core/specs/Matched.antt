@@ -4,7 +4,7 @@ use Rattle.gate_values.specs.declared.logic.Change.{Change}
 use Rattle.gate_values.specs.Changes.{pair_at, before_time}
 use Rattle.gate_netlist.specs.Circuit.{Design}
 use Rattle.gate_netlist.specs.Cut.{Ownership, owner_of}
-use Rattle.gate_vcd.specs.Given.{Given, changes_of}
+use Rattle.gate_stimulus.specs.Given.{Given, changes_of}
 use Rattle.warp_process.specs.Entries.{is_settled}
 use Rattle.warp_part.specs.Portion.{reads}
 use Rattle.warp_part.specs.PartOf.{part_of}

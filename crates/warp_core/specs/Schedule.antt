@@ -3,7 +3,7 @@ use Rattle.std.specs.Prelude.{◌≡◌, ℕ, ◌+◌, Bool, true, false, not, �
 use Rattle.std.specs.Str.{bytes_eq}
 use Rattle.gate_netlist.specs.Lines.{lines_of}
 use Rattle.gate_netlist.specs.Bench.{◌>>=◌}
-use Rattle.gate_vcd.specs.Numbers.{is_numeral, number_up_to}
+use Rattle.text_numbers.specs.Numbers.{is_numeral, number_up_to}
 use Rattle.warp_core.specs.declared.event.Event.{Event}
 use Rattle.warp_core.specs.declared.event.Event.TheVariants.{Deliver, Advance, Commit}
 use Rattle.warp_core.specs.declared.schedule.fault.ScheduleCause.{ScheduleCause}

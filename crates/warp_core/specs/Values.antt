@@ -6,7 +6,7 @@ use Rattle.gate_values.specs.declared.logic.Change.{Change}
 use Rattle.gate_values.specs.Behaviour.{value}
 use Rattle.gate_values.specs.Changes.{changes}
 use Rattle.gate_netlist.specs.Circuit.{Design, nets_of, source_of}
-use Rattle.gate_vcd.specs.Given.{Given, value_at}
+use Rattle.gate_stimulus.specs.Given.{Given, value_at}
 use Rattle.net_waves.specs.Waves.{wave_of}
 
 -- what the stimulus gives each net at each time

@@ -3,7 +3,7 @@ use Rattle.std.specs.Prelude.{◌≡◌, ℕ, ℤ, pos, ◌+ℤ◌, ◌+◌, ◌
 use Rattle.std.specs.List.{All, list_any, flat_map, range_with_len}
 use Rattle.gate_netlist.specs.Circuit.{Design, CutFits}
 use Rattle.gate_netlist.specs.Cut.{Ownership, owner_of}
-use Rattle.gate_vcd.specs.Given.{Given, Fits}
+use Rattle.gate_stimulus.specs.Given.{Given, Fits}
 use Rattle.warp_process.specs.declared.message.Message.{Message}
 use Rattle.warp_process.specs.Entries.{number_of}
 use Rattle.warp_process.specs.Lawful.{IsLawful}

@@ -1,6 +1,6 @@
 ghost use Rattle.std.specs.Prelude.{◌≡◌, Some, ◌≤◌, ◌+◌, ℕ, IfOk, IfErr, OnOk, OnErr};
 ghost use Rattle.gate_netlist.specs.Circuit.{CutFits};
-ghost use Rattle.gate_vcd.specs.Given.{Fits};
+ghost use Rattle.gate_stimulus.specs.Given.{Fits};
 ghost use Rattle.warp_process.specs.Limits.{most_horizon};
 ghost use Rattle.warp_core.specs.Values.{AreCircuitWaves};
 ghost use Rattle.warp_core.specs.World.{IsLeastTime};
@@ -12,7 +12,7 @@ use crate::event::PlayFault;
 use crate::order::is_order;
 use crate::world::World;
 use gate_netlist::{Circuit, Cut};
-use gate_vcd::Stimulus;
+use gate_stimulus::Stimulus;
 use net_waves::Waves;
 use std::alloc::{AllocError, Global};
 use std::error::Error;

@@ -1,6 +1,6 @@
 ghost use Rattle.std.specs.Prelude.{◌≡◌, ◌<◌, ◌≤◌, ◌↔◌, ℕ, IsTrue, IfOk, IfErr, IfSome, OnOk, MatchOption, Ok, length, vec_len};
 ghost use Rattle.gate_netlist.specs.Circuit.{CutFits};
-ghost use Rattle.gate_vcd.specs.Given.{Fits};
+ghost use Rattle.gate_stimulus.specs.Given.{Fits};
 ghost use Rattle.net_waves.specs.Waves.{lists_in, wave_of, IsWave};
 ghost use Rattle.net_waves.specs.Stops.{AreStopsOf};
 ghost use Rattle.net_waves.specs.ByTime.{stops_in};
@@ -21,7 +21,7 @@ use crate::fault::GatherFault;
 pub use changes::gather_changes;
 use findings::Finding;
 use gate_netlist::{Circuit, Cut};
-use gate_vcd::Stimulus;
+use gate_stimulus::Stimulus;
 use net_waves::Waves;
 use std::alloc::Global;
 use std::thread::Threads;

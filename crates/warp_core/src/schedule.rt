@@ -1,7 +1,7 @@
 ghost use Rattle.std.specs.Prelude.{◌≡◌, ◌++◌, ◌&&◌, ℕ, List, OnOk, IfErr, option_to_list, codes};
 ghost use Rattle.std.specs.Str.{bytes_eq};
 ghost use Rattle.gate_netlist.specs.Gives.{Gives};
-ghost use Rattle.gate_vcd.specs.Numbers.{is_numeral};
+ghost use Rattle.text_numbers.specs.Numbers.{is_numeral};
 ghost use Rattle.warp_core.specs.Schedule.{
   number_of,
   deliver,
@@ -21,8 +21,8 @@ mod words;
 use crate::event::Event;
 pub use fault::{ScheduleCause, ScheduleFault};
 use gate_netlist::next_line;
-use gate_vcd::{is_numeral, number_up_to};
 use std::alloc::{AllocError, Global};
+use text_numbers::{is_numeral, number_up_to};
 use words::next_word;
 
 /// The greatest number of a schedule.

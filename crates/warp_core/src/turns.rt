@@ -18,7 +18,7 @@ mod waiting;
 use crate::event::PlayFault;
 use crate::world::acts;
 use gate_netlist::{Circuit, Cut};
-use gate_vcd::Stimulus;
+use gate_stimulus::Stimulus;
 use left::keep_left;
 use std::alloc::{AllocError, Global};
 use waiting::Waiting;

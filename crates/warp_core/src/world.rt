@@ -1,6 +1,6 @@
 ghost use Rattle.std.specs.Prelude.{◌≡◌, ◌≤◌, ◌<◌, ◌+◌, ℕ, Some, None, IfOk, IfErr, IfNone, IfSome, OnOk, OnErr, length, get_or};
 ghost use Rattle.gate_netlist.specs.Circuit.{CutFits};
-ghost use Rattle.gate_vcd.specs.Given.{Fits};
+ghost use Rattle.gate_stimulus.specs.Given.{Fits};
 ghost use Rattle.warp_process.specs.Limits.{most_horizon};
 ghost use Rattle.warp_core.specs.Matched.{no_process, EachBlock};
 ghost use Rattle.warp_core.specs.Gather.{IsGathered};
@@ -21,7 +21,7 @@ use crate::flight::{Soonest, least_of, soonest_from, soonest_of, soonest_without
 use crate::gathering::gather;
 use crate::turns::{Course, play_turns};
 use gate_netlist::{Circuit, Cut};
-use gate_vcd::Stimulus;
+use gate_stimulus::Stimulus;
 use net_waves::Waves;
 use std::alloc::{AllocError, Global};
 use std::marker::Model;

@@ -1,12 +1,13 @@
 //! What the tests build of texts, and the circuit of two buffers, an AND and a NOT.
 ghost use Rattle.std.specs.Prelude.{◌≤◌, IfOk, OnOk};
 ghost use Rattle.gate_netlist.specs.Circuit.{CutFits};
-ghost use Rattle.gate_vcd.specs.Given.{Fits};
+ghost use Rattle.gate_stimulus.specs.Given.{Fits};
 
 use Logic::{One, Zero};
 use gate_netlist::{Circuit, Cut, read_bench};
+use gate_stimulus::Stimulus;
 use gate_values::{Change, Logic};
-use gate_vcd::{Stimulus, read_stimulus};
+use gate_vcd::read_stimulus;
 use net_waves::Waves;
 use std::alloc::Global;
 use std::test::Fail;

@@ -5,7 +5,7 @@ use Rattle.std.proofs.lemmas.List.{get_or-map, get_or_default, get_or-take, leng
 use Rattle.gate_values.specs.declared.logic.Change.{Change}
 use Rattle.gate_values.specs.Behaviour.{Outside}
 use Rattle.gate_values.specs.Changes.{before_time}
-use Rattle.gate_vcd.specs.Given.{Given, changes_of}
+use Rattle.gate_stimulus.specs.Given.{Given, changes_of}
 use Rattle.net_waves.specs.Inner.Lists.{IsRising}
 use Rattle.warp_part.specs.Portion.{Portion, at_slot, IsPortion, is_driven, is_input, owns}
 use Rattle.warp_part.proofs.Slots.{of_net-at, of_net-map}

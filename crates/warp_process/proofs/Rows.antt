@@ -11,7 +11,7 @@ use Rattle.gate_values.specs.Behaviour.{Source, Outside, value, source_delay}
 use Rattle.gate_values.specs.Changes.{pair_at, changes, latest, held, before_time}
 use Rattle.gate_values.proofs.Behaving.{outside_is}
 use Rattle.gate_values.proofs.ChangeLists.{before_time-changes}
-use Rattle.gate_vcd.proofs.WaveValues.{latest-changes}
+use Rattle.gate_stimulus.proofs.WaveValues.{latest-changes}
 use Rattle.warp_process.specs.Entries.{Received, IsQueue, entry_in}
 use Rattle.warp_process.specs.Inner.Entries.{effective_in}
 use Rattle.warp_process.specs.Inner.Logs.{IsLog}

@@ -6,7 +6,7 @@ use Rattle.gate_values.specs.declared.logic.Logic.TheVariants.{X}
 use Rattle.gate_values.specs.declared.logic.Change.{Change}
 use Rattle.gate_values.specs.Behaviour.{initial_of}
 use Rattle.gate_values.specs.Changes.{before_time, same}
-use Rattle.gate_vcd.specs.Given.{Given, changes_of}
+use Rattle.gate_stimulus.specs.Given.{Given, changes_of}
 use Rattle.warp_process.specs.Entries.{Received, one_message}
 use Rattle.warp_process.specs.declared.message.Message.{Message}
 use Rattle.warp_process.specs.declared.message.Sign.TheVariants.{Plus}

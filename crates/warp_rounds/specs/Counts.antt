@@ -2,7 +2,7 @@
 use Rattle.std.specs.Prelude.{◌≡◌, ℕ, ◌+◌, ◌≤◌, List, [], ◌∷◌}
 use Rattle.gate_netlist.specs.Circuit.{Design}
 use Rattle.gate_netlist.specs.Cut.{Ownership}
-use Rattle.gate_vcd.specs.Given.{Given}
+use Rattle.gate_stimulus.specs.Given.{Given}
 use Rattle.warp_process.specs.View.{View, Process, busy_times}
 use Rattle.warp_core.specs.Matched.{AreMatched}
 use Rattle.warp_rounds.specs.declared.counts.Counts.{Counts}

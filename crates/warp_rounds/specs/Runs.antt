@@ -3,7 +3,7 @@ use Rattle.std.specs.Prelude.{◌≡◌, ℕ, ◌<◌, ◌≤◌, ◌⊎◌, Lis
 use Rattle.std.specs.List.{All, Any}
 use Rattle.gate_netlist.specs.Circuit.{Design}
 use Rattle.gate_netlist.specs.Cut.{Ownership}
-use Rattle.gate_vcd.specs.Given.{Given}
+use Rattle.gate_stimulus.specs.Given.{Given}
 use Rattle.warp_process.specs.declared.message.Message.{Message}
 use Rattle.warp_process.specs.declared.fault.BlockFault.{BlockFault}
 use Rattle.warp_process.specs.declared.fault.BlockFault.TheVariants as block

@@ -1,7 +1,7 @@
 //! A run that answers all changes by time. Its blocks keep the logs of those nets alone that other blocks read.
 ghost use Rattle.std.specs.Prelude.{◌≤◌, IfOk, IfErr, IfSome};
 ghost use Rattle.gate_netlist.specs.Circuit.{CutFits};
-ghost use Rattle.gate_vcd.specs.Given.{Fits};
+ghost use Rattle.gate_stimulus.specs.Given.{Fits};
 ghost use Rattle.net_waves.specs.ByTime.{stops_in};
 ghost use Rattle.net_waves.specs.Stops.{AreStopsOf};
 ghost use Rattle.warp_process.specs.Limits.{most_horizon};
@@ -13,7 +13,7 @@ use crate::gate::NoGate;
 use crate::runs::{play_rounds, sites_of, taken_out};
 use crate::watch::Watch;
 use gate_netlist::{Circuit, Cut};
-use gate_vcd::Stimulus;
+use gate_stimulus::Stimulus;
 use net_waves::ByTime;
 use std::alloc::Global;
 use std::sync::Wait;

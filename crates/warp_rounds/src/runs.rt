@@ -1,7 +1,7 @@
 //! A run of the blocks of a circuit, round by round.
 ghost use Rattle.std.specs.Prelude.{◌≡◌, ◌≤◌, ◌<◌, ◌^◌, ◌+◌, IfOk, OnOk, IfErr, IfSome, IfNone, All, length, vec_len};
 ghost use Rattle.gate_netlist.specs.Circuit.{CutFits};
-ghost use Rattle.gate_vcd.specs.Given.{Fits};
+ghost use Rattle.gate_stimulus.specs.Given.{Fits};
 ghost use Rattle.warp_process.specs.Limits.{most_horizon};
 ghost use Rattle.warp_process.specs.Lawful.{IsLawfulProcess};
 ghost use Rattle.warp_core.specs.Values.{AreCircuitWaves};
@@ -24,7 +24,7 @@ use crate::site::Site;
 use crate::watch::{NoWatch, Watch};
 use crate::work::{draws_of, play_alone};
 use gate_netlist::{Circuit, Cut};
-use gate_vcd::Stimulus;
+use gate_stimulus::Stimulus;
 use net_waves::Waves;
 use std::alloc::{AllocError, Global};
 use std::sync::Wait;

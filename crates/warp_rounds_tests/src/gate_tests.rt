@@ -1,7 +1,8 @@
 ghost use Rattle.std.specs.Prelude.{◌≤◌};
 
 use gate_netlist::{Circuit, Cut, read_bench};
-use gate_vcd::{Stimulus, read_stimulus};
+use gate_stimulus::Stimulus;
+use gate_vcd::read_stimulus;
 use std::alloc::Global;
 use std::hint;
 use std::sync::Wait;

@@ -1,8 +1,9 @@
 use Logic::One;
 use Sign::Plus;
 use gate_netlist::{Circuit, read_bench};
+use gate_stimulus::Stimulus;
 use gate_values::Logic;
-use gate_vcd::{Stimulus, read_stimulus};
+use gate_vcd::read_stimulus;
 use std::alloc::Global;
 use std::process::Abort;
 use std::sync::Wait;

@@ -12,8 +12,8 @@ use Rattle.gate_netlist.specs.Circuit.{Design, nets_of}
 use Rattle.net_waves.specs.declared.timeline.Stop.{Stop}
 use Rattle.net_waves.specs.Stops.{AreStopsOf}
 use Rattle.net_waves.specs.Waves.{wave_of, IsWave}
-use Rattle.gate_vcd.specs.Given.{Given}
-use Rattle.gate_vcd.proofs.WaveValues.{pair_at-wave, changes-IsWave}
+use Rattle.gate_stimulus.specs.Given.{Given}
+use Rattle.gate_stimulus.proofs.WaveValues.{pair_at-wave, changes-IsWave}
 use Rattle.warp_core.specs.Values.{value_under, circuit_waves, AreCircuitWaves}
 use Rattle.warp_text.specs.Inner.Firsts.{AreFirstsOf}
 

@@ -5,7 +5,7 @@ use Rattle.std.proofs.lemmas.List.{take_more, take_all}
 use Rattle.std.proofs.lemmas.Option.{slice_get-get_or}
 use Rattle.gate_netlist.specs.Circuit.{Design}
 use Rattle.gate_netlist.specs.Cut.{Ownership}
-use Rattle.gate_vcd.specs.Given.{Given}
+use Rattle.gate_stimulus.specs.Given.{Given}
 use Rattle.warp_core.specs.declared.event.Event.{Event}
 use Rattle.warp_core.specs.declared.event.Event.TheVariants.{Deliver, Advance, Commit}
 use Rattle.warp_core.specs.declared.event.PlayFault.{PlayFault}

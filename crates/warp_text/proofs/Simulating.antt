@@ -7,13 +7,13 @@ use Rattle.gate_values.specs.declared.logic.Logic.{Logic}
 use Rattle.gate_values.specs.declared.logic.Change.{Change}
 use Rattle.gate_values.specs.Behaviour.{value}
 use Rattle.gate_netlist.specs.Circuit.{Design, nets_of, source_of}
-use Rattle.gate_vcd.specs.declared.timescale.Timescale.{Timescale}
-use Rattle.gate_vcd.specs.Given.{Given}
+use Rattle.gate_stimulus.specs.declared.timescale.Timescale.{Timescale}
+use Rattle.gate_stimulus.specs.Given.{Given}
 use Rattle.gate_vcd.specs.Stimulus.{Reading, Means, signal}
-use Rattle.gate_vcd.specs.Dump.{dump_text, vcd_text}
+use Rattle.vcd_dumps.specs.Dump.{dump_text, vcd_text}
 use Rattle.net_waves.specs.Waves.{wave_of, wave_value, IsUntil}
-use Rattle.gate_vcd.proofs.DumpLaws.{dump_text-waves}
-use Rattle.gate_vcd.proofs.WaveValues.{changes-IsWave}
+use Rattle.vcd_dumps.proofs.DumpLaws.{dump_text-waves}
+use Rattle.gate_stimulus.proofs.WaveValues.{changes-IsWave}
 use Rattle.warp_core.specs.Values.{given_by, value_under, AreCircuitWaves}
 use Rattle.warp_text.specs.Answer.{circuit_value, IsCircuitOf, IsAnswer}
 use Rattle.warp_text.specs.Inner.Answer.{IsDumped}

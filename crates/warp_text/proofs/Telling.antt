@@ -6,8 +6,8 @@ use Rattle.std.specs.declared.alloc.Global.{Global}
 use Rattle.gate_values.specs.declared.logic.Logic.{Logic}
 use Rattle.gate_values.specs.Behaviour.{value}
 use Rattle.gate_netlist.specs.Circuit.{Design, source_of}
-use Rattle.gate_vcd.specs.declared.timescale.Timescale.{Timescale}
-use Rattle.gate_vcd.specs.Given.{Given}
+use Rattle.gate_stimulus.specs.declared.timescale.Timescale.{Timescale}
+use Rattle.gate_stimulus.specs.Given.{Given}
 use Rattle.gate_vcd.specs.Stimulus.{Reading, Means, signal}
 use Rattle.vcd_only.specs.Told.{told_text}
 use Rattle.warp_core.specs.Values.{given_by, value_under}

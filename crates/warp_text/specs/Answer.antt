@@ -11,7 +11,7 @@ use Rattle.gate_netlist.specs.Meaning.{IsSettled}
 use Rattle.gate_netlist.specs.Circuit.{Design, nets_of, source_of}
 use Rattle.gate_netlist.specs.Counts.{counts_of}
 use Rattle.gate_vcd.specs.Stimulus.{Reading, reading_of, signal}
-use Rattle.gate_vcd.specs.Dump.{dump_text}
+use Rattle.vcd_dumps.specs.Dump.{dump_text}
 use Rattle.warp_process.specs.declared.fault.BlockFault.TheVariants as block
 use Rattle.warp_core.specs.declared.fault.GatherFault.TheVariants as gathering
 use Rattle.warp_rounds.specs.declared.fault.RunFault.{RunFault}

@@ -5,8 +5,8 @@ use Rattle.gate_netlist.specs.declared.driver.Driver.{Driver}
 use Rattle.gate_netlist.specs.declared.driver.Driver.TheVariants.{Input, Gate, Flop}
 use Rattle.gate_netlist.specs.Circuit.{Design, driver_of, name_of, delay_of}
 use Rattle.gate_netlist.specs.Cut.{owner_of}
-use Rattle.gate_vcd.specs.Codes.{code_of}
-use Rattle.gate_vcd.specs.Dump.{letter}
+use Rattle.vcd_dumps.specs.Codes.{code_of}
+use Rattle.vcd_dumps.specs.Dump.{letter}
 
 -- the names of nets, parted by commas
 abbrev pub names_text : Design → List ℕ → List ℕ

@@ -4,9 +4,9 @@ use Rattle.std.specs.declared.alloc.Global.{Global}
 use Rattle.gate_netlist.specs.Circuit.{Design}
 use Rattle.gate_netlist.specs.Cut.{Ownership}
 use Rattle.gate_netlist.specs.Even.{even_cut}
-use Rattle.gate_vcd.specs.Given.{Given}
+use Rattle.gate_stimulus.specs.Given.{Given}
 use Rattle.gate_vcd.specs.Stimulus.{Reading, Means, reading_of, signal}
-use Rattle.gate_vcd.specs.Dump.{dump_text}
+use Rattle.vcd_dumps.specs.Dump.{dump_text}
 use Rattle.warp_core.specs.declared.event.Event.{Event}
 use Rattle.warp_core.specs.declared.event.PlayFault.{PlayFault}
 use Rattle.warp_core.specs.declared.event.PlayFault.TheVariants as play

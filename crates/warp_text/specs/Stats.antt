@@ -3,7 +3,7 @@ use Rattle.std.specs.Prelude.{ℕ, List, map, Result, Ok, Err, Vec}
 use Rattle.std.specs.declared.alloc.Global.{Global}
 use Rattle.gate_netlist.specs.Circuit.{Design}
 use Rattle.gate_netlist.specs.Cut.{Ownership}
-use Rattle.gate_vcd.specs.Given.{Given}
+use Rattle.gate_stimulus.specs.Given.{Given}
 use Rattle.warp_rounds.specs.declared.counts.Counts.{Counts}
 use Rattle.warp_rounds.specs.Counts.{AccountsFor}
 use Rattle.warp_text.specs.Answer.{IsCircuitOf}

@@ -4,20 +4,21 @@ ghost use Rattle.std.specs.Prelude.{◌≡◌, ◌≤◌, IfOk, IfSome, codes};
 ghost use Rattle.net_waves.specs.ByTime.{stops_in};
 ghost use Rattle.net_waves.specs.Stops.{AreStopsOf};
 ghost use Rattle.gate_netlist.specs.Circuit.{CutFits};
-ghost use Rattle.gate_vcd.specs.Given.{Fits};
-ghost use Rattle.gate_vcd.specs.Dump.{vcd_text};
+ghost use Rattle.gate_stimulus.specs.Given.{Fits};
+ghost use Rattle.vcd_dumps.specs.Dump.{vcd_text};
 ghost use Rattle.warp_process.specs.Limits.{most_horizon};
 ghost use Rattle.warp_core.specs.Values.{value_under, circuit_waves, AreCircuitWaves};
 ghost use Rattle.warp_text.specs.Inner.Firsts.{AreFirstsOf};
 
 use byte_sinks::{Grow, Sink};
 use gate_netlist::{Circuit, Cut};
+use gate_stimulus::Stimulus;
 use gate_values::Logic;
-use gate_vcd::{Stimulus, changes_dump_by, write_vcd_once};
 use net_waves::{ByTime, Waves};
 use std::alloc::{AllocError, Global};
 use std::sync::Wait;
 use std::thread::Threads;
+use vcd_dumps::{changes_dump_by, write_vcd_once};
 use warp_alone::changes_alone;
 use warp_rounds::{RunFault, Watch, run_changes};
 
@@ -55,7 +56,7 @@ pub fn dump_by<R: Threads + Sync>(
     requires waves { AreCircuitWaves circuit.now stimulus.now horizon waves }
     ensures { IfOk result (λ dump. dump.items ≡ vcd_text (codes "top") circuit.now stimulus.now (value_under circuit.now stimulus.now) horizon) }
 {
-    gate_vcd::dump_by(rt, alloc, workers, "top", circuit, stimulus, waves, horizon)
+    vcd_dumps::dump_by(rt, alloc, workers, "top", circuit, stimulus, waves, horizon)
 }
 
 /// The dump of a circuit's changes, which are had by time, with each net's value at time 0, made by up to so many threads side by side, at

@@ -2,13 +2,13 @@
 ghost use Rattle.std.specs.Prelude.{◌≡◌, ◌<◌, ◌++◌, [], ◌∷◌, ℕ, OnOk, IfOk, codes, decimal};
 ghost use Rattle.std.specs.List.{All};
 ghost use Rattle.gate_netlist.specs.Circuit.{nets_of, name_of, IsDriven};
-ghost use Rattle.gate_vcd.specs.Dump.{letter};
+ghost use Rattle.vcd_dumps.specs.Dump.{letter};
 ghost use Rattle.warp_text.specs.NetLines.{names_text, driver_text, block_of, timing_text, head_text, net_line, net_lines};
 
 use gate_netlist::{Circuit, Driver};
 use gate_values::Logic;
-use gate_vcd::code;
 use std::alloc::{AllocError, Global};
+use vcd_dumps::code;
 
 /// The letter of a content.
 fn content_word(content: Logic) -> &'static str

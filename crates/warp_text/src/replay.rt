@@ -1,7 +1,7 @@
 //! From four texts to a dump: a schedule played on a circuit's blocks.
 ghost use Rattle.std.specs.Prelude.{◌≡◌, ◌≤◌, ◌+◌, [], IfOk, IfErr, OnOk};
 ghost use Rattle.gate_netlist.specs.Circuit.{CutFits};
-ghost use Rattle.gate_vcd.specs.Given.{Fits};
+ghost use Rattle.gate_stimulus.specs.Given.{Fits};
 ghost use Rattle.warp_process.specs.Limits.{most_horizon};
 ghost use Rattle.warp_core.specs.Values.{AreCircuitWaves};
 ghost use Rattle.warp_core.specs.Played.{ArePlayed};
@@ -15,7 +15,8 @@ use crate::fault::Fault;
 use crate::options::Options;
 use crate::simulate::{circuit_of, settled_cut};
 use gate_netlist::{Circuit, Cut};
-use gate_vcd::{Stimulus, read_stimulus};
+use gate_stimulus::Stimulus;
+use gate_vcd::read_stimulus;
 use net_waves::Waves;
 use std::alloc::Global;
 use warp_core::{Event, PlayFault, World, read_schedule};

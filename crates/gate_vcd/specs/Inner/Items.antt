@@ -15,7 +15,8 @@ use Rattle.gate_vcd.specs.declared.items.Item.TheVariants as read
 use Rattle.gate_vcd.specs.Tokens.{Token, fault_at}
 use Rattle.gate_vcd.specs.Inner.Words.{bytes_of}
 use Rattle.gate_vcd.specs.Shown.Words.{token_of, texts}
-use Rattle.gate_vcd.specs.Changes.{Item, stamp, change, wrong, nothing, items, Event, Source, event_at, events_from, last_time, value_with, past_end, value_at_place, last_stamp}
+use Rattle.gate_vcd.specs.Changes.{Item, stamp, change, wrong, nothing, items, Event, Source, event_at, events_from, last_time, value_with, past_end, value_at_place}
+use Rattle.gate_stimulus.specs.Given.{last_stamp}
 use Rattle.gate_vcd.specs.Inner.Known.{knows, last_below, sources_in}
 use Rattle.gate_vcd.specs.Shown.Known.{is_of}
 use Rattle.gate_vcd.specs.Inner.Settled.{settled}

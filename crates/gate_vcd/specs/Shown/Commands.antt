@@ -11,7 +11,7 @@ use Rattle.gate_vcd.specs.declared.keyword.Keyword.{Keyword}
 use Rattle.gate_vcd.specs.declared.keyword.Keyword.TheVariants as words
 use Rattle.gate_vcd.specs.Reading.{or_fault, Fails}
 use Rattle.gate_vcd.specs.Shown.Words.{texts}
-use Rattle.gate_vcd.specs.Numbers.{number}
+use Rattle.text_numbers.specs.Numbers.{number}
 use Rattle.gate_vcd.specs.Declarations.{Variable}
 
 -- the texts before the next `$end`, and the tokens after it

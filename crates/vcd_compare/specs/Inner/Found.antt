@@ -1,7 +1,7 @@
 -- The bits that were found to differ.
 use Rattle.std.specs.Prelude.{◌≡◌, ℕ, ◌<◌, List, [], ◌∷◌, ◌++◌, get_or, Option, Some, None}
 use Rattle.std.specs.List.{AllByRecursion}
-use Rattle.gate_vcd.specs.Given.{Given, changes_of}
+use Rattle.gate_stimulus.specs.Given.{Given, changes_of}
 use Rattle.bit_compare.specs.declared.difference.Difference.{Difference}
 use Rattle.bit_compare.specs.Agreement.{IsFinding}
 use Rattle.bit_compare.specs.Bits.{value_through}

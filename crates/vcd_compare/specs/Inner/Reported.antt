@@ -1,9 +1,9 @@
 -- What is reported once the changes are read.
 use Rattle.std.specs.Prelude.{◌≡◌, ◌⊎◌, ℕ, ◌<◌, List, [], length, Result, Ok, Err}
 use Rattle.gate_vcd.specs.declared.fault.StimFault.{StimFault}
-use Rattle.gate_vcd.specs.declared.timescale.Timescale.{Timescale}
+use Rattle.gate_stimulus.specs.declared.timescale.Timescale.{Timescale}
 use Rattle.gate_vcd.specs.Changes.{Event, events_from, items, nothing}
-use Rattle.gate_vcd.specs.Given.{Given}
+use Rattle.gate_stimulus.specs.Given.{Given}
 use Rattle.gate_vcd.specs.Shown.Commands.{variables}
 use Rattle.gate_vcd.specs.Reading.{Fails}
 use Rattle.gate_vcd.specs.Stimulus.{has_code}

@@ -1,6 +1,6 @@
 -- How two dumps are looked at.
 use Rattle.std.specs.Prelude.{ℕ, ◌*◌, ◌<◌, ◌^◌}
-use Rattle.gate_vcd.specs.declared.timescale.Timescale.{Timescale}
+use Rattle.gate_stimulus.specs.declared.timescale.Timescale.{Timescale}
 use Rattle.vcd_compare.specs.declared.report.Options.{Options}
 use Rattle.vcd_compare.specs.Times.{finer, how_of, times_of, units_in}
 use Rattle.bit_compare.specs.Bits.{Lens}

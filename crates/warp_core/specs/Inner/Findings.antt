@@ -2,7 +2,7 @@
 use Rattle.std.specs.Prelude.{◌≡◌, ℕ, ◌<◌, List, length, get_or, MatchBool, MatchOption}
 use Rattle.gate_netlist.specs.Circuit.{Design, CutFits}
 use Rattle.gate_netlist.specs.Cut.{Ownership}
-use Rattle.gate_vcd.specs.Given.{Given}
+use Rattle.gate_stimulus.specs.Given.{Given}
 use Rattle.warp_process.specs.View.{Process}
 use Rattle.warp_core.specs.declared.gathering.findings.Finding.{Finding}
 use Rattle.warp_core.specs.Matched.{seen_at, IsBlockOf, IsToldAt, AreTold, EachBlock}

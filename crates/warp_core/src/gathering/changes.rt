@@ -3,7 +3,7 @@
 ghost use Rattle.std.specs.Prelude.{◌≡◌, ◌<◌, ◌≤◌, ℕ, List, IfOk, IfErr, IfSome, OnOk, length};
 ghost use Rattle.gate_values.specs.declared.logic.Change.{Change};
 ghost use Rattle.gate_netlist.specs.Circuit.{nets_of, CutFits};
-ghost use Rattle.gate_vcd.specs.Given.{Fits};
+ghost use Rattle.gate_stimulus.specs.Given.{Fits};
 ghost use Rattle.net_waves.specs.ByTime.{stops_in};
 ghost use Rattle.net_waves.specs.Stops.{AreStopsOf};
 ghost use Rattle.net_waves.specs.Waves.{wave_of};
@@ -17,7 +17,7 @@ use super::waves::{given_lists, own_nets};
 use super::{check, findings, laws};
 use crate::fault::GatherFault;
 use gate_netlist::{Circuit, Cut};
-use gate_vcd::Stimulus;
+use gate_stimulus::Stimulus;
 use history_waves::{Story, by_time_of_all};
 use net_waves::{ByTime, stops_by_time};
 use std::alloc::{AllocError, Global};

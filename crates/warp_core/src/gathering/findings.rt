@@ -9,7 +9,7 @@ ghost use Rattle.warp_core.specs.Inner.Findings.{IsFinding, AreFound, AreOfCut};
 
 use super::told::untold_net;
 use gate_netlist::{Circuit, Cut};
-use gate_vcd::Stimulus;
+use gate_stimulus::Stimulus;
 use std::alloc::{AllocError, Global};
 use std::thread;
 use std::thread::Threads;

@@ -4,7 +4,7 @@ ghost use Rattle.std.specs.Prelude.{◌≡◌, ◌<◌, ◌≤◌, ◌+◌, ◌�
 ghost use Rattle.gate_values.specs.Changes.{before_time};
 ghost use Rattle.gate_netlist.specs.Circuit.{Design};
 ghost use Rattle.gate_netlist.specs.Cut.{owner_of};
-ghost use Rattle.gate_vcd.specs.Given.{changes_of};
+ghost use Rattle.gate_stimulus.specs.Given.{changes_of};
 ghost use Rattle.net_waves.specs.Inner.Lists.{IsRising};
 ghost use Rattle.net_waves.specs.Waves.{IsWave};
 ghost use Rattle.warp_process.specs.Limits.{most_horizon};
@@ -16,8 +16,8 @@ ghost use Rattle.warp_core.specs.Gather.{AreCounted, IsFirst};
 ghost use Rattle.warp_core.specs.Inner.Findings.{AreOfCut};
 
 use gate_netlist::Cut;
+use gate_stimulus::Stimulus;
 use gate_values::Change;
-use gate_vcd::Stimulus;
 use std::alloc::AllocError;
 use warp_block::{Block, Logs};
 

@@ -7,7 +7,7 @@ ghost use Rattle.gate_values.specs.declared.logic.Change.{Change};
 ghost use Rattle.gate_values.specs.Changes.{before_time};
 ghost use Rattle.gate_netlist.specs.Circuit.{nets_of, CutFits};
 ghost use Rattle.gate_netlist.specs.Cut.{owner_of};
-ghost use Rattle.gate_vcd.specs.Given.{changes_of};
+ghost use Rattle.gate_stimulus.specs.Given.{changes_of};
 ghost use Rattle.net_waves.specs.Waves.{lists_in, wave_of, IsWave};
 ghost use Rattle.net_waves.specs.Stops.{AreStopsOf};
 ghost use Rattle.net_waves.specs.ByTime.{stops_in};
@@ -21,8 +21,8 @@ ghost use Rattle.warp_core.specs.OwnNets.{AreOwn};
 
 use super::told::given_until;
 use gate_netlist::{Circuit, Cut};
+use gate_stimulus::Stimulus;
 use gate_values::Change;
-use gate_vcd::Stimulus;
 use history_waves::{FAR, Story, by_time_of_all};
 use net_waves::{ByTime, Stop, stops_by_time};
 use std::alloc::{AllocError, Global};

@@ -2,14 +2,14 @@
 
 ghost use Rattle.std.specs.Prelude.{◌≡◌, ◌≤◌, [], IfOk, OnOk};
 ghost use Rattle.gate_netlist.specs.Circuit.{CutFits};
-ghost use Rattle.gate_vcd.specs.Given.{Fits};
+ghost use Rattle.gate_stimulus.specs.Given.{Fits};
 ghost use Rattle.warp_process.specs.Limits.{most_horizon};
 ghost use Rattle.warp_core.specs.Inner.Kept.{AreNextTimes};
 ghost use Rattle.warp_core.specs.Inner.Opened.{AreOpened};
 
 use super::acts::next_of;
 use gate_netlist::{Circuit, Cut};
-use gate_vcd::Stimulus;
+use gate_stimulus::Stimulus;
 use std::alloc::{AllocError, Global};
 use warp_block::{Block, Message, Part};
 

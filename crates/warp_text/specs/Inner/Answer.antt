@@ -3,7 +3,7 @@ use Rattle.std.specs.Prelude.{◌≡◌, ℕ, List, Result, Ok, Err, Vec, codes}
 use Rattle.std.specs.declared.alloc.Global.{Global}
 use Rattle.gate_netlist.specs.Circuit.{Design}
 use Rattle.gate_vcd.specs.Stimulus.{Reading, reading_of, signal}
-use Rattle.gate_vcd.specs.Dump.{dump_text}
+use Rattle.vcd_dumps.specs.Dump.{dump_text}
 use Rattle.warp_text.specs.declared.fault.Fault.{Fault}
 use Rattle.warp_text.specs.declared.fault.Fault.TheVariants as faults
 use Rattle.warp_text.specs.Answer.{IsCircuitOf, IsNoCircuit, IsRunFault, circuit_value}

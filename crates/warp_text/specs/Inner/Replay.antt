@@ -3,7 +3,7 @@ use Rattle.std.specs.Prelude.{◌≡◌, ℕ, List, Option, Result, Ok, Err, Vec
 use Rattle.std.specs.declared.alloc.Global.{Global}
 use Rattle.gate_netlist.specs.Circuit.{Design}
 use Rattle.gate_vcd.specs.Stimulus.{Reading, reading_of, signal}
-use Rattle.gate_vcd.specs.Dump.{dump_text}
+use Rattle.vcd_dumps.specs.Dump.{dump_text}
 use Rattle.warp_core.specs.declared.event.Event.{Event}
 use Rattle.warp_core.specs.Schedule.{schedule_of}
 use Rattle.warp_text.specs.Answer.{circuit_value}

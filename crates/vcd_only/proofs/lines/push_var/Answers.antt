@@ -1,6 +1,6 @@
 use Rattle.std.proofs.Common.{◌++◌}
 use Rattle.std.specs.Prelude.{codes}
-use Rattle.gate_vcd.specs.Codes.{code_of}
+use Rattle.vcd_dumps.specs.Codes.{code_of}
 use Rattle.vcd_only.proofs.Appending.{put_then}
 use Rattle.vcd_only.proofs.lines.push_var.Goals as goal
 

@@ -1,6 +1,6 @@
 use Rattle.std.proofs.Common.{◌++◌, length}
 use Rattle.std.specs.Prelude.{codes}
-use Rattle.gate_vcd.specs.Dump.{timescale_line, scope_line}
+use Rattle.vcd_dumps.specs.Dump.{timescale_line, scope_line}
 use Rattle.vcd_only.specs.Told.{told_vars, told_header}
 use Rattle.vcd_only.proofs.Appending.{put_then}
 use Rattle.vcd_only.proofs.text.push_header.Goals as goal

@@ -1,7 +1,7 @@
 use Rattle.std.proofs.Common.{[], sym, length, arith, subst, ◌++◌, List, ◌<◌, ◌≤◌}
 use Rattle.std.specs.List.{AllByRecursion}
 use Rattle.std.specs.Prelude.{codes}
-use Rattle.gate_vcd.specs.Dump.{moments}
+use Rattle.vcd_dumps.specs.Dump.{moments}
 use Rattle.net_waves.specs.Waves.{wave_value}
 use Rattle.net_waves.specs.declared.timeline.Stop.{Stop}
 use Rattle.vcd_only.specs.Told.{told_text, told_header, told_first, hidden}

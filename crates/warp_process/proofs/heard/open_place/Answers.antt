@@ -3,9 +3,9 @@ use Rattle.std.proofs.lemmas.Bool.{cond-false, cases_eq, eq-eqb, ne_eqb}
 use Rattle.std.proofs.lemmas.List.{get_or_default}
 use Rattle.gate_values.specs.declared.logic.Change.{Change}
 use Rattle.gate_values.specs.declared.logic.Logic.TheVariants.{Zero}
-use Rattle.gate_vcd.specs.Given.{changes_of}
+use Rattle.gate_stimulus.specs.Given.{changes_of}
 use Rattle.net_waves.specs.Inner.Lists.{IsRising}
-use Rattle.gate_vcd.proofs.Laid.{its_rising}
+use Rattle.gate_stimulus.proofs.Laid.{its_rising}
 use Rattle.warp_process.specs.declared.entry.Entry.{Entry}
 use Rattle.warp_process.specs.Entries.{Received, IsQueue, entry_in, no_messages, one_message}
 use Rattle.warp_process.specs.Inner.Rows.{entry_at}

@@ -1,6 +1,6 @@
 use Rattle.std.proofs.Common.{◌∙◌, IfOk, subst}
 use Rattle.gate_netlist.specs.Circuit.{Design}
-use Rattle.gate_vcd.specs.Given.{Given}
+use Rattle.gate_stimulus.specs.Given.{Given}
 use Rattle.warp_core.specs.Values.{AreCircuitWaves}
 use Rattle.warp_text.proofs.Replaying.{same_course, plays_through}
 use Rattle.warp_text.proofs.replay.play_cut.Goals as goal

@@ -1,5 +1,5 @@
 use Rattle.std.proofs.Common.{ap, ◌∙◌, arith}
-use Rattle.gate_vcd.specs.Given.{changes_of}
+use Rattle.gate_stimulus.specs.Given.{changes_of}
 use Rattle.bit_compare.specs.Bits.{value_through}
 use Rattle.bit_compare.specs.Shown.Moments.{shown}
 use Rattle.vcd_compare.specs.Inner.Sights.{actual_through, expected_through}

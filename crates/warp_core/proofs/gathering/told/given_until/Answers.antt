@@ -1,9 +1,9 @@
 use Rattle.std.proofs.Common.{◌+◌, ◌∙◌, ap, subst, sym}
 use Rattle.gate_values.specs.Changes.{before_time}
-use Rattle.gate_vcd.specs.Given.{changes_of}
+use Rattle.gate_stimulus.specs.Given.{changes_of}
 use Rattle.net_waves.specs.Inner.Lists.{IsRising}
 use Rattle.net_waves.specs.Waves.{IsWave}
-use Rattle.gate_vcd.proofs.Laid.{its_rising}
+use Rattle.gate_stimulus.proofs.Laid.{its_rising}
 use Rattle.warp_core.proofs.Finished.{given_wave}
 use Rattle.warp_core.proofs.gathering.told.given_until.Goals as goal
 

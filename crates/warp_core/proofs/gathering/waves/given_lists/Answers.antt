@@ -5,7 +5,7 @@ use Rattle.std.proofs.lemmas.List.{map-append, length-map, get_or_append_left, g
 use Rattle.gate_values.specs.declared.logic.Change.{Change}
 use Rattle.gate_values.specs.Changes.{before_time}
 use Rattle.gate_netlist.specs.Cut.{owner_of}
-use Rattle.gate_vcd.specs.Given.{changes_of}
+use Rattle.gate_stimulus.specs.Given.{changes_of}
 use Rattle.net_waves.specs.Waves.{lists_in, wave_of, IsWave}
 use Rattle.net_waves.proofs.Compared.{cases_eq}
 use Rattle.warp_core.proofs.gathering.waves.given_lists.Goals as goal

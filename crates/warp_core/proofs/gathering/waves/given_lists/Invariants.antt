@@ -1,7 +1,7 @@
 use Rattle.std.proofs.Common.{◌≡◌, ◌≢◌, ℕ, ◌+◌, ◌<◌, None, [], vec_len}
 use Rattle.gate_values.specs.Changes.{before_time}
 use Rattle.gate_netlist.specs.Cut.{owner_of}
-use Rattle.gate_vcd.specs.Given.{changes_of}
+use Rattle.gate_stimulus.specs.Given.{changes_of}
 use Rattle.net_waves.specs.Waves.{lists_in, wave_of, IsWave}
 use Rattle.warp_core.proofs.gathering.waves.given_lists.Given as goal
 

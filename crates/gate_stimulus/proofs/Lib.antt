@@ -1,0 +1,4 @@
+pub mod ChangesOf
+pub mod Laid
+pub mod Latest
+pub mod WaveValues

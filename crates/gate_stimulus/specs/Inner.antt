@@ -1,0 +1,2 @@
+-- What only the proofs of this crate need: no contract of a public call speaks of it.
+pub mod Held

@@ -1,0 +1,4 @@
+pub mod Timescales
+pub mod Given
+pub mod Inner
+pub mod Shown

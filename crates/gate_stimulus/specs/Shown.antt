@@ -1,0 +1,2 @@
+-- What contracts and views of this crate speak of: what its types show of what they hold, and what its calls do with that.
+pub mod Held

@@ -1,4 +1,0 @@
-use Rattle.gate_vcd.proofs.dump.put_last_moments.Given as goal
-
-abbrev pub ghost-put_by_time : goal.ghost-put_by_time
-ghost-put_by_time g a = g.lists

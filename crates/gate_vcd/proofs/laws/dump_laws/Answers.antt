@@ -1,5 +1,0 @@
-use Rattle.gate_vcd.proofs.DumpLaws.{dump_text-agree, dump_text-waves}
-use Rattle.gate_vcd.proofs.laws.dump_laws.Goals as goal
-
-pub returns : goal.returns
-returns c = record { agree = dump_text-agree; waves = dump_text-waves }

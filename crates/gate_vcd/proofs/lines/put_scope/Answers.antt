@@ -1,5 +1,0 @@
-use Rattle.byte_sinks.proofs.Passing.{passes_then}
-use Rattle.gate_vcd.proofs.lines.put_scope.Goals as goal
-
-pub returns : goal.returns
-returns g c = passes_then c.put_text.ensures (passes_then c.put_text-2.ensures c.put_text-3.ensures)

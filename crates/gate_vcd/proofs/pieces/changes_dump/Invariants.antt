@@ -1,4 +1,0 @@
-use Rattle.gate_vcd.proofs.pieces.changes_dump.Given as goal
-
-abbrev pub ghost-write_changes : goal.ghost-write_changes
-ghost-write_changes g a = g.lists

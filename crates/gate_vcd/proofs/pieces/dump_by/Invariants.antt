@@ -1,4 +1,0 @@
-use Rattle.gate_vcd.proofs.pieces.dump_by.Given as goal
-
-abbrev pub ghost-with_moments : goal.ghost-with_moments
-ghost-with_moments g a = a.waves

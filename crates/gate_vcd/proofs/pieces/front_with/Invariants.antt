@@ -1,4 +1,0 @@
-use Rattle.gate_vcd.proofs.pieces.front_with.Given as goal
-
-abbrev pub ghost-put_values : goal.ghost-put_values
-ghost-put_values g a = g.value

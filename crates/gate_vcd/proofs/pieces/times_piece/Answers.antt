@@ -1,5 +1,0 @@
-use Rattle.gate_vcd.proofs.PieceLaws.{goes-new}
-use Rattle.gate_vcd.proofs.pieces.times_piece.Goals as goal
-
-pub returns : goal.returns
-returns c = c.taken.ensures _ _ (goes-new _ _ _ _ _ _ c.new-sink.ensures c.new-lot.ensures c.put_times.ensures.text)

@@ -1,4 +1,0 @@
-use Rattle.gate_vcd.proofs.pieces.with_moments.Given as goal
-
-abbrev pub ghost-with_changes : goal.ghost-with_changes
-ghost-with_changes g a = g.lists

@@ -1,0 +1,11 @@
+pub mod DumpRows
+pub mod Stops
+pub mod WaveStops
+pub mod MergedLaws
+pub mod DumpLaws
+pub mod Walking
+pub mod Arrays
+pub mod Coding
+pub mod PackedWalk
+pub mod KeyWalk
+pub mod PieceLaws

@@ -1,0 +1,20 @@
+//! Value change dumps (IEEE 1364-2005, section 18), as written.
+//!
+//! [`write_vcd`] writes the waves of a circuit, which are those of `net_waves`, as the one text of a dump into a `Sink` of
+//! `byte_sinks`, and [`dump_by`] has several threads make that text in pieces. The definitions stand in `specs/`: `Codes`
+//! for what stands for a net, `Dump` for the text.
+#![tactic(auto)]
+
+mod codes;
+mod dump;
+mod fault;
+mod laws;
+mod lines;
+mod pieces;
+mod workers;
+
+pub use codes::{code, code_laws};
+pub use dump::{write_changes, write_vcd, write_vcd_once};
+pub use fault::WriteFault;
+pub use laws::dump_laws;
+pub use workers::{changes_dump_by, dump_by};
