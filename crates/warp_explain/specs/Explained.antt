@@ -6,7 +6,7 @@ use Rattle.gate_vcd.specs.declared.fault.StimCause.TheVariants as causes
 use Rattle.text_places.specs.declared.told.Source.{Source}
 use Rattle.vcd_compare.specs.declared.fault.CompareFault.{CompareFault}
 use Rattle.vcd_compare.specs.declared.fault.CompareFault.TheVariants as compares
-use Rattle.fault_findings.specs.declared.compared.Compared.{Compared}
+use Rattle.dump_findings.specs.declared.compared.Compared.{Compared}
 use Rattle.text_places.specs.Places.{IsInLine}
 use Rattle.text_places.specs.Told.{IsTold}
 

@@ -10,12 +10,13 @@ ghost use Rattle.warp_explain.specs.Explained.{
   IsToldOfOne,
 };
 
-use fault_findings::{
-    Compared, Finding, Found, Kind, Lack, Missing, of_bench, of_dump, of_empty_map, of_event,
-    of_input, of_map, of_nothing, of_only, of_schedule, of_settings, of_unfinished, says_nothing,
+use dump_findings::{
+    Compared, Found, Missing, of_dump, of_empty_map, of_input, of_map, of_nothing, says_nothing,
 };
+use finding_words::{Finding, Kind};
 use gate_netlist::{BenchFault, SettingsFault};
 use gate_vcd::{StimCause, StimFault};
+use line_findings::{Lack, of_bench, of_event, of_only, of_schedule, of_settings, of_unfinished};
 use only_nets::OnlyFault;
 use std::alloc::{AllocError, Global};
 use text_places::{Source, tell, within_line};
