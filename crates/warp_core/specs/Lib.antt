@@ -6,6 +6,7 @@ pub mod World
 pub mod Play
 pub mod Played
 pub mod Schedule
+pub mod Threads
 pub mod Drive
 pub mod Shown
 pub mod Inner

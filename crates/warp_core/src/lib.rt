@@ -23,6 +23,7 @@ mod flight;
 mod gathering;
 mod order;
 mod schedule;
+mod threads;
 mod turns;
 mod world;
 
@@ -31,4 +32,5 @@ pub use event::{Event, PlayFault};
 pub use fault::GatherFault;
 pub use gathering::{gather, gather_by, gather_changes, given_lists, own_nets};
 pub use schedule::{ScheduleCause, ScheduleFault, read_schedule, schedule_laws};
+pub use threads::{NETS_FOR_A_THREAD, worthwhile};
 pub use world::World;

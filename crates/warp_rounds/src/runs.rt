@@ -31,7 +31,7 @@ use std::sync::Wait;
 use std::thread;
 use std::thread::{Promise, PromisedHandle, Threads};
 use warp_block::{AllLogs, Block, Logs, Message, Part};
-use warp_core::gather_by;
+use warp_core::{gather_by, worthwhile};
 
 /// The waves of a circuit under a stimulus, from time 0 to the horizon, which is at most 10^12. The blocks of the cut are
 /// made by up to `workers` threads side by side, and run ahead on their own in rounds. In each, up to `workers` workers (1 to
@@ -165,7 +165,8 @@ fn made_of<L: Logs>(
     Ok(Made { site, sent })
 }
 
-// The blocks of a cut, made by up to `workers` threads side by side, at least one; none stands for a refused growth.
+// The blocks of a cut, made by up to `workers` threads side by side, at least one, as far as they are worth while; none stands for a
+// refused growth.
 fn made_by<L: Logs + Send, R: Threads + Sync>(
     rt: &R,
     alloc: Global,
@@ -189,7 +190,7 @@ fn made_by<L: Logs + Send, R: Threads + Sync>(
     thread::for_each_mut(
         rt,
         made.as_mut_slice(),
-        workers as usize,
+        worthwhile(workers, circuit.nets()) as usize,
         &|place: usize, made: &mut Option<Made<L>>|
             requires { (place < cut.now.blocks) × CutFits circuit.now cut.now × (horizon ≤ most_horizon) }
             ensures { IfSome made.exit.now (λ one. AreThere cut.entry.now.blocks one.sent.items) }

@@ -8,6 +8,7 @@ ghost use Rattle.warp_core.specs.Gather.{AreCounted, IsFirst, IsFirstBlock};
 ghost use Rattle.warp_core.specs.Inner.Findings.{IsFinding, AreFound, AreOfCut};
 
 use super::told::untold_net;
+use crate::threads::worthwhile;
 use gate_netlist::{Circuit, Cut};
 use gate_stimulus::Stimulus;
 use std::alloc::{AllocError, Global};
@@ -78,7 +79,7 @@ pub(super) fn find<L: Logs>(
     Ok(found)
 }
 
-/// What is found of each block, by up to `workers` threads side by side. An error is a refused growth.
+/// What is found of each block, by up to `workers` threads side by side, as far as they are worth while. An error is a refused growth.
 pub(super) fn find_by<L: Logs + Sync, R: Threads + Sync>(
     rt: &R,
     alloc: Global,
@@ -99,7 +100,7 @@ pub(super) fn find_by<L: Logs + Sync, R: Threads + Sync>(
     thread::for_each_mut(
         rt,
         answers.as_mut_slice(),
-        workers as usize,
+        worthwhile(workers, circuit.nets()) as usize,
         &|place: usize, answer: &mut Option<Finding>|
             requires { (place < cut.now.blocks) × CutFits circuit.now cut.now × AreCounted cut.now blocks.now × (horizon ≤ most_horizon) }
             ensures { IfSome answer.exit.now (IsFinding circuit.entry.now cut.entry.now stimulus.entry.now horizon blocks.entry.now place) }
