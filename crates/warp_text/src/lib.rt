@@ -12,6 +12,7 @@
 #![tactic(auto)]
 
 mod counts;
+mod cuts;
 mod dump;
 mod fault;
 mod nets;

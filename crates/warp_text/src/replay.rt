@@ -10,10 +10,12 @@ ghost use Rattle.warp_text.specs.Inner.FaultLines.{event_fault};
 ghost use Rattle.warp_text.specs.Inner.Replay.{IsReplayed};
 ghost use Rattle.warp_text.specs.Replay.{cut_of, Stops, Plays, IsReplay};
 
+use crate::cuts;
+use crate::cuts::made_cut;
 use crate::dump::dump_of;
 use crate::fault::Fault;
 use crate::options::Options;
-use crate::simulate::{circuit_of, settled_cut};
+use crate::simulate::circuit_of;
 use gate_netlist::{Circuit, Cut};
 use gate_stimulus::Stimulus;
 use gate_vcd::read_stimulus;
@@ -97,13 +99,9 @@ pub(crate) fn waves_of(
     ensures played { Plays circuit.now (cut_of circuit.now options.now.blocks) stimulus.now options.now.until events.now result }
 {
     let until = options.until();
-    let blocks = match (options.blocks(), settled_cut(circuit)) {
-        (None, Some(cut)) => return play_cut(alloc, circuit, cut, stimulus, events, until),
-        (None, None) => 1,
-        (Some(blocks), _) => blocks,
-    };
-    let cut = Cut::even(alloc, circuit, blocks)?;
-    play_cut(alloc, circuit, &cut, stimulus, events, until)
+    let made = made_cut(alloc, circuit, options)?;
+    let cut = cuts::cut_of(circuit, options, &made);
+    play_cut(alloc, circuit, cut, stimulus, events, until)
 }
 
 /// The dump of a circuit's nets where events are played on its blocks, under two texts.

@@ -1,5 +1,5 @@
 //! From three texts to a dump.
-ghost use Rattle.std.specs.Prelude.{◌≡◌, IfOk, IfErr, IfSome, codes, option_map};
+ghost use Rattle.std.specs.Prelude.{◌≡◌, IfOk, IfErr, IfSome, codes};
 ghost use Rattle.gate_netlist.specs.Circuit.{CutFits};
 ghost use Rattle.gate_netlist.specs.Bench.{bench_of};
 ghost use Rattle.gate_netlist.specs.Faults.{out_of_memory, MemoryHasNoLine};
@@ -12,6 +12,7 @@ ghost use Rattle.warp_text.specs.Answer.{IsAnswer, IsCounted, IsListed};
 ghost use Rattle.warp_text.specs.Stats.{dumped, Accounts, IsAccountOf, AreCountsOf};
 ghost use Rattle.warp_text.specs.Inner.Answer.{IsCircuitAnswer, IsDumped};
 
+use crate::cuts::{cut_of, made_cut};
 use crate::dump::{alone_dump, dump_by, parted_dump};
 use crate::fault::Fault;
 use crate::nets::nets_text;
@@ -114,15 +115,6 @@ fn run_cut<G: Gate<AllLogs> + Sync, W: Watch, R: Threads + Wait + Sync>(
     })
 }
 
-/// The cut that the settings of a circuit give.
-pub(crate) fn settled_cut(circuit: &Circuit) -> Option<&Cut>
-    ensures cut { option_map (λ cut. cut.now) result ≡ circuit.now.cut }
-    ensures fits { IfSome result (λ cut. CutFits circuit.now cut.now) }
-{
-    circuit.law();
-    circuit.cut()
-}
-
 /// Runs the blocks of a circuit, which is cut evenly where the options give a number of blocks, else as its settings
 /// say, else not at all.
 pub(crate) fn run_blocks<G: Gate<AllLogs> + Sync, W: Watch, R: Threads + Wait + Sync>(
@@ -138,15 +130,9 @@ pub(crate) fn run_blocks<G: Gate<AllLogs> + Sync, W: Watch, R: Threads + Wait + 
     ensures waves { IfOk result (λ ran. AreCircuitWaves circuit.now stimulus.now options.now.until ran.waves) }
     ensures counts { IfOk result (λ ran. Accounts circuit.now stimulus.now options.now.until ran.stats) }
 {
-    let blocks = match (options.blocks(), settled_cut(circuit)) {
-        (None, Some(cut)) => {
-            return run_cut(rt, alloc, circuit, cut, stimulus, options, gate, watch);
-        }
-        (None, None) => 1,
-        (Some(blocks), _) => blocks,
-    };
-    let cut = Cut::even(alloc, circuit, blocks)?;
-    run_cut(rt, alloc, circuit, &cut, stimulus, options, gate, watch)
+    let made = made_cut(alloc, circuit, options)?;
+    let cut = cut_of(circuit, options, &made);
+    run_cut(rt, alloc, circuit, cut, stimulus, options, gate, watch)
 }
 
 /// The dump of a circuit's nets under a stimulus text.
@@ -286,17 +272,10 @@ fn blocks_dump<W: Watch, R: Threads + Wait + Sync>(
     let until = options.until();
     let workers = options.workers();
     let window = options.window();
-    let even = match (options.blocks(), settled_cut(circuit)) {
-        (None, Some(cut)) => {
-            return parted_dump(
-                rt, alloc, circuit, cut, stimulus, until, workers, window, watch,
-            );
-        }
-        (None, None) => Cut::even(alloc, circuit, 1)?,
-        (Some(blocks), _) => Cut::even(alloc, circuit, blocks)?,
-    };
+    let made = made_cut(alloc, circuit, options)?;
+    let cut = cut_of(circuit, options, &made);
     parted_dump(
-        rt, alloc, circuit, &even, stimulus, until, workers, window, watch,
+        rt, alloc, circuit, cut, stimulus, until, workers, window, watch,
     )
 }
 
