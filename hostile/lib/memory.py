@@ -68,15 +68,14 @@ def play_rows(players, score, program):
 
 
 def play_threads(players, score, program):
-    """A thread that can't start ends a run in `run: no thread`, where it is a worker's; blocks that it would make, or look at before they
-    are gathered, are another one's, and what it would write of the dump is written by another one. Each worker but the first has
-    a thread for all rounds, one to make blocks, one to look at them and one to write; one thread more gives lists back."""
+    """A thread that can't start ends a run in `run: no thread`, where it is a worker's. Each worker but the first has a thread for all
+    rounds; the circuits are so small that no other thread is worth while."""
     for row in rows(False):
         if row.workers > 1:
             job = Job(0, row.words(program, players), row.stdin)
             whole, answers = sweep(players, job, "thread")
             kinds, faults = judge_row(row, whole, answers)
-            if whole.counts["thread"] > 4 * (row.workers - 1) + 1:
+            if whole.counts["thread"] > row.workers - 1:
                 faults.append(f"{whole.counts['thread']} threads are started")
             if "no thread" not in kinds:
                 faults.append("no answer is no thread")
