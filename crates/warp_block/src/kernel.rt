@@ -318,13 +318,6 @@ impl Kernel {
         self.times.count_from(time) as u64
     }
 
-    /// Whether no event time is left.
-    pub(crate) fn done(&self) -> bool
-        ensures { IsTrue result ↔ IsDone self.now.seen }
-    {
-        self.next_time().is_none()
-    }
-
     /// The entry of a net at a time; empty for a net that the block doesn't read, and for an own one.
     pub(crate) fn entry(&self, net: u32, time: u64) -> Entry
         ensures { result ≡ entry_of self.now.seen net time }
