@@ -1,4 +1,6 @@
 //! What is wrong with a schedule.
+ghost use Rattle.std.specs.Prelude.{◌≡◌, ◌+◌, ◌<◌, ◌≤◌, length, IfOk};
+
 use crate::returns::stray_return;
 use Piece::{Number, Quoted, Text};
 use finding_words::{Finding, Kind, Look, Piece, Word, line_of, misplaced, word_behind, word_from};
@@ -67,25 +69,43 @@ fn is_too_large(word: &[u8]) -> bool {
     is_numeral(word) && number_up_to(MOST_NUMBER, word).is_none()
 }
 
-fn first_word(text: &[u8], at: usize) -> Word<'_> {
+/// The first word from an offset on.
+fn first_word(text: &[u8], at: usize) -> Word<'_>
+    ensures { at ≤ length text.now → result.at + length result.text.now ≤ length text.now }
+{
     word_from(text, at)
 }
 
+/// Where the line behind the one of an offset begins; the text's end where there is none.
+fn line_behind(text: &[u8], at: usize) -> usize
+    requires { at < length text.now }
+    ensures onward { at < result }
+    ensures within { result ≤ length text.now }
+{
+    match text[at..].iter().position(|byte| *byte == b'\n') {
+        Some(feed) => at + feed + 1,
+        None => text.len(),
+    }
+}
+
 /// The first word of the event with this number, from 1, of the last one where there are fewer.
-fn event_at(text: &[u8], number: u64) -> Word<'_> {
+fn event_at(text: &[u8], number: u64) -> Word<'_>
+    ensures { result.at + length result.text.now ≤ length text.now }
+{
     let mut at = 0usize;
     let mut count = 0u64;
     let mut last = Word { at: 0, text: &[] };
-    for line in text.split_inclusive(|byte| *byte == b'\n') {
-        let word = word_from(line, 0);
+    while at < text.len() {
+        let behind = line_behind(text, at);
+        let word = word_from(&text[at..behind], 0);
         if !matches!(word.text, [] | [b'#', ..]) {
             count = count.saturating_add(1);
-            last = word_from(text, at);
+            last = first_word(text, at);
         }
         if count == number {
             return last;
         }
-        at = at.saturating_add(line.len());
+        at = behind;
     }
     last
 }
@@ -105,9 +125,11 @@ pub fn of_event(
     source: Source<'_>,
     number: u64,
     lack: Lack,
-) -> Result<Finding, AllocError> {
+) -> Result<Finding, AllocError>
+    ensures { IfOk result (λ finding. finding.at ≤ length source.entry.text.now) }
+{
     let first = event_at(source.text, number);
-    let operand = word_behind(source.text, &first);
+    let operand = first_word(source.text, first.at + first.text.len());
     match lack {
         Lack::Message => no_message(alloc, &operand, number),
         Lack::Block => no_block(alloc, &operand),
@@ -120,7 +142,9 @@ pub fn of_event(
     }
 }
 
-fn no_message(alloc: Global, operand: &Word<'_>, number: u64) -> Result<Finding, AllocError> {
+fn no_message(alloc: Global, operand: &Word<'_>, number: u64) -> Result<Finding, AllocError>
+    ensures { IfOk result (λ finding. finding.at ≡ operand.now.at) }
+{
     let cause = [
         Text("when event "),
         Number(number),
@@ -132,7 +156,9 @@ fn no_message(alloc: Global, operand: &Word<'_>, number: u64) -> Result<Finding,
     Finding::at(alloc, operand, &cause, &[Text(advice)])
 }
 
-fn no_block(alloc: Global, operand: &Word<'_>) -> Result<Finding, AllocError> {
+fn no_block(alloc: Global, operand: &Word<'_>) -> Result<Finding, AllocError>
+    ensures { IfOk result (λ finding. finding.at ≡ operand.now.at) }
+{
     let advice =
         "blocks are counted from 0; `warp_sim check` prints how many the settings make, and --blocks says how many an even cut has";
     Finding::at(
@@ -144,7 +170,9 @@ fn no_block(alloc: Global, operand: &Word<'_>) -> Result<Finding, AllocError> {
 }
 
 /// What a schedule is about that leaves something to do.
-pub fn of_unfinished(alloc: Global, source: Source<'_>, time: u64) -> Result<Finding, AllocError> {
+pub fn of_unfinished(alloc: Global, source: Source<'_>, time: u64) -> Result<Finding, AllocError>
+    ensures { IfOk result (λ finding. finding.at ≤ length source.entry.text.now) }
+{
     let last = event_at(source.text, u64::MAX);
     let cause = [
         Text("behind the last event something is left to do at time "),
