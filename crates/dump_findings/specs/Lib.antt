@@ -1,1 +1,2 @@
 pub mod EmptyMap
+pub mod Places

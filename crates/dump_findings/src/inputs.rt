@@ -1,7 +1,13 @@
 //! What is wrong with a stimulus that doesn't give an input.
+ghost use Rattle.std.specs.Prelude.{◌≡◌, ◌≤◌, length, IfOk, IfSome};
+ghost use Rattle.finding_words.specs.Words.{IsWithin};
+ghost use Rattle.dump_findings.specs.Places.{IsFoundIn};
+
 use crate::variables::{Variable, Wanted, find_variable};
 use Piece::{Quoted, Text};
-use finding_words::{Finding, Kind, Look, Piece, Word, circuit_of, defined, misplaced, pieces};
+use finding_words::{
+    Finding, Kind, Look, Piece, Word, circuit_of, defined, line_at, line_behind, misplaced, pieces,
+};
 use gate_netlist::Circuit;
 use gate_vcd::StimCause;
 use std::alloc::{AllocError, Global};
@@ -22,7 +28,9 @@ pub fn of_input(
     stimulus: Source<'_>,
     cause: StimCause,
     net: u64,
-) -> Result<Found, AllocError> {
+) -> Result<Found, AllocError>
+    ensures { IfOk result (IsFoundIn (length stimulus.entry.text.now) (length bench.entry.text.now)) }
+{
     let look = Look::of(alloc, stimulus.text)?;
     if !matches!(look, Look::Dump | Look::Other) {
         return Ok(Found::InStimulus(misplaced(alloc, look, Kind::Stimulus)?));
@@ -73,7 +81,9 @@ impl<'c> Input<'c> {
 }
 
 /// An input that variables are named for, none of which gives its bit.
-fn not_scalar(alloc: Global, text: &[u8], input: &Input<'_>) -> Result<Finding, AllocError> {
+fn not_scalar(alloc: Global, text: &[u8], input: &Input<'_>) -> Result<Finding, AllocError>
+    ensures { IfOk result (λ finding. finding.at ≤ length text.now) }
+{
     match find_variable(alloc, text, input.scope, Wanted::Named(input.bytes()))? {
         Some(variable) if variable.is_unvalued() => of_type(alloc, &variable, input.name),
         Some(variable) if variable.has_one_bit() => with_range(alloc, &variable, input.name),
@@ -89,11 +99,9 @@ fn not_scalar(alloc: Global, text: &[u8], input: &Input<'_>) -> Result<Finding, 
 }
 
 /// A variable in place of a scalar whose values are no bits.
-fn of_type<'a>(
-    alloc: Global,
-    variable: &Variable<'a>,
-    name: &'a str,
-) -> Result<Finding, AllocError> {
+fn of_type<'a>(alloc: Global, variable: &Variable<'a>, name: &'a str) -> Result<Finding, AllocError>
+    ensures { IfOk result (λ finding. finding.at ≡ variable.now.name.at) }
+{
     let cause = [
         Text("the input "),
         Quoted(name.as_bytes()),
@@ -113,7 +121,9 @@ fn with_range<'a>(
     alloc: Global,
     variable: &'a Variable<'a>,
     name: &'a str,
-) -> Result<Finding, AllocError> {
+) -> Result<Finding, AllocError>
+    ensures { IfOk result (λ finding. finding.at ≡ variable.now.name.at) }
+{
     let cause = [
         Text("by its range this variable is the bit "),
         Quoted(variable.reference()),
@@ -125,11 +135,9 @@ fn with_range<'a>(
 }
 
 /// A vector that is declared in place of a scalar.
-fn vector<'a>(
-    alloc: Global,
-    variable: &Variable<'a>,
-    name: &'a str,
-) -> Result<Finding, AllocError> {
+fn vector<'a>(alloc: Global, variable: &Variable<'a>, name: &'a str) -> Result<Finding, AllocError>
+    ensures { IfOk result (λ finding. finding.at ≡ variable.now.name.at) }
+{
     let cause = [
         Text("the input "),
         Quoted(name.as_bytes()),
@@ -148,7 +156,9 @@ fn vector<'a>(
 }
 
 /// No word, at a text's beginning.
-fn front(text: &[u8]) -> Word<'_> {
+fn front(text: &[u8]) -> Word<'_>
+    ensures { result.at ≡ 0 }
+{
     Word::of(text, 0, 0)
 }
 
@@ -158,7 +168,9 @@ fn missing(
     bench: Source<'_>,
     stimulus: Source<'_>,
     input: &Input<'_>,
-) -> Result<Found, AllocError> {
+) -> Result<Found, AllocError>
+    ensures { IfOk result (IsFoundIn (length stimulus.entry.text.now) (length bench.entry.text.now)) }
+{
     let text = stimulus.text;
     let name = input.bytes();
     if let Some(variable) = find_variable(alloc, text, None, Wanted::Named(name))? {
@@ -181,7 +193,9 @@ fn of_more_words<'a>(
     alloc: Global,
     variable: &'a Variable<'a>,
     name: &'a str,
-) -> Result<Finding, AllocError> {
+) -> Result<Finding, AllocError>
+    ensures { IfOk result (λ finding. finding.at ≡ variable.now.name.at) }
+{
     let cause = [
         Text("no variable is named "),
         Quoted(name.as_bytes()),
@@ -196,7 +210,9 @@ fn in_another_scope(
     alloc: Global,
     variable: &Variable<'_>,
     name: &str,
-) -> Result<Finding, AllocError> {
+) -> Result<Finding, AllocError>
+    ensures { IfOk result (λ finding. finding.at ≡ variable.now.name.at) }
+{
     let cause = [
         Text("this variable of the input "),
         Quoted(name.as_bytes()),
@@ -211,7 +227,9 @@ fn in_another_case<'a>(
     alloc: Global,
     variable: &'a Variable<'a>,
     name: &'a str,
-) -> Result<Finding, AllocError> {
+) -> Result<Finding, AllocError>
+    ensures { IfOk result (λ finding. finding.at ≡ variable.now.name.at) }
+{
     let cause = [
         Text("no variable is named "),
         Quoted(name.as_bytes()),
@@ -228,7 +246,9 @@ fn undeclared(
     bench: Source<'_>,
     stimulus: Source<'_>,
     name: &str,
-) -> Result<Found, AllocError> {
+) -> Result<Found, AllocError>
+    ensures { IfOk result (IsFoundIn (length stimulus.entry.text.now) (length bench.entry.text.now)) }
+{
     match defining(alloc, bench.text, name)? {
         Some(word) => {
             let finding = without_variable(alloc, &word, stimulus.name, name)?;
@@ -247,7 +267,9 @@ fn without_variable<'a>(
     word: &Word<'_>,
     file: &'a str,
     name: &'a str,
-) -> Result<Finding, AllocError> {
+) -> Result<Finding, AllocError>
+    ensures { IfOk result (λ finding. finding.at ≡ word.now.at) }
+{
     let cause = [
         Text(file),
         Text(" has no variable for the input "),
@@ -268,7 +290,9 @@ fn without_variable<'a>(
 }
 
 /// The added clock, for which there is no variable.
-fn without_clock(alloc: Global, word: &Word<'_>, name: &str) -> Result<Finding, AllocError> {
+fn without_clock(alloc: Global, word: &Word<'_>, name: &str) -> Result<Finding, AllocError>
+    ensures { IfOk result (λ finding. finding.at ≡ word.now.at) }
+{
     let cause = [
         Text("no variable is named "),
         Quoted(name.as_bytes()),
@@ -279,16 +303,19 @@ fn without_clock(alloc: Global, word: &Word<'_>, name: &str) -> Result<Finding, 
 }
 
 /// Where a bench defines a net.
-fn defining<'a>(alloc: Global, text: &'a [u8], name: &str) -> Result<Option<Word<'a>>, AllocError> {
+fn defining<'a>(alloc: Global, text: &'a [u8], name: &str) -> Result<Option<Word<'a>>, AllocError>
+    ensures { IfOk result (λ found. IfSome found (IsWithin (length text.entry.now))) }
+{
     let mut at = 0usize;
-    for line in text.split_inclusive(|byte| *byte == b'\n') {
-        let pieces = pieces(alloc, &Word { at, text: line })?;
+    while at < text.len() {
+        let line = line_at(text, at);
+        let pieces = pieces(alloc, &line)?;
         if let Some(net) = defined(pieces.as_slice()) {
             if net.is(name) {
                 return Ok(Some(net));
             }
         }
-        at = at.saturating_add(line.len());
+        at = line_behind(text, at);
     }
     Ok(None)
 }

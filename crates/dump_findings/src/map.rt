@@ -1,4 +1,7 @@
 //! What is wrong with a map, which pairs the bits of two dumps.
+ghost use Rattle.std.specs.Prelude.{◌≡◌, ◌+◌, ◌≤◌, length, IfOk};
+ghost use Rattle.finding_words.specs.Words.{IsWithin};
+
 use crate::bits::{Bits, Both};
 use crate::compared::Compared;
 use Piece::{Bytes, Number, Quoted, Text};
@@ -19,7 +22,9 @@ pub fn of_map(
     texts: &Compared<'_>,
     map: Source<'_>,
     fault: &MapFault,
-) -> Result<Finding, AllocError> {
+) -> Result<Finding, AllocError>
+    ensures { IfOk result (λ finding. finding.at ≤ length map.entry.text.now) }
+{
     let look = Look::of(alloc, map.text)?;
     if is_mistaken(look, fault.cause) {
         return misplaced(alloc, look, Kind::Map);
@@ -41,7 +46,9 @@ fn is_mistaken(look: Look, cause: MapCause) -> bool {
     }
 }
 
-fn bad_line(alloc: Global, line: &Line<'_>) -> Result<Finding, AllocError> {
+fn bad_line(alloc: Global, line: &Line<'_>) -> Result<Finding, AllocError>
+    ensures { IfOk result (λ finding. finding.at ≤ line.now.at + length line.now.text.now) }
+{
     let words = words_in(alloc, line)?;
     match words.as_slice() {
         [first, ..] if first.text.starts_with(b"#") => blank_before(alloc, first),
@@ -52,13 +59,17 @@ fn bad_line(alloc: Global, line: &Line<'_>) -> Result<Finding, AllocError> {
 }
 
 /// A comment that isn't the first of its line.
-fn blank_before(alloc: Global, comment: &Word<'_>) -> Result<Finding, AllocError> {
+fn blank_before(alloc: Global, comment: &Word<'_>) -> Result<Finding, AllocError>
+    ensures { IfOk result (λ finding. finding.at ≡ comment.now.at) }
+{
     let cause = [Text("a blank stands before this comment")];
     let advice = "the # of a comment is the first byte of its line";
     Finding::at(alloc, comment, &cause, &[Text(advice)])
 }
 
-fn word_behind_pair(alloc: Global, word: &Word<'_>) -> Result<Finding, AllocError> {
+fn word_behind_pair(alloc: Global, word: &Word<'_>) -> Result<Finding, AllocError>
+    ensures { IfOk result (λ finding. finding.at ≡ word.now.at) }
+{
     let cause = [
         Quoted(word.text),
         Text(" stands behind the two names of a pair"),
@@ -66,7 +77,9 @@ fn word_behind_pair(alloc: Global, word: &Word<'_>) -> Result<Finding, AllocErro
     Finding::at(alloc, word, &cause, &[Text(advice_behind(word))])
 }
 
-fn word_alone(alloc: Global, word: &Word<'_>) -> Result<Finding, AllocError> {
+fn word_alone(alloc: Global, word: &Word<'_>) -> Result<Finding, AllocError>
+    ensures { IfOk result (λ finding. finding.at ≡ word.now.at) }
+{
     let cause = [
         Quoted(word.text),
         Text(" stands alone, and a line pairs two names"),
@@ -87,7 +100,9 @@ fn unknown_name(
     options: &Options<'_>,
     texts: &Compared<'_>,
     line: &Line<'_>,
-) -> Result<Finding, AllocError> {
+) -> Result<Finding, AllocError>
+    ensures { IfOk result (λ finding. finding.at ≤ line.now.at + length line.now.text.now) }
+{
     let both = Both::of(alloc, options, texts);
     match &both {
         Some(both) => unknown_in(alloc, both, line),
@@ -96,13 +111,17 @@ fn unknown_name(
 }
 
 /// The same where memory runs out.
-fn unread(alloc: Global, line: &Line<'_>) -> Result<Finding, AllocError> {
+fn unread(alloc: Global, line: &Line<'_>) -> Result<Finding, AllocError>
+    ensures { IfOk result (λ finding. finding.at ≡ line.now.at) }
+{
     let cause = [Text("one of these names is of no bit of its dump")];
     Finding::at(alloc, line, &cause, &[])
 }
 
 /// The first name of a line that is of no bit.
-fn unknown_in(alloc: Global, both: &Both<'_>, line: &Line<'_>) -> Result<Finding, AllocError> {
+fn unknown_in(alloc: Global, both: &Both<'_>, line: &Line<'_>) -> Result<Finding, AllocError>
+    ensures { IfOk result (λ finding. finding.at ≤ line.now.at + length line.now.text.now) }
+{
     let words = words_in(alloc, line)?;
     match words.as_slice() {
         [first, second, ..] if both.expected.has(first.text) => {
@@ -119,7 +138,9 @@ fn unknown(
     name: &Word<'_>,
     bits: &Bits<'_>,
     others: &Bits<'_>,
-) -> Result<Finding, AllocError> {
+) -> Result<Finding, AllocError>
+    ensures { IfOk result (λ finding. finding.at ≡ name.now.at) }
+{
     let place = bits.place(alloc)?;
     let help = unknown_help(alloc, name.text, bits, others)?;
     no_bit(alloc, name, name.text, place.as_str(), help)
@@ -132,7 +153,9 @@ fn no_bit<'a>(
     name: &'a [u8],
     place: &'a str,
     help: String,
-) -> Result<Finding, AllocError> {
+) -> Result<Finding, AllocError>
+    ensures { IfOk result (λ finding. finding.at ≡ word.now.at) }
+{
     let cause = [Text(place), Text(" has no bit "), Quoted(name)];
     Finding::with_help(alloc, word, &cause, help)
 }
@@ -166,9 +189,21 @@ fn unknown_help(
     }
 }
 
-fn named_twice<'a>(alloc: Global, map: Source<'a>, line: &Line<'a>) -> Result<Finding, AllocError> {
+/// The first word of a line, else the line.
+fn first_word<'a>(alloc: Global, line: &Line<'a>) -> Result<Word<'a>, AllocError>
+    ensures { IfOk result (IsWithin (line.now.at + length line.now.text.now)) }
+{
     let words = words_in(alloc, line)?;
-    let name = words.first().copied().unwrap_or(*line);
+    match words.as_slice() {
+        [first, ..] => Ok(*first),
+        [] => Ok(*line),
+    }
+}
+
+fn named_twice<'a>(alloc: Global, map: Source<'a>, line: &Line<'a>) -> Result<Finding, AllocError>
+    ensures { IfOk result (λ finding. finding.at ≤ line.now.at + length line.now.text.now) }
+{
+    let name = first_word(alloc, line)?;
     let named = Quoted(name.text);
     let help = [Text("a bit of EXPECTED is compared with one bit of ACTUAL")];
     match first_named(map, name.text) {

@@ -1,5 +1,7 @@
 //! Why nothing of two dumps is compared.
-ghost use Rattle.std.specs.Prelude.{◌≡◌, IfOk};
+ghost use Rattle.std.specs.Prelude.{◌≡◌, ◌≤◌, length, IfOk};
+ghost use Rattle.finding_words.specs.Words.{IsWithin};
+ghost use Rattle.dump_findings.specs.Places.{IsMissingIn};
 ghost use Rattle.dump_findings.specs.EmptyMap.{is_blank, is_silent, says_nothing};
 ghost use Rattle.vcd_compare.specs.Map.{is_comment};
 
@@ -32,7 +34,9 @@ pub fn of_nothing(
     alloc: Global,
     options: &Options<'_>,
     texts: &Compared<'_>,
-) -> Result<Missing, AllocError> {
+) -> Result<Missing, AllocError>
+    ensures { IfOk result (IsMissingIn (length texts.now.expected.text.now) (length texts.now.actual.text.now)) }
+{
     let both = Both::of(alloc, options, texts);
     match &both {
         Some(both) => missing_in(alloc, options, texts, both),
@@ -41,7 +45,9 @@ pub fn of_nothing(
 }
 
 /// The same where memory runs out.
-fn unread(alloc: Global, source: Source<'_>) -> Result<Finding, AllocError> {
+fn unread(alloc: Global, source: Source<'_>) -> Result<Finding, AllocError>
+    ensures { IfOk result (λ finding. finding.at ≤ length source.entry.text.now) }
+{
     let front = Word::of(source.text, 0, 0);
     let cause = [Text("no bit is compared at any time")];
     Finding::at(alloc, &front, &cause, &[])
@@ -52,7 +58,9 @@ fn missing_in(
     options: &Options<'_>,
     texts: &Compared<'_>,
     both: &Both<'_>,
-) -> Result<Missing, AllocError> {
+) -> Result<Missing, AllocError>
+    ensures { IfOk result (IsMissingIn (length texts.now.expected.text.now) (length texts.now.actual.text.now)) }
+{
     let expected = &both.expected;
     let actual = &both.actual;
     if expected.first().is_empty() {
@@ -68,7 +76,9 @@ fn missing_in(
 }
 
 /// A dump that has no bits in its scope.
-fn without_bits(alloc: Global, source: Source<'_>, bits: &Bits<'_>) -> Result<Finding, AllocError> {
+fn without_bits(alloc: Global, source: Source<'_>, bits: &Bits<'_>) -> Result<Finding, AllocError>
+    ensures { IfOk result (λ finding. finding.at ≤ length source.entry.text.now) }
+{
     let place = bits.place(alloc)?;
     no_bits(alloc, source.text, place.as_str(), bits.first_of_all())
 }
@@ -79,7 +89,9 @@ fn no_bits<'a>(
     text: &[u8],
     place: &'a str,
     path: &'a [u8],
-) -> Result<Finding, AllocError> {
+) -> Result<Finding, AllocError>
+    ensures { IfOk result (λ finding. finding.at ≤ length text.now) }
+{
     let cause = [
         Text(place),
         Text(" has no variable whose bits can be compared"),
@@ -98,7 +110,9 @@ fn no_bits<'a>(
 }
 
 /// The name of a bit's variable, where it is declared; no word where it isn't found.
-fn variable_of<'a>(alloc: Global, text: &'a [u8], path: &[u8]) -> Result<Word<'a>, AllocError> {
+fn variable_of<'a>(alloc: Global, text: &'a [u8], path: &[u8]) -> Result<Word<'a>, AllocError>
+    ensures { IfOk result (λ word. word.at ≤ length text.entry.now) }
+{
     let name = match path.iter().rposition(|byte| *byte == b'.') {
         Some(dot) => path.get(dot.saturating_add(1)..).unwrap_or(path),
         None => path,
@@ -125,7 +139,9 @@ fn without_pairs(
     texts: &Compared<'_>,
     expected: &Bits<'_>,
     actual: &Bits<'_>,
-) -> Result<Finding, AllocError> {
+) -> Result<Finding, AllocError>
+    ensures { IfOk result (λ finding. finding.at ≤ length texts.now.expected.text.now) }
+{
     let own = expected.place(alloc)?;
     let other = actual.place(alloc)?;
     let help = pairs_help(alloc, expected, actual)?;
@@ -141,7 +157,9 @@ fn no_pairs<'a>(
     name: &'a [u8],
     places: (&'a str, &'a str),
     help: String,
-) -> Result<Finding, AllocError> {
+) -> Result<Finding, AllocError>
+    ensures { IfOk result (λ finding. finding.at ≡ word.now.at) }
+{
     let cause = [
         Quoted(name),
         Text(" isn't in "),
@@ -186,7 +204,9 @@ fn without_times(
     alloc: Global,
     source: Source<'_>,
     options: &Options<'_>,
-) -> Result<Finding, AllocError> {
+) -> Result<Finding, AllocError>
+    ensures { IfOk result (λ finding. finding.at ≤ length source.entry.text.now) }
+{
     let last = last_stamp(source.text, source.text.len());
     let digits = last.text.strip_prefix(b"#").unwrap_or(&[]);
     let to = match options.to {
@@ -214,7 +234,9 @@ fn without_times_to(
     to: u64,
     end: &'static str,
     help: &'static str,
-) -> Result<Finding, AllocError> {
+) -> Result<Finding, AllocError>
+    ensures { IfOk result (λ finding. finding.at ≡ last.now.at) }
+{
     let from = Number(options.from);
     match options.strobes {
         Some((first, step)) if options.from <= to => {

@@ -1,5 +1,8 @@
 //! Which words of a dump are stamps.
-use finding_words::{Word, is_space};
+ghost use Rattle.std.specs.Prelude.{length};
+ghost use Rattle.finding_words.specs.Words.{IsWithin};
+
+use finding_words::{Word, word_from};
 use text_numbers::is_numeral;
 
 /// What the next word of a dump belongs to.
@@ -68,22 +71,23 @@ struct Reading<'a> {
     stamp: Word<'a>,
 }
 
-fn reading_to(text: &[u8], end: usize) -> Reading<'_> {
+fn reading_to(text: &[u8], end: usize) -> Reading<'_>
+    ensures { IsWithin (length text.now) result.stamp }
+{
+    let front = text.get(..end).unwrap_or(text);
     let mut state = State::Declarations;
     let mut stamp = Word { at: 0, text: &[] };
     let mut at = 0usize;
-    for word in text
-        .get(..end)
-        .unwrap_or(text)
-        .split(|byte| is_space(*byte))
-    {
-        if state == State::Changes && is_stamp(word) {
-            stamp = Word { at, text: word };
+    while at < front.len() {
+        let word = word_from(front, at);
+        if word.text.is_empty() {
+            break;
         }
-        if !word.is_empty() {
-            state = state.after(word);
+        if state == State::Changes && is_stamp(word.text) {
+            stamp = word;
         }
-        at = at.saturating_add(word.len()).saturating_add(1);
+        state = state.after(word.text);
+        at = word.at + word.text.len();
     }
     Reading { state, stamp }
 }
@@ -96,7 +100,9 @@ fn is_stamp(word: &[u8]) -> bool {
 }
 
 /// The last stamp before an offset; no word where there is none.
-pub(crate) fn last_stamp(text: &[u8], end: usize) -> Word<'_> {
+pub(crate) fn last_stamp(text: &[u8], end: usize) -> Word<'_>
+    ensures { IsWithin (length text.now) result }
+{
     reading_to(text, end).stamp
 }
 

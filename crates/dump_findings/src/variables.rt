@@ -1,5 +1,8 @@
 //! The variables that a stimulus declares.
-use finding_words::{Word, is_space};
+ghost use Rattle.std.specs.Prelude.{ℕ, length, All, IfOk, IfSome};
+ghost use Rattle.finding_words.specs.Words.{IsWithin};
+
+use finding_words::{Word, word_from};
 use gate_vcd::{Keyword, Scopes, keyword_of};
 use std::alloc::{AllocError, Global};
 use text_numbers::number_up_to;
@@ -61,23 +64,29 @@ pub(crate) fn find_variable<'a>(
     text: &'a [u8],
     scope: Option<&[u8]>,
     wanted: Wanted<'_>,
-) -> Result<Option<Variable<'a>>, AllocError> {
+) -> Result<Option<Variable<'a>>, AllocError>
+    ensures { IfOk result (λ found. IfSome found (λ variable. IsWithin (length text.entry.now) variable.name)) }
+{
     let mut scopes = Scopes::new(alloc, scope);
     let mut command = Vec::new(alloc);
     let mut at = 0usize;
-    for piece in text.split(|byte| is_space(*byte)) {
-        let word = Word { at, text: piece };
-        at = at.saturating_add(piece.len()).saturating_add(1);
+    while at < text.len() {
+        let word = word_from(text, at);
+        if word.text.is_empty() {
+            break;
+        }
+        at = word.at + word.text.len();
         if word.is("$end") {
-            let variable = declared(alloc, &mut scopes, command.as_slice())?;
-            if variable.as_ref().is_some_and(|found| wanted.is(found)) {
-                return Ok(variable);
+            if let Some(variable) = declared(alloc, &mut scopes, command.as_slice())? {
+                if wanted.is(&variable) {
+                    return Ok(Some(variable));
+                }
             }
             if ends_declarations(command.as_slice()) {
                 return Ok(None);
             }
             command.clear();
-        } else if !piece.is_empty() && is_kept(command.as_slice()) {
+        } else if is_kept(command.as_slice()) {
             command.push(word)?;
         }
     }
@@ -106,7 +115,9 @@ fn declared<'a>(
     alloc: Global,
     scopes: &mut Scopes<'_>,
     command: &[Word<'a>],
-) -> Result<Option<Variable<'a>>, AllocError> {
+) -> Result<Option<Variable<'a>>, AllocError>
+    ensures { (size : ℕ) → All (IsWithin size) command.now → IfOk result (λ found. IfSome found (λ variable. IsWithin size variable.name)) }
+{
     match keyword(command) {
         Some(Keyword::Scope) => {
             scopes.open(scope_name(command)).map_err(|_| AllocError)?;
@@ -130,10 +141,9 @@ fn scope_name<'a>(command: &[Word<'a>]) -> &'a [u8] {
 }
 
 /// The variable of a `$var`, if it has enough words.
-fn variable_of<'a>(
-    alloc: Global,
-    command: &[Word<'a>],
-) -> Result<Option<Variable<'a>>, AllocError> {
+fn variable_of<'a>(alloc: Global, command: &[Word<'a>]) -> Result<Option<Variable<'a>>, AllocError>
+    ensures { (size : ℕ) → All (IsWithin size) command.now → IfOk result (λ found. IfSome found (λ variable. IsWithin size variable.name)) }
+{
     match command {
         [_, kind, size, _, name, rest @ ..] => {
             let mut reference = Vec::from_slice(alloc, bare(name.text))?;

@@ -1,9 +1,14 @@
 //! The words and marks of a bench line, and where its form breaks.
+ghost use Rattle.std.specs.Prelude.{◌+◌, ◌≤◌, ℕ, length, All, IfOk, IfSome, OnOk};
+ghost use Rattle.finding_words.specs.Words.{IsWithin};
+
 use crate::words::{Line, Word, is_space};
 use std::alloc::{AllocError, Global};
 
 /// The words and marks of a line, up to its comment.
-pub fn pieces<'a>(alloc: Global, line: &Line<'a>) -> Result<Vec<Word<'a>>, AllocError> {
+pub fn pieces<'a>(alloc: Global, line: &Line<'a>) -> Result<Vec<Word<'a>>, AllocError>
+    ensures { IfOk result (λ pieces. All (IsWithin (line.now.at + length line.now.text.now)) pieces.items) }
+{
     let mut pieces = Vec::new(alloc);
     let mut start = 0usize;
     for (place, byte) in line.text.iter().enumerate() {
@@ -32,7 +37,10 @@ fn add<'a>(
     start: usize,
     end: usize,
     pieces: &mut Vec<Word<'a>>,
-) -> Result<(), AllocError> {
+) -> Result<(), AllocError>
+    requires { All (IsWithin (line.now.at + length line.now.text.now)) pieces.old.items }
+    ensures { OnOk result (All (IsWithin (line.now.at + length line.now.text.now)) pieces.new.items) }
+{
     match line.text.get(start..end) {
         Some(text) if !text.is_empty() => {
             pieces.push(Word {
@@ -114,7 +122,9 @@ fn is_port(word: &[u8]) -> bool {
 }
 
 /// The first piece that may not stand where it does, none where the line ends too early, and what stands before.
-pub fn break_of<'a>(pieces: &[Word<'a>]) -> (Option<Word<'a>>, State) {
+pub fn break_of<'a>(pieces: &[Word<'a>]) -> (Option<Word<'a>>, State)
+    ensures { (size : ℕ) → All (IsWithin size) pieces.now → IfSome result.0 (IsWithin size) }
+{
     let mut state = State::Nothing;
     for piece in pieces {
         match state.after(piece.text) {
@@ -126,7 +136,9 @@ pub fn break_of<'a>(pieces: &[Word<'a>]) -> (Option<Word<'a>>, State) {
 }
 
 /// The net that a line defines.
-pub fn defined<'a>(pieces: &[Word<'a>]) -> Option<Word<'a>> {
+pub fn defined<'a>(pieces: &[Word<'a>]) -> Option<Word<'a>>
+    ensures { (size : ℕ) → All (IsWithin size) pieces.now → IfSome result (IsWithin size) }
+{
     match pieces {
         [net, equals, ..] if equals.is("=") => Some(*net),
         [port, _, net, ..] if port.is_like("INPUT") => Some(*net),

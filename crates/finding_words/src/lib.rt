@@ -25,4 +25,7 @@ pub use lines::{Named, first_named, words_in};
 pub use look::Look;
 pub use near::{NearName, nearest, path_to};
 pub use sentences::{Piece, sentence};
-pub use words::{Line, Word, is_space, line_of, without_end, word_at, word_behind, word_from};
+pub use words::{
+    Line, Word, is_space, line_at, line_behind, line_of, without_end, word_at, word_behind,
+    word_from,
+};

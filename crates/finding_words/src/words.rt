@@ -1,7 +1,7 @@
 //! Words and lines of a text.
-ghost use Rattle.std.specs.Prelude.{◌≡◌, ◌+◌, ◌≤◌, length, take, drop};
+ghost use Rattle.std.specs.Prelude.{◌≡◌, ◌+◌, ◌<◌, ◌≤◌, length, take, drop};
 ghost use Rattle.std.specs.Str.{bytes_eq, str_eq_ignore_ascii_case};
-ghost use Rattle.finding_words.specs.Words.{is_space, space_len, word_len, word_text, without_end};
+ghost use Rattle.finding_words.specs.Words.{is_space, space_len, word_len, word_text, without_end, IsWithin};
 ghost use Rattle.text_places.specs.Places.{without_return};
 
 /// A word of a text, and the offset of its first byte.
@@ -42,18 +42,41 @@ impl<'a> Word<'a> {
     }
 }
 
-/// The line of a number, from 1.
-pub fn line_of(text: &[u8], number: u64) -> Line<'_> {
+/// Where the line behind the one of an offset begins; the text's end where there is none.
+pub fn line_behind(text: &[u8], at: usize) -> usize
+    requires { at < length text.now }
+    ensures onward { at < result }
+    ensures within { result ≤ length text.now }
+{
+    match text[at..].iter().position(|byte| *byte == b'\n') {
+        Some(feed) => at + feed + 1,
+        None => text.len(),
+    }
+}
+
+/// The line that begins at an offset.
+pub fn line_at(text: &[u8], at: usize) -> Line<'_>
+    requires { at < length text.now }
+    ensures within { IsWithin (length text.now) result }
+    ensures at { result.at ≡ at }
+{
+    Word {
+        at,
+        text: without_end(&text[at..line_behind(text, at)]),
+    }
+}
+
+/// The line of a number, from 1; an empty one at the text's end where there are fewer.
+pub fn line_of(text: &[u8], number: u64) -> Line<'_>
+    ensures { IsWithin (length text.now) result }
+{
     let mut at = 0usize;
     let mut count = 1u64;
-    for line in text.split_inclusive(|byte| *byte == b'\n') {
+    while at < text.len() {
         if count == number {
-            return Word {
-                at,
-                text: without_end(line),
-            };
+            return line_at(text, at);
         }
-        at = at.saturating_add(line.len());
+        at = line_behind(text, at);
         count = count.saturating_add(1);
     }
     Word { at, text: &[] }
@@ -61,7 +84,8 @@ pub fn line_of(text: &[u8], number: u64) -> Line<'_> {
 
 /// A line without its line feed, and without the carriage return before that.
 pub fn without_end(line: &[u8]) -> &[u8]
-    ensures { result.now ≡ without_end line.now }
+    ensures end { result.now ≡ without_end line.now }
+    ensures within { length result.now ≤ length line.now }
 {
     match line {
         [front @ .., b'\n'] => without_return(front),
@@ -70,7 +94,8 @@ pub fn without_end(line: &[u8]) -> &[u8]
 }
 
 fn without_return(line: &[u8]) -> &[u8]
-    ensures { result.now ≡ without_return line.now }
+    ensures end { result.now ≡ without_return line.now }
+    ensures within { length result.now ≤ length line.now }
 {
     match line {
         [front @ .., b'\r'] => front,
@@ -130,6 +155,7 @@ pub fn word_at(text: &[u8], at: usize) -> Word<'_>
 pub fn word_from(text: &[u8], at: usize) -> Word<'_>
     ensures at { result.at ≡ at + space_len (drop at text.now) }
     ensures text { result.text.now ≡ word_text (at + space_len (drop at text.now)) text.now }
+    ensures within { at ≤ length text.now → IsWithin (length text.now) result }
 {
     if text.len() <= at {
         Word { at, text: &[] }
@@ -139,6 +165,8 @@ pub fn word_from(text: &[u8], at: usize) -> Word<'_>
 }
 
 /// The word behind a word.
-pub fn word_behind<'a>(text: &'a [u8], word: &Word<'_>) -> Word<'a> {
+pub fn word_behind<'a>(text: &'a [u8], word: &Word<'_>) -> Word<'a>
+    ensures { IsWithin (length text.now) word.now → IsWithin (length text.now) result }
+{
     word_from(text, word.at.saturating_add(word.text.len()))
 }

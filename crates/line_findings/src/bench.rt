@@ -1,4 +1,7 @@
 //! What is wrong with a bench text.
+ghost use Rattle.std.specs.Prelude.{◌≡◌, ◌+◌, ◌≤◌, ℕ, length, All, IfOk, IfSome};
+ghost use Rattle.finding_words.specs.Words.{IsWithin};
+
 use Piece::{Bytes, Number, Quoted, Text};
 use finding_words::{
     Finding, Kind, Line, Look, Piece, State, Word, break_of, defined, line_of, misplaced, pieces,
@@ -25,7 +28,9 @@ pub fn of_bench(
     alloc: Global,
     source: Source<'_>,
     fault: &BenchFault,
-) -> Result<Finding, AllocError> {
+) -> Result<Finding, AllocError>
+    ensures { IfOk result (λ finding. finding.at ≤ length source.entry.text.now) }
+{
     let look = Look::of(alloc, source.text)?;
     if !matches!(look, Look::Bench | Look::Other) {
         return misplaced(alloc, look, Kind::Bench);
@@ -48,7 +53,10 @@ pub fn of_bench(
 }
 
 /// The first byte of a line that may not stand there, or the word `$end`.
-fn bad_name(alloc: Global, source: Source<'_>, line: &Line<'_>) -> Result<Finding, AllocError> {
+fn bad_name(alloc: Global, source: Source<'_>, line: &Line<'_>) -> Result<Finding, AllocError>
+    requires { IsWithin (length source.text.now) line.now }
+    ensures { IfOk result (λ finding. finding.at ≤ length source.entry.text.now) }
+{
     let end = line
         .text
         .iter()
@@ -65,7 +73,9 @@ fn bad_name(alloc: Global, source: Source<'_>, line: &Line<'_>) -> Result<Findin
 }
 
 /// The word `$end`.
-fn word_end(alloc: Global, line: &Line<'_>) -> Result<Finding, AllocError> {
+fn word_end(alloc: Global, line: &Line<'_>) -> Result<Finding, AllocError>
+    ensures { IfOk result (λ finding. finding.at ≤ line.now.at + length line.now.text.now) }
+{
     let pieces = pieces(alloc, line)?;
     let word = pieces
         .iter()
@@ -77,7 +87,9 @@ fn word_end(alloc: Global, line: &Line<'_>) -> Result<Finding, AllocError> {
 }
 
 /// A byte that may not stand in a bench, by its offset.
-fn bad_byte(alloc: Global, text: &[u8], at: usize) -> Result<Finding, AllocError> {
+fn bad_byte(alloc: Global, text: &[u8], at: usize) -> Result<Finding, AllocError>
+    ensures { IfOk result (λ finding. finding.at ≡ at) }
+{
     let rest = text.get(at..).unwrap_or(&[]);
     let letter = Word::of(text, at, letter_length(rest));
     let byte = rest.first().copied().unwrap_or(0);
@@ -105,7 +117,10 @@ fn letter_length(text: &[u8]) -> usize {
     }
 }
 
-fn bad_line(alloc: Global, source: Source<'_>, line: &Line<'_>) -> Result<Finding, AllocError> {
+fn bad_line(alloc: Global, source: Source<'_>, line: &Line<'_>) -> Result<Finding, AllocError>
+    requires { IsWithin (length source.text.now) line.now }
+    ensures { IfOk result (λ finding. finding.at ≤ length source.entry.text.now) }
+{
     let pieces = pieces(alloc, line)?;
     if let Some(word) = foreign_comment(pieces.as_slice()) {
         return no_comment(alloc, &word);
@@ -121,7 +136,9 @@ fn bad_line(alloc: Global, source: Source<'_>, line: &Line<'_>) -> Result<Findin
 }
 
 /// The first word of a line that is a comment in other languages.
-fn foreign_comment<'a>(pieces: &[Word<'a>]) -> Option<Word<'a>> {
+fn foreign_comment<'a>(pieces: &[Word<'a>]) -> Option<Word<'a>>
+    ensures { (size : ℕ) → All (IsWithin size) pieces.now → IfSome result (IsWithin size) }
+{
     match pieces {
         [_, equals, ..] if equals.is("=") => None,
         [first, ..] if begins_comment(first.text) => Some(*first),
@@ -133,18 +150,17 @@ fn begins_comment(word: &[u8]) -> bool {
     matches!(word, [b'/', b'/' | b'*', ..] | [b'-', b'-', ..])
 }
 
-fn no_comment(alloc: Global, word: &Word<'_>) -> Result<Finding, AllocError> {
+fn no_comment(alloc: Global, word: &Word<'_>) -> Result<Finding, AllocError>
+    ensures { IfOk result (λ finding. finding.at ≡ word.now.at) }
+{
     let cause = [Quoted(word.text), Text(" begins no comment in a bench")];
     Finding::at(alloc, word, &cause, &[Text(COMMENT)])
 }
 
 /// A line that ends too early, also one that parts two texts.
-fn cut_line(
-    alloc: Global,
-    end: &Word<'_>,
-    state: State,
-    parts: bool,
-) -> Result<Finding, AllocError> {
+fn cut_line(alloc: Global, end: &Word<'_>, state: State, parts: bool) -> Result<Finding, AllocError>
+    ensures { IfOk result (λ finding. finding.at ≡ end.now.at) }
+{
     let cause = [
         Text("the line ends where "),
         Text(state.expects()),
@@ -155,7 +171,9 @@ fn cut_line(
 }
 
 /// A piece that may not stand where it does.
-fn stray(alloc: Global, word: &Word<'_>, state: State) -> Result<Finding, AllocError> {
+fn stray(alloc: Global, word: &Word<'_>, state: State) -> Result<Finding, AllocError>
+    ensures { IfOk result (λ finding. finding.at ≡ word.now.at) }
+{
     let cause = [
         Quoted(word.text),
         Text(" stands where "),
@@ -172,7 +190,9 @@ fn stray(alloc: Global, word: &Word<'_>, state: State) -> Result<Finding, AllocE
 }
 
 /// Where the last piece of a line ends.
-fn end_of(pieces: &[Word<'_>], line: &Line<'_>) -> usize {
+fn end_of(pieces: &[Word<'_>], line: &Line<'_>) -> usize
+    ensures { (size : ℕ) → All (IsWithin size) pieces.now → IsWithin size line.now → result ≤ size }
+{
     match pieces.last() {
         Some(last) => last.at.saturating_add(last.text.len()),
         None => line.at,
@@ -180,18 +200,24 @@ fn end_of(pieces: &[Word<'_>], line: &Line<'_>) -> usize {
 }
 
 /// The gate of a line.
-fn gate_of<'a>(pieces: &[Word<'a>], line: &Line<'a>) -> Word<'a> {
+fn gate_of<'a>(pieces: &[Word<'a>], line: &Line<'a>) -> Word<'a>
+    ensures { (size : ℕ) → All (IsWithin size) pieces.now → IsWithin size line.now → IsWithin size result }
+{
     pieces.get(2).copied().unwrap_or(*line)
 }
 
-fn unknown_gate(alloc: Global, line: &Line<'_>) -> Result<Finding, AllocError> {
+fn unknown_gate(alloc: Global, line: &Line<'_>) -> Result<Finding, AllocError>
+    ensures { IfOk result (λ finding. finding.at ≤ line.now.at + length line.now.text.now) }
+{
     let pieces = pieces(alloc, line)?;
     let gate = gate_of(pieces.as_slice(), line);
     let cause = [Text("there is no gate "), Quoted(gate.text)];
     Finding::at(alloc, &gate, &cause, &[Text(GATES)])
 }
 
-fn input_count(alloc: Global, line: &Line<'_>) -> Result<Finding, AllocError> {
+fn input_count(alloc: Global, line: &Line<'_>) -> Result<Finding, AllocError>
+    ensures { IfOk result (λ finding. finding.at ≤ line.now.at + length line.now.text.now) }
+{
     let pieces = pieces(alloc, line)?;
     let gate = gate_of(pieces.as_slice(), line);
     let given = used(pieces.as_slice())
@@ -237,13 +263,26 @@ fn first_definition<'a>(
     Ok(None)
 }
 
+/// The net that a line defines, else the line.
+fn net_of<'a>(alloc: Global, line: &Line<'a>) -> Result<Word<'a>, AllocError>
+    ensures { IfOk result (IsWithin (line.now.at + length line.now.text.now)) }
+{
+    let pieces = pieces(alloc, line)?;
+    match defined(pieces.as_slice()) {
+        Some(net) => Ok(net),
+        None => Ok(*line),
+    }
+}
+
 fn driven_twice<'a>(
     alloc: Global,
     source: Source<'a>,
     line: &Line<'a>,
-) -> Result<Finding, AllocError> {
-    let pieces = pieces(alloc, line)?;
-    let net = defined(pieces.as_slice()).unwrap_or(*line);
+) -> Result<Finding, AllocError>
+    requires { IsWithin (length source.text.now) line.now }
+    ensures { IfOk result (λ finding. finding.at ≤ length source.entry.text.now) }
+{
+    let net = net_of(alloc, line)?;
     let named = Quoted(net.text);
     match first_definition(alloc, source, net.text)? {
         Some(first) => {
@@ -280,7 +319,9 @@ fn all_defined<'a>(alloc: Global, text: &'a [u8]) -> Result<BTreeSet<&'a [u8]>, 
 }
 
 /// The nets that a line uses.
-fn used<'t, 'a>(pieces: &'t [Word<'a>]) -> &'t [Word<'a>] {
+fn used<'t, 'a>(pieces: &'t [Word<'a>]) -> &'t [Word<'a>]
+    ensures { (size : ℕ) → All (IsWithin size) pieces.now → All (IsWithin size) result.now }
+{
     match pieces {
         [_, equals, _, _, names @ ..] if equals.is("=") => names,
         [port, _, names @ ..] if port.is_like("OUTPUT") => names,
@@ -294,7 +335,9 @@ fn is_name(piece: &Word<'_>) -> bool {
 }
 
 /// The first net that a line uses and that isn't among these.
-fn first_open<'a>(pieces: &[Word<'a>], nets: &BTreeSet<&'a [u8]>) -> Option<Word<'a>> {
+fn first_open<'a>(pieces: &[Word<'a>], nets: &BTreeSet<&'a [u8]>) -> Option<Word<'a>>
+    ensures { (size : ℕ) → All (IsWithin size) pieces.now → IfSome result (IsWithin size) }
+{
     for piece in used(pieces) {
         if is_name(piece) && !nets.contains(&piece.text) {
             return Some(*piece);
@@ -313,10 +356,16 @@ fn like<'a>(nets: &BTreeSet<&'a [u8]>, name: &[u8]) -> Option<&'a [u8]> {
     None
 }
 
-fn undriven(alloc: Global, source: Source<'_>, line: &Line<'_>) -> Result<Finding, AllocError> {
+fn undriven(alloc: Global, source: Source<'_>, line: &Line<'_>) -> Result<Finding, AllocError>
+    requires { IsWithin (length source.text.now) line.now }
+    ensures { IfOk result (λ finding. finding.at ≤ length source.entry.text.now) }
+{
     let nets = all_defined(alloc, source.text)?;
     let pieces = pieces(alloc, line)?;
-    let net = first_open(pieces.as_slice(), &nets).unwrap_or(*line);
+    let net = match first_open(pieces.as_slice(), &nets) {
+        Some(net) => net,
+        None => *line,
+    };
     let cause = [Text("no line drives "), Quoted(net.text)];
     match like(&nets, net.text) {
         Some(near) => {

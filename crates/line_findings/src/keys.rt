@@ -1,6 +1,10 @@
 //! Where a key stands in a text of settings that is TOML.
+ghost use Rattle.std.specs.Prelude.{◌≡◌, ◌⊎◌, ◌+◌, ◌≤◌, length, IfOk};
+ghost use Rattle.finding_words.specs.declared.words.Word.{Word as WordView};
+ghost use Rattle.line_findings.specs.declared.keys.Written.TheVariants as written;
+
 use crate::quotes::{Statements, before_mark};
-use finding_words::{Line, Word, without_end};
+use finding_words::{Line, Word, line_at, line_behind};
 use std::alloc::{AllocError, Global};
 use toml::{Table, Value};
 
@@ -25,7 +29,9 @@ impl<'t> Key<'t> {
 }
 
 /// A text without the byte order mark at its beginning.
-pub(crate) fn behind_mark(text: &[u8]) -> &[u8] {
+pub(crate) fn behind_mark(text: &[u8]) -> &[u8]
+    ensures { length result.now ≤ length text.now }
+{
     text.strip_prefix(&[0xEF, 0xBB, 0xBF]).unwrap_or(text)
 }
 
@@ -34,7 +40,9 @@ pub(crate) fn key_at<'a>(
     alloc: Global,
     text: &'a [u8],
     key: Key<'_>,
-) -> Result<Word<'a>, AllocError> {
+) -> Result<Word<'a>, AllocError>
+    ensures { IfOk result (λ word. word.at ≤ length text.entry.now) }
+{
     match key.table {
         Some(table) => path_at(alloc, text, &[table, key.name]),
         None => path_at(alloc, text, &[key.name]),
@@ -42,18 +50,17 @@ pub(crate) fn key_at<'a>(
 }
 
 /// The place of the first header or key that leads along all of a path.
-fn path_at<'a>(alloc: Global, text: &'a [u8], path: &[&str]) -> Result<Word<'a>, AllocError> {
-    let lines = behind_mark(text);
-    let mut at = text.len().saturating_sub(lines.len());
+fn path_at<'a>(alloc: Global, text: &'a [u8], path: &[&str]) -> Result<Word<'a>, AllocError>
+    ensures { IfOk result (λ word. word.at ≤ length text.entry.now) }
+{
+    let mut at = text.len() - behind_mark(text).len();
     let mut statements = Statements::START;
     let mut below = Some(path);
-    for line in lines.split_inclusive(|byte| *byte == b'\n') {
+    while at < text.len() {
+        let behind = line_behind(text, at);
+        let line = &text[at..behind];
         if statements.may_begin() {
-            let content = Word {
-                at,
-                text: without_end(line),
-            };
-            match (written_in(&content), below) {
+            match (written_in(&line_at(text, at)), below) {
                 (Written::Header(header), _) => {
                     below = left_behind(alloc, header.text, path)?;
                     if below.is_some_and(|left| left.is_empty()) {
@@ -67,7 +74,7 @@ fn path_at<'a>(alloc: Global, text: &'a [u8], path: &[&str]) -> Result<Word<'a>,
             }
         }
         statements = statements.behind(line);
-        at = at.saturating_add(line.len());
+        at = behind;
     }
     Ok(Word::of(text, 0, 0))
 }
@@ -82,7 +89,9 @@ enum Written<'a> {
     Key(Word<'a>),
 }
 
-fn written_in<'a>(line: &Line<'a>) -> Written<'a> {
+fn written_in<'a>(line: &Line<'a>) -> Written<'a>
+    ensures { (word : WordView) → (result ≡ written.Header word) ⊎ (result ≡ written.Key word) → word.at ≤ line.now.at + length line.now.text.now }
+{
     let blanks = blanks_before(line.text);
     match line.text.get(blanks..) {
         None | Some([] | [b'#', ..]) => Written::Nothing,
@@ -93,8 +102,11 @@ fn written_in<'a>(line: &Line<'a>) -> Written<'a> {
 }
 
 /// What stands in a line from a place up to a mark, without white space around it.
-fn up_to<'a>(line: &Line<'a>, from: usize, mark: u8) -> Word<'a> {
-    let front = before_mark(line.text.get(from..).unwrap_or(&[]), mark);
+fn up_to<'a>(line: &Line<'a>, from: usize, mark: u8) -> Word<'a>
+    requires { from ≤ length line.now.text.now }
+    ensures { result.at ≤ line.now.at + length line.now.text.now }
+{
+    let front = before_mark(&line.text[from..], mark);
     Word {
         at: line
             .at
@@ -105,7 +117,9 @@ fn up_to<'a>(line: &Line<'a>, from: usize, mark: u8) -> Word<'a> {
 }
 
 /// How many bytes of white space stand first.
-fn blanks_before(text: &[u8]) -> usize {
+fn blanks_before(text: &[u8]) -> usize
+    ensures { result ≤ length text.now }
+{
     text.len().saturating_sub(text.trim_ascii_start().len())
 }
 

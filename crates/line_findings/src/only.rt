@@ -1,4 +1,6 @@
 //! What is wrong with a text that names the nets that are told.
+ghost use Rattle.std.specs.Prelude.{◌≡◌, ◌≤◌, length, IfOk};
+
 use crate::returns::stray_return;
 use Piece::{Number, Quoted, Text};
 use finding_words::{
@@ -17,7 +19,9 @@ pub fn of_only(
     settings: &[u8],
     names: Source<'_>,
     fault: &OnlyFault,
-) -> Result<Finding, AllocError> {
+) -> Result<Finding, AllocError>
+    ensures { IfOk result (λ finding. finding.at ≤ length names.entry.text.now) }
+{
     let look = Look::of(alloc, names.text)?;
     if look != Look::Other {
         return misplaced(alloc, look, Kind::Names);
@@ -35,7 +39,9 @@ pub fn of_only(
     }
 }
 
-fn named_twice(alloc: Global, names: Source<'_>, name: &Word<'_>) -> Result<Finding, AllocError> {
+fn named_twice(alloc: Global, names: Source<'_>, name: &Word<'_>) -> Result<Finding, AllocError>
+    ensures { IfOk result (λ finding. finding.at ≡ name.now.at) }
+{
     let net = Quoted(name.text);
     match first_named(names, name.text) {
         Some(Named { number, .. }) => {
@@ -58,7 +64,9 @@ fn named_twice(alloc: Global, names: Source<'_>, name: &Word<'_>) -> Result<Find
 }
 
 /// A line of more than one word.
-fn second_name(alloc: Global, second: &Word<'_>) -> Result<Finding, AllocError> {
+fn second_name(alloc: Global, second: &Word<'_>) -> Result<Finding, AllocError>
+    ensures { IfOk result (λ finding. finding.at ≡ second.now.at) }
+{
     let advice = match second.text {
         [b'#', ..] => "a comment has a line of its own, which begins with #",
         _ => "",
@@ -76,7 +84,9 @@ fn unknown<'a>(
     bench: Source<'a>,
     settings: &[u8],
     name: &Word<'a>,
-) -> Result<Finding, AllocError> {
+) -> Result<Finding, AllocError>
+    ensures { IfOk result (λ finding. finding.at ≡ name.now.at) }
+{
     let help = unknown_help(alloc, bench, settings, name.text)?;
     let cause = [Text(bench.name), Text(" has no net "), Quoted(name.text)];
     Finding::with_help(alloc, name, &cause, help)

@@ -1,4 +1,5 @@
 //! What stands in quotes and brackets of a text of TOML, and where its statements begin.
+ghost use Rattle.std.specs.Prelude.{◌≤◌, length};
 
 /// What a byte of a text stands in.
 #[derive(Clone, Copy, PartialEq, Eq)]
@@ -72,7 +73,9 @@ fn behind_long(quote: u8, count: u8, byte: u8) -> Within {
 }
 
 /// What stands before the first such byte that is in no quotes.
-pub(crate) fn before_mark(text: &[u8], mark: u8) -> &[u8] {
+pub(crate) fn before_mark(text: &[u8], mark: u8) -> &[u8]
+    ensures { length result.now ≤ length text.now }
+{
     let mut within = Within::Code;
     for (place, byte) in text.iter().enumerate() {
         if *byte == mark && within.is_code(*byte) {

@@ -1,9 +1,12 @@
 //! What is wrong with a schedule.
+ghost use Rattle.finding_words.specs.Words.{IsWithin};
 ghost use Rattle.std.specs.Prelude.{◌≡◌, ◌+◌, ◌<◌, ◌≤◌, length, IfOk};
 
 use crate::returns::stray_return;
 use Piece::{Number, Quoted, Text};
-use finding_words::{Finding, Kind, Look, Piece, Word, line_of, misplaced, word_behind, word_from};
+use finding_words::{
+    Finding, Kind, Look, Piece, Word, line_behind, line_of, misplaced, word_behind, word_from,
+};
 use std::alloc::{AllocError, Global};
 use text_numbers::{is_numeral, number_up_to};
 use text_places::Source;
@@ -16,13 +19,15 @@ pub fn of_schedule(
     source: Source<'_>,
     line: u64,
     is_large: bool,
-) -> Result<Finding, AllocError> {
+) -> Result<Finding, AllocError>
+    ensures { IfOk result (λ finding. finding.at ≤ length source.entry.text.now) }
+{
     let look = Look::of(alloc, source.text)?;
     if look != Look::Other {
         return misplaced(alloc, look, Kind::Schedule);
     }
     let line = line_of(source.text, line);
-    let first = first_word(source.text, line.at);
+    let first = word_from(source.text, line.at);
     if is_large {
         return too_large(alloc, source.text, &first);
     }
@@ -33,7 +38,10 @@ pub fn of_schedule(
 }
 
 /// An event of which a number is too large.
-fn too_large(alloc: Global, text: &[u8], first: &Word<'_>) -> Result<Finding, AllocError> {
+fn too_large(alloc: Global, text: &[u8], first: &Word<'_>) -> Result<Finding, AllocError>
+    requires { IsWithin (length text.now) first.now }
+    ensures { IfOk result (λ finding. finding.at ≤ length text.now) }
+{
     let second = word_behind(text, first);
     let number = if is_too_large(second.text) {
         second
@@ -53,7 +61,9 @@ fn no_event(
     text: &[u8],
     first: &Word<'_>,
     line: &[u8],
-) -> Result<Finding, AllocError> {
+) -> Result<Finding, AllocError>
+    ensures { IfOk result (λ finding. finding.at ≡ first.now.at) }
+{
     let whole = Word::of(text, first.at, line.len());
     let advice =
         "an event is `deliver M`, `advance B S` or `commit`; a comment is a line that begins with #";
@@ -69,28 +79,9 @@ fn is_too_large(word: &[u8]) -> bool {
     is_numeral(word) && number_up_to(MOST_NUMBER, word).is_none()
 }
 
-/// The first word from an offset on.
-fn first_word(text: &[u8], at: usize) -> Word<'_>
-    ensures { at ≤ length text.now → result.at + length result.text.now ≤ length text.now }
-{
-    word_from(text, at)
-}
-
-/// Where the line behind the one of an offset begins; the text's end where there is none.
-fn line_behind(text: &[u8], at: usize) -> usize
-    requires { at < length text.now }
-    ensures onward { at < result }
-    ensures within { result ≤ length text.now }
-{
-    match text[at..].iter().position(|byte| *byte == b'\n') {
-        Some(feed) => at + feed + 1,
-        None => text.len(),
-    }
-}
-
 /// The first word of the event with this number, from 1, of the last one where there are fewer.
 fn event_at(text: &[u8], number: u64) -> Word<'_>
-    ensures { result.at + length result.text.now ≤ length text.now }
+    ensures { IsWithin (length text.now) result }
 {
     let mut at = 0usize;
     let mut count = 0u64;
@@ -100,7 +91,7 @@ fn event_at(text: &[u8], number: u64) -> Word<'_>
         let word = word_from(&text[at..behind], 0);
         if !matches!(word.text, [] | [b'#', ..]) {
             count = count.saturating_add(1);
-            last = first_word(text, at);
+            last = word_from(text, at);
         }
         if count == number {
             return last;
@@ -129,7 +120,7 @@ pub fn of_event(
     ensures { IfOk result (λ finding. finding.at ≤ length source.entry.text.now) }
 {
     let first = event_at(source.text, number);
-    let operand = first_word(source.text, first.at + first.text.len());
+    let operand = word_from(source.text, first.at + first.text.len());
     match lack {
         Lack::Message => no_message(alloc, &operand, number),
         Lack::Block => no_block(alloc, &operand),

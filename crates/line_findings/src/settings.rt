@@ -1,4 +1,6 @@
 //! What is wrong with settings.
+ghost use Rattle.std.specs.Prelude.{◌≡◌, ◌≤◌, length, IfOk};
+
 use crate::keys::{Key, behind_mark, key_at};
 use Piece::{Quoted, Text};
 use finding_words::{Finding, Kind, Look, Piece, Word, circuit_of, misplaced};
@@ -26,7 +28,9 @@ pub fn of_settings(
     bench: Source<'_>,
     source: Source<'_>,
     fault: SettingsFault,
-) -> Result<Finding, AllocError> {
+) -> Result<Finding, AllocError>
+    ensures { IfOk result (λ finding. finding.at ≤ length source.entry.text.now) }
+{
     let look = Look::of(alloc, behind_mark(source.text))?;
     if !matches!(look, Look::Settings | Look::Bench | Look::Other) {
         return misplaced(alloc, look, Kind::Settings);
@@ -45,10 +49,14 @@ fn no_toml(
     alloc: Global,
     source: Source<'_>,
     error: &toml::de::Error,
-) -> Result<Finding, AllocError> {
+) -> Result<Finding, AllocError>
+    ensures { IfOk result (λ finding. finding.at ≤ length source.entry.text.now) }
+{
     let word = match error.span() {
-        Some(span) => Word::of(source.text, span.start, span.end.saturating_sub(span.start)),
-        None => Word::of(source.text, 0, 0),
+        Some(span) if span.start <= source.text.len() => {
+            Word::of(source.text, span.start, span.end.saturating_sub(span.start))
+        }
+        _ => Word::of(source.text, 0, 0),
     };
     let cause = [Text("this is no TOML: "), Text(error.message())];
     Finding::at(alloc, &word, &cause, &[])
@@ -61,7 +69,9 @@ fn told(
     settings: &Table,
     key: Key<'_>,
     fault: SettingsFault,
-) -> Result<Finding, AllocError> {
+) -> Result<Finding, AllocError>
+    ensures { IfOk result (λ finding. finding.at ≤ length source.entry.text.now) }
+{
     let word = key_at(alloc, source.text, key)?;
     if key.name.contains('\r') {
         return with_return(alloc, &word, key.name);
@@ -144,7 +154,9 @@ fn bad_clock<'a>(
     word: &Word<'_>,
     key: Key<'a>,
     clock: Option<&'a str>,
-) -> Result<Finding, AllocError> {
+) -> Result<Finding, AllocError>
+    ensures { IfOk result (λ finding. finding.at ≡ word.now.at) }
+{
     let flop = Quoted(key.name.as_bytes());
     let advice = "[clocks] names nets of the bench, or the clock that the key `clock` gives";
     let Some(clock) = clock else {
@@ -217,7 +229,9 @@ fn advice_of(table: Option<&str>, fault: SettingsFault) -> &'static str {
 }
 
 /// A key that holds a carriage return, which no name of a bench does.
-fn with_return(alloc: Global, word: &Word<'_>, name: &str) -> Result<Finding, AllocError> {
+fn with_return(alloc: Global, word: &Word<'_>, name: &str) -> Result<Finding, AllocError>
+    ensures { IfOk result (λ finding. finding.at ≡ word.now.at) }
+{
     let cause = [
         Text("the name "),
         Quoted(name.as_bytes()),
