@@ -1,8 +1,8 @@
--- Laws of parts of lists (`Parts`), of stops and places between them (`Stops`, `Seeking`), of what stops tell (`Telling`)
--- and tell more (`Growing`, `Extending`), of a queue's calls (`Queues`), of batches (`Batches`), of lists that words lengthen (`Listing`), of words at times
--- (`Times`), of lists made from others one by one (`Mixing`), of queues by delay (`Delaying`), of sets of bits (`Having`,
--- `Marking`), of words in order of places (`Ordering`), and of tournaments (`Tournaments`,
--- `Seats`).
+-- Laws of parts of lists (`Parts`), of stops and places between them (`Stops`, `Seeking`), of what stops tell
+-- (`Telling`) and tell more (`Growing`, `Extending`), of a queue's calls (`Queues`), of readers (`Readers`), of batches
+-- (`Batches`), of lists that words lengthen (`Listing`), of words at times (`Times`), of lists made from others one by
+-- one (`Mixing`), of queues by delay (`Delaying`), of sets of bits (`Having`, `Marking`), of words in order of places
+-- (`Ordering`), and of tournaments (`Tournaments`, `Seats`).
 pub mod Parts
 pub mod Stops
 pub mod Seeking
@@ -10,6 +10,7 @@ pub mod Telling
 pub mod Growing
 pub mod Extending
 pub mod Queues
+pub mod Readers
 pub mod Batches
 pub mod Listing
 pub mod Times

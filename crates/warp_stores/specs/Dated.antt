@@ -18,6 +18,11 @@ before time words = filter (λ d. nat_lt d.0 time) words
 abbrev pub since : {T : Type 0} → ℕ → List (Dated T) → List (Dated T)
 since time words = filter (λ d. nat_le time d.0) words
 
+-- what came before an end, or all that came where there is none
+abbrev pub before_end : {T : Type 0} → Option ℕ → List (Dated T) → List (Dated T)
+before_end None words = words
+before_end (Some time) words = before time words
+
 -- what came, each a delay later, up to a last time
 abbrev pub later : {T : Type 0} → ℕ → ℕ → List (Dated T) → List (Dated T)
 later delay last words = filter (λ d. nat_le d.0 last) (map (λ d. (d.0 + delay, d.1)) words)

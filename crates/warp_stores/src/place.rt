@@ -1,7 +1,7 @@
 //! Places between stops.
 ghost use Rattle.std.specs.Prelude.{◌≡◌, ◌<◌, ◌≤◌, ◌+◌, ◌-◌, ◌^◌, ◌++◌, ◌∷◌, [], IsOk, OnOk, OnErr, true, false, length, vec_len, vec_capacity, drop};
 ghost use Rattle.std.specs.List.{between};
-ghost use Rattle.warp_stores.specs.Inner.Stops.{total, Climbs, IsSpan, IsParted, IsJoined, HaveOneMore, HaveMore};
+ghost use Rattle.warp_stores.specs.Inner.Stops.{total, Climbs, IsSpan, IsParted, IsEnd, IsJoined, HaveOneMore, HaveMore};
 ghost use Rattle.warp_stores.specs.Shown.Stops.{end_of, told};
 ghost use Rattle.warp_stores.specs.Shown.StopBits.{Tally};
 ghost use Rattle.warp_stores.specs.Dated.{at, later};
@@ -89,6 +89,20 @@ pub(crate) fn last_before(stops: &[Stop], from: Place, to: Place, time: u64) -> 
         place = place.ahead_of(stop);
     }
     place
+}
+
+/// The first place between two from which on no stop is before an end, sought from the first of them. Where there is no end it
+/// is the second of them.
+pub(crate) fn first_behind(stops: &[Stop], from: Place, to: Place, end: Option<u64>) -> Place
+    requires span { IsSpan stops.now from to }
+    requires fits { total stops.now < 2 ^ 64 }
+    requires rising { Climbs 0 (between from.stops to.stops stops.now) }
+    ensures { IsEnd end stops.now from to result }
+{
+    match end {
+        Some(time) => first_since(stops, from, to, time),
+        None => to,
+    }
 }
 
 /// Counts one word more at a time: in the last stop, where that is at the time, has room and isn't among the first few.

@@ -1,12 +1,13 @@
 //! Words in the order in which they came, and a head that reads them.
 ghost use Rattle.std.specs.Prelude.{◌≡◌, ◌≤◌, ◌<◌, ◌+◌, ◌++◌, ◌∷◌, [], OnOk, OnErr, IfSome, length, nat_lt, true, false};
-ghost use Rattle.warp_stores.specs.Dated.{at, before, since, undated, first_time, last_time, later, standing, Rises};
+ghost use Rattle.warp_stores.specs.Dated.{at, before, before_end, since, undated, first_time, last_time, later, standing, Rises};
 
 use crate::batch::Batch;
 use crate::place::{
-    Place, append, append_all, drop_front, end_of, first_since, join, last_before, part, push_some,
-    tell,
+    Place, append, append_all, drop_front, end_of, first_behind, first_since, join, last_before,
+    part, push_some, tell,
 };
+use crate::reader::StepReader;
 use crate::stop::{Stop, TIMES};
 use std::alloc::{AllocError, Global};
 use std::marker::Model;
@@ -155,6 +156,28 @@ impl<T: Copy> Queue<T> {
         let end = end_of(&self.stops, &self.words);
         let from = last_before(self.stops.as_slice(), self.dead, end, time);
         part(self.words.as_slice(), from.words, end.words)
+    }
+
+    /// Reads the words ahead from a time on, and before an end, if there is one. The queue stays.
+    pub(crate) fn between(&self, from: u64, end: Option<u64>) -> StepReader<'_, T>
+        ensures { result ≡ before_end end (since from self.now.ahead) }
+    {
+        let stops = self.stops.as_slice();
+        let words = self.words.as_slice();
+        let last = end_of(&self.stops, &self.words);
+        let from = first_since(stops, self.read, last, from);
+        let to = first_behind(stops, from, last, end);
+        StepReader {
+            stops: part(stops, from.stops, to.stops),
+            words: part(words, from.words, to.words),
+        }
+    }
+
+    /// How many words are ahead.
+    pub(crate) fn count_ahead(&self) -> usize
+        ensures { result ≡ length self.now.ahead }
+    {
+        self.words.len() - self.read.words
     }
 
     /// Puts the words that aren't before a time into a batch, each a delay later, up to a last time. An error is a refused

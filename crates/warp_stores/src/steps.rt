@@ -1,8 +1,9 @@
 //! All that came, step by step.
-ghost use Rattle.std.specs.Prelude.{◌≡◌, ◌≤◌, ◌<◌, ◌++◌, ◌∷◌, [], OnOk, OnErr};
-ghost use Rattle.warp_stores.specs.Dated.{at, before, since, undated, last_time, Rises};
+ghost use Rattle.std.specs.Prelude.{◌≡◌, ◌≤◌, ◌<◌, ◌++◌, ◌∷◌, [], OnOk, OnErr, length};
+ghost use Rattle.warp_stores.specs.Dated.{at, before, before_end, since, undated, last_time, Rises};
 
 use crate::queue::Queue;
+use crate::reader::StepReader;
 use crate::stop::TIMES;
 use std::alloc::{AllocError, Global};
 use std::marker::Model;
@@ -74,6 +75,20 @@ impl<T: Copy> Steps<T> {
         ensures { result.now ≡ undated (since time self.now) }
     {
         self.words.since(time)
+    }
+
+    /// Reads the words from a time on, and before an end, if there is one. The steps stay, and can be read by others too.
+    pub fn between(&self, from: u64, end: Option<u64>) -> StepReader<'_, T>
+        ensures { result ≡ before_end end (since from self.now) }
+    {
+        self.words.between(from, end)
+    }
+
+    /// How many words there are.
+    pub fn count(&self) -> usize
+        ensures { result ≡ length self.now }
+    {
+        self.words.count_ahead()
     }
 
     /// The words, all of them ahead.

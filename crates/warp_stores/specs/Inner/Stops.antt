@@ -1,5 +1,5 @@
 -- How words that came at times lie in stops.
-use Rattle.std.specs.Prelude.{◌≡◌, ℕ, ◌+◌, ◌<◌, ◌≤◌, ◌-◌, ◌⊎◌, List, [], ◌∷◌, ◌++◌, length, take, slice_index_or, slice_set}
+use Rattle.std.specs.Prelude.{◌≡◌, ℕ, ◌+◌, ◌<◌, ◌≤◌, ◌-◌, ◌⊎◌, Option, Some, None, List, [], ◌∷◌, ◌++◌, length, take, slice_index_or, slice_set}
 use Rattle.std.specs.List.{All, between}
 use Rattle.warp_stores.specs.Shown.StopBits.{Tally}
 use Rattle.warp_stores.specs.declared.place.Place.{Place}
@@ -44,6 +44,11 @@ pub record IsParted (time : ℕ) (stops : List Tally) (from to place : Place) : 
   pub earlier : AreBefore time (between from.stops place.stops stops)
   pub later : AreSince time (between place.stops to.stops stops)
 
+-- the same, where the time is the end; where there is none, the place is the second of the two
+abbrev pub IsEnd : Option ℕ → List Tally → Place → Place → Place → Type 0
+IsEnd None stops from to place = place ≡ to
+IsEnd (Some time) stops from to place = IsParted time stops from to place
+
 -- the last stop has one word more, and isn't among the first few
 pub record IsJoined (fixed time : ℕ) (stops stops' : List Tally) (last : Tally) : Type 0 where
   pub some : fixed < length stops
@@ -69,3 +74,9 @@ pub record IsQueue {T : Type 0} (stops : List Tally) (words : List T) (dead read
   pub full : AreFull stops
   pub span : IsSpan stops dead read
   pub climbs : Climbs 0 (between dead.stops (length stops) stops)
+
+-- how stops and words lie in a reader
+pub record IsReader {T : Type 0} (stops : List Tally) (words : List T) : Type 0 where
+  pub whole : total stops ≡ length words
+  pub full : AreFull stops
+  pub climbs : Climbs 0 stops
