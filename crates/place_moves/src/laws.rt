@@ -9,11 +9,10 @@ ghost use Rattle.gate_values.specs.Changes.{changes, before_time};
 ghost use Rattle.warp_stores.specs.Words.{Move};
 ghost use Rattle.warp_stores.specs.Dated.{undated};
 ghost use Rattle.warp_stores.specs.Delays.{queue_at, least_due, told_since};
-ghost use Rattle.warp_stores.specs.Lists.{AreLonger, AreShorter, changes_at};
+ghost use Rattle.warp_stores.specs.Lists.{changes_at};
 ghost use Rattle.warp_gates.specs.Cells.{value_at};
 ghost use Rattle.warp_gates.specs.declared.put.Put.{Put};
 ghost use Rattle.place_moves.specs.Moves.{AreChained, delayed, last_after, made_before, moves, of_place, value_before};
-ghost use Rattle.place_moves.specs.Logs.{AreLogs};
 ghost use Rattle.place_moves.specs.Journals.{Journal, IsPlayed, IsBegun, AreBrought, IsStep, step_words, IsBack, HasForgotten, marked, queue_of};
 
 /// What a place's source makes comes true a delay after, and until then stands what it begins with.
@@ -71,17 +70,4 @@ pub fn tells_log()
         → (place time horizon : ℕ) → floor ≤ time → time ≤ journal.mark → 0 < source_delay (source place)
         → before_time (journal.mark + source_delay (source place)) (changes (value source given place) (horizon + 1))
         ≡ before_time (time + source_delay (source place)) (changes (value source given place) (horizon + 1)) ++ changes_at place (flat_map (told_since time horizon) journal.queues) }
-{}
-
-/// Lists of places' changes up to a horizon, that get what queues tell from a time on, are the logs to one delay past the mark;
-/// and once they lose it those to one delay past that time.
-pub fn keeps_logs()
-    ensures grow { (source : ℕ → Source) (given : ℕ → ℕ → Logic) (floor : ℕ) (journal : Journal) → IsPlayed source given floor journal
-        → (time horizon : ℕ) → floor ≤ time → time ≤ journal.mark → (old new : List (List Change))
-        → AreLogs source given horizon time (length journal.gates.cells) old → AreLonger (flat_map (told_since time horizon) journal.queues) old new
-        → AreLogs source given horizon journal.mark (length journal.gates.cells) new }
-    ensures shorten { (source : ℕ → Source) (given : ℕ → ℕ → Logic) (floor : ℕ) (journal : Journal) → IsPlayed source given floor journal
-        → (time horizon : ℕ) → floor ≤ time → time ≤ journal.mark → (old new : List (List Change))
-        → AreLogs source given horizon journal.mark (length journal.gates.cells) old → AreShorter (undated (flat_map (told_since time horizon) journal.queues)) old new
-        → AreLogs source given horizon time (length journal.gates.cells) new }
 {}

@@ -6,14 +6,11 @@
 //! the mark, that of each place all its moves came true, in order, and that each queue has what its places' sources made.
 //! It holds before the first step ([`begins`]), and is kept by a step ([`plays_on`]), by times at which nothing is due
 //! ([`stands_still`]), by a way back to an earlier time, from where something else may be given ([`goes_back`]), and where
-//! what came true is forgotten ([`forgets`]). From it follows the log of each place ([`tells_log`]), and that lists which get
-//! what queues tell are the logs ([`keeps_logs`]).
+//! what came true is forgotten ([`forgets`]). From it follows the log of each place ([`tells_log`]).
 //!
 //! The moves of a place, and what its source makes, stand in `specs/Moves`, its log in `specs/Logs`.
 #![tactic(auto)]
 
 mod laws;
 
-pub use laws::{
-    begins, comes_true, forgets, goes_back, keeps_logs, plays_on, stands_still, tells_log,
-};
+pub use laws::{begins, comes_true, forgets, goes_back, plays_on, stands_still, tells_log};
