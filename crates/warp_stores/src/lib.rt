@@ -2,7 +2,7 @@
 //!
 //! A [`Word`] is a change of a place in four bytes; it has the value before, so that each change is its own undo. A
 //! [`Queue`] has words in the order in which they came, and reads them at a head; [`Steps`] has all that came, and takes
-//! it off step by step; a [`StepReader`] reads a part of it and copies nothing. [`Delays`] has a queue for each delay,
+//! it off at the end; a [`StepReader`] reads a part of it and copies nothing. [`Delays`] has a queue for each delay,
 //! and what comes true next is at hand. [`Order`] puts the words of a time into order of their places. [`Lists`] has for
 //! each place the list of its changes, which get the words of a [`Batch`] at once. [`Least`] has the least of some times.
 //!

@@ -8,7 +8,7 @@ use crate::stop::TIMES;
 use std::alloc::{AllocError, Global};
 use std::marker::Model;
 
-/// Words at times that never fall. The words of one time are a step, and steps are taken off the end.
+/// Words at times that never fall. The words of one time are a step, and steps are cut off the end.
 #[derive(Debug, Drop)]
 pub struct Steps<T> {
     // None of them is read.
@@ -103,13 +103,6 @@ impl<T: Copy> Steps<T> {
         ensures { result.now ≡ undated (since (last_time self.now) self.now) }
     {
         self.since(self.last_time())
-    }
-
-    /// Takes the last step off.
-    pub fn take_step(&mut self)
-        ensures { self.new ≡ before (last_time self.old) self.old }
-    {
-        self.cut_from(self.last_time());
     }
 
     /// Cuts off the words that aren't before a time.
