@@ -181,14 +181,14 @@ module _ (bounds words ws : List ℕ) (t : ℕ) (are : AreBounds bounds (length 
       rw (other t (omega arith), here, ended, take_all grows_to (words ++ ws) (omega (arith, grows)), take_all (length words) words (omega arith))
       (drop-append-le (get_or bounds t 0) words ws (are.within t (omega (arith, last))))
 
-  told-words : all_told is ≡ all_told was ++ map (told t) ws
+  pub told-words : all_told is ≡ all_told was ++ map (told t) ws
   told-words =
       let new_times : length longer - 1 ≡ suc t = omega (arith, size) in
       let old_times : length bounds - 1 ≡ suc t = omega (arith, last) in
       rw (new_times, old_times, told-same is was t words-before, words-last, map-append (told t) (words_at was t) ws)
       (sym (append_assoc (told_below was t) (map (told t) (words_at was t)) (map (told t) ws)))
 
-  bounds-longer : AreBounds longer (length (words ++ ws))
+  pub bounds-longer : AreBounds longer (length (words ++ ws))
   bounds-longer = record {
     rising = λ u h. elim (cases_lt (u + 1) (t + 1)) [
       | inl early ↦ omega (arith, other u (omega arith), other (u + 1) early, are.rising u (omega (arith, last)))

@@ -9,6 +9,7 @@ pub mod PackedLaws
 pub mod PackedParts
 pub mod KeyLaws
 pub mod Appending
+pub mod Joining
 pub mod Waving
 pub mod Following
 pub mod Firsts

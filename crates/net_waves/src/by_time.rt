@@ -1,7 +1,7 @@
 //! All changes by time: in a word each where times are dense, else in a key each, and in runs where neither can be, as also once
 //! a change is pushed.
 
-ghost use Rattle.std.specs.Prelude.{◌≡◌, ◌≤◌, ◌+◌, ◌++◌, ℕ, [], true, false, IfOk, OnOk, OnErr, length, map};
+ghost use Rattle.std.specs.Prelude.{◌≡◌, ◌≤◌, ◌+◌, ◌++◌, ℕ, [], true, false, IfOk, IfSome, OnOk, OnErr, length, map};
 ghost use Rattle.net_waves.specs.declared.timeline.Stop.{Stop};
 ghost use Rattle.net_waves.specs.Waves.{lists_in, wave_of};
 ghost use Rattle.net_waves.specs.Inner.Lists.{IsRising};
@@ -118,6 +118,33 @@ impl ByTime {
             ByTime::Words(packed) => packed.append_all(time, moves),
             ByTime::Keys(keyed) => keyed.append_all(time, moves),
             ByTime::Runs(_) => Ok(false),
+        }
+    }
+
+    /// These changes, and behind them others; none where those aren't all later (in keys they may also be of the last time, and of
+    /// greater nets), where they stand in another form, in runs, or where words would be too many. An error is a refused growth.
+    /// Either way both are consumed.
+    pub fn followed_by(self, later: ByTime) -> Result<Option<ByTime>, AllocError>
+        ensures { IfOk result (λ both. IfSome both (λ all. stops_in all ≡ stops_in self ++ stops_in later)) }
+    {
+        match (self, later) {
+            (ByTime::Words(mut packed), ByTime::Words(more)) => {
+                let done = packed.append_later(&more)?;
+                Ok(if done {
+                    Some(ByTime::Words(packed))
+                } else {
+                    None
+                })
+            }
+            (ByTime::Keys(mut keyed), ByTime::Keys(more)) => {
+                let done = keyed.append_later(&more)?;
+                Ok(if done {
+                    Some(ByTime::Keys(keyed))
+                } else {
+                    None
+                })
+            }
+            _ => Ok(None),
         }
     }
 }

@@ -106,6 +106,17 @@ fn push_all(keys: &mut Vec<u64>, first: u64, time: u64, moves: &[NetMove]) -> bo
     true
 }
 
+/// Whether the first of keys is at this place or past it, if there are keys.
+fn begin_at(place: u64, keys: &[u64]) -> bool
+    requires { AreKeys keys.now }
+    ensures { IsTrue result → KeysRise place keys.now }
+{
+    match keys {
+        [] => true,
+        [first, ..] => place <= *first / 4,
+    }
+}
+
 impl Keyed {
     /// No key.
     pub(crate) fn empty(alloc: Global) -> Keyed
@@ -161,5 +172,21 @@ impl Keyed {
         self.keys.reserve(moves.len())?;
         let first = next_place(self.keys.as_slice());
         Ok(push_all(&mut self.keys, first, time, moves))
+    }
+
+    /// Appends other keys, if all are later, or of the last time and of greater nets. Tells whether it did; else keys are as they
+    /// were. An error is a refused growth.
+    pub(crate) fn append_later(&mut self, later: &Keyed) -> Result<bool, AllocError>
+        ensures appended { IfOk result (λ done. done ≡ true → stops_of_keys self.new ≡ stops_of_keys self.old ++ stops_of_keys later.now) }
+        ensures stays { IfOk result (λ done. done ≡ false → stops_of_keys self.new ≡ stops_of_keys self.old) }
+        ensures err { OnErr result (stops_of_keys self.new ≡ stops_of_keys self.old) }
+    {
+        later.law();
+        let more = later.keys();
+        if !begin_at(next_place(self.keys.as_slice()), more) {
+            return Ok(false);
+        }
+        self.keys.extend_from_slice(more)?;
+        Ok(true)
     }
 }

@@ -3,7 +3,7 @@
 ghost use Rattle.std.specs.Prelude.{◌≡◌, ◌≤◌, ◌<◌, ◌+◌, ◌-◌, ◌/◌, ◌++◌, [], true, false, get_or, length, drop, take, map, vec_len, vec_capacity, IsTrue, IfOk, OnOk, OnErr};
 ghost use Rattle.std.specs.List.{AllByRecursion};
 ghost use Rattle.net_waves.specs.declared.timeline.Stop.{Stop};
-ghost use Rattle.net_waves.specs.Timeline.{stop_by};
+ghost use Rattle.net_waves.specs.Timeline.{IsRising, stop_by};
 ghost use Rattle.net_waves.specs.Packed.{AreBounds, IsPacked, value_of, told, words_at, all_told, times};
 ghost use Rattle.net_waves.specs.Inner.Packed.{bits_of, word_of, word_by, NetsRise, EndAt, IsOpen};
 
@@ -237,6 +237,71 @@ impl Packed {
         }
         let last = self.bounds.len() - 1;
         self.bounds[last] = self.words.len() as u32;
+        Ok(true)
+    }
+
+    /// Has the memory for so many words more. An error is a refused growth; either way the same is told.
+    fn reserve(&mut self, more: usize) -> Result<(), AllocError>
+        ensures { all_told self.new ≡ all_told self.old }
+    {
+        self.words.reserve(more)
+    }
+
+    /// Appends words at the last time, which has none. An error is a refused growth.
+    fn extend_last(&mut self, words: &[u32]) -> Result<(), AllocError>
+        requires open { IsOpen self.old (length words.now) }
+        requires some { 0 < times self.old }
+        requires early { AllByRecursion (λ (s : Stop). s.time < times self.old - 1) (all_told self.old) }
+        requires rising { IsRising (map (told (times self.old - 1)) words.now) }
+        ensures appended { OnOk result (all_told self.new ≡ all_told self.old ++ map (told (times self.old - 1)) words.now) }
+        ensures err { OnErr result (all_told self.new ≡ all_told self.old) }
+    {
+        self.words.extend_from_slice(words)?;
+        let last = self.bounds.len() - 1;
+        self.bounds[last] = self.words.len() as u32;
+        Ok(())
+    }
+
+    /// Appends words that rise at a time, if it is later than that of all others, and the words not too many. Tells whether it did.
+    /// An error is a refused growth.
+    fn append_words(&mut self, time: u64, words: &[u32]) -> Result<bool, AllocError>
+        requires { IsRising (map (told time) words.now) }
+        ensures appended { IfOk result (λ done. done ≡ true → all_told self.new ≡ all_told self.old ++ map (told time) words.now) }
+        ensures stays { IfOk result (λ done. done ≡ false → all_told self.new ≡ all_told self.old) }
+        ensures err { OnErr result (all_told self.new ≡ all_told self.old) }
+    {
+        if time >= TIMES || time < self.times() as u64 || !self.is_open(words.len()) {
+            return Ok(false);
+        }
+        self.grow_to(time as usize + 1, words.len())?;
+        self.extend_last(words)?;
+        Ok(true)
+    }
+
+    /// Appends the words of a time of others, if there are any. Tells whether they stand behind. An error is a refused growth.
+    fn append_time(&mut self, later: &Packed, time: usize) -> Result<bool, AllocError>
+        requires { time < times later.now }
+        ensures { IfOk result (λ done. done ≡ true → all_told self.new ≡ all_told self.old ++ map (told time) (words_at later.now time)) }
+    {
+        let words = later.words(time);
+        if words.is_empty() {
+            return Ok(true);
+        }
+        later.law();
+        self.append_words(time as u64, words)
+    }
+
+    /// Appends the words of all times of others, if all are later. Tells whether it did; else some of them may have been appended.
+    /// An error is a refused growth.
+    pub(crate) fn append_later(&mut self, later: &Packed) -> Result<bool, AllocError>
+        ensures { IfOk result (λ done. done ≡ true → all_told self.new ≡ all_told self.old ++ all_told later.now) }
+    {
+        self.reserve(later.words.len())?;
+        for time in 0..later.times() {
+            if !self.append_time(later, time)? {
+                return Ok(false);
+            }
+        }
         Ok(true)
     }
 
