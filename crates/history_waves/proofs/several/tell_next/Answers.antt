@@ -10,9 +10,9 @@ pub returns-then-branch : goal.returns-then-branch
 returns-then-branch c =
     let given = c.args.given.now in
     let mid = stops_in c.tell_given.new.by_time in
-    let moves = c.list_next.new.desk.moves.items in
+    let moves = c.list_next.new.moves.items in
     let early = subst (λ (o : Option ℕ). IfSome o (λ next. (next ≤ length given) × AreMore given c.args.from next (stops_in c.args.by_time.now) mid)) c.in-Some.is c.in_ok-before.ensures in
     let appended : stops_in c.append_all.new.self ≡ mid ++ map (stop_by c.args.time) moves = c.in_ok-append_all.ensures.appended c.if-branch.true ∙ ap (λ (ms : List NetMove). mid ++ map (stop_by c.args.time) ms) c.as_slice.ensures.value in (
       c.in_ok-next.ensures.within,
-      left_time given c.args.from c.in-Some.before c.in_ok-next.next c.args.time c.args.stories.now c.list_next.new.stories moves (stops_in c.args.by_time.now) mid (stops_in c.append_all.new.self) early.1 c.in_ok-next.ensures.taken appended,
+      left_time given c.args.from c.in-Some.before c.in_ok-next.next c.args.time c.args.untold.now c.list_next.new.untold moves (stops_in c.args.by_time.now) mid (stops_in c.append_all.new.self) early.1 c.in_ok-next.ensures.taken appended,
     )

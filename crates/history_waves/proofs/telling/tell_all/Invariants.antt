@@ -1,4 +1,4 @@
-use Rattle.std.proofs.Common.{◌≡◌, ◌≤◌, List, ◌++◌, length}
+use Rattle.std.proofs.Common.{◌≡◌, ◌≤◌, ◌++◌, length}
 use Rattle.net_waves.specs.ByTime.{stops_in}
 use Rattle.history_waves.specs.Inner.Pending.{AreUpTo}
 use Rattle.history_waves.proofs.telling.tell_all.Given as goal
