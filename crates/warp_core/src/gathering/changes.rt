@@ -18,18 +18,19 @@ use super::{check, findings, laws};
 use crate::fault::GatherFault;
 use gate_netlist::{Circuit, Cut};
 use gate_stimulus::Stimulus;
-use history_waves::{Story, by_time_of_all};
+use history_waves::{Story, by_time_of_all_by};
 use net_waves::{ByTime, stops_by_time};
 use std::alloc::{AllocError, Global};
 use std::thread::Threads;
 use warp_block::{Block, Logs};
 
-/// All changes of the values of a circuit's nets under a stimulus by time, from the blocks of a cut, in order, up to `workers` threads
-/// looking at them side by side, at least one. The cut and the stimulus fit the circuit; the horizon is at most
-/// [`MOST_HORIZON`](warp_block::MOST_HORIZON). There is no answer where the changes have no form in which they can be had by time as they come.
+/// All changes of the values of a circuit's nets under a stimulus by time, from the blocks of a cut, in order: up to `workers` threads,
+/// at least one, look at them and put their changes in order side by side. The cut and the stimulus fit the circuit; the horizon is at
+/// most [`MOST_HORIZON`](warp_block::MOST_HORIZON). There is no answer where the changes have no form in which they can be had by time as
+/// they come, or where a block wants memory for what nobody reads.
 ///
-/// Of matched blocks the answer is the changes, or none, or that a growth was refused; of others it is the first fault that applies.
-/// The blocks are consumed either way.
+/// Of matched blocks the answer is the changes, or none, or that a growth was refused; of others it is the first fault that applies, or,
+/// but for a wrong number of blocks, that a growth was refused. The blocks are consumed either way.
 pub fn gather_changes<L: Logs + Sync, R: Threads + Sync>(
     rt: &R,
     alloc: Global,
@@ -57,19 +58,23 @@ pub fn gather_changes<L: Logs + Sync, R: Threads + Sync>(
     cut.law();
     stimulus.law();
     laws(blocks.as_slice());
-    let all = told_changes(alloc, circuit, cut, stimulus, horizon, blocks)?;
+    let all = told_changes(rt, alloc, workers, circuit, cut, stimulus, horizon, blocks)?;
     Ok(all)
 }
 
-/// What the owners of all nets, and the stimulus, say of them, by time. An error is a refused growth.
-fn told_changes<L: Logs>(
+/// What the owners of all nets, and the stimulus, say of them, by time, put in order by up to `workers` threads. An error is a refused
+/// growth.
+fn told_changes<L: Logs, R: Threads + Sync>(
+    rt: &R,
     alloc: Global,
+    workers: u32,
     circuit: &Circuit,
     cut: &Cut,
     stimulus: &Stimulus,
     horizon: u64,
     blocks: Vec<Block<L>>,
 ) -> Result<Option<ByTime>, AllocError>
+    requires workers { 1 ≤ workers }
     requires cut { CutFits circuit.now cut.now }
     requires count { AreCounted cut.now blocks.items }
     requires parts { EachBlock cut.now blocks.items (IsBlockOf circuit.now cut.now horizon) }
@@ -82,7 +87,7 @@ fn told_changes<L: Logs>(
     let Some(stories) = stories_of(alloc, blocks)? else {
         return Ok(None);
     };
-    let all = by_time_of_all(alloc, horizon, stories, given.as_slice())?;
+    let all = by_time_of_all_by(rt, alloc, workers, horizon, stories, given.as_slice())?;
     Ok(all)
 }
 

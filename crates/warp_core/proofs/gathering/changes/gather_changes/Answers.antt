@@ -13,7 +13,7 @@ returns-in_err-check-clause-fault g c =
     rw (p.1, p.2) (rw c.as_slice.ensures.value at c.in_err-check.ensures.fault c.args.circuit.now c.args.stimulus.now c.args.horizon c.requires.cut found)
 
 pub told_changes-requires-clause-parts : goal.told_changes-requires-clause-parts
-told_changes-requires-clause-parts g c =
+told_changes-requires-clause-parts g c κs within =
     let found = rw (c.as_slice-shown.ensures.value, sym c.as_slice-2.ensures.value) at c.in_ok-found.ensures in
     (rw c.as_slice.ensures.value at c.in_ok-check.ensures.matched c.args.circuit.now c.args.stimulus.now c.args.horizon c.requires.cut found).parts
 
