@@ -61,7 +61,7 @@ impl Stimulus {
         let _ = &self.lists;
     }
 
-    /// The timescale of the text, `1 ns` where it has none.
+    /// The unit of its times.
     pub fn timescale(&self) -> Timescale
         ensures { result ≡ self.now.timescale }
     {

@@ -15,7 +15,7 @@ pub fn is_numeral(text: &[u8]) -> bool
     !text.is_empty() && all_digits(text)
 }
 
-/// The number that the digits make, where it is at most so much.
+/// The number that decimal digits make, where it is at most `most`, which is below 2^60.
 pub fn number_up_to(most: u64, digits: &[u8]) -> Option<u64>
     requires { most < 2 ^ 60 }
     ensures { result ≡ number_up_to most digits.now }
