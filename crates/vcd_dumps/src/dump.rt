@@ -254,7 +254,7 @@ pub(crate) fn put_values<S: Sink>(sink: &mut S, lot: &mut Lot, firsts: &[Logic])
 
 /// The value at 0 that the changes of a net leave.
 #[tactic(auto, using(gate_stimulus::proofs::WaveValues::first_values))]
-fn first_value(changes: &[Change]) -> Logic
+pub fn first_value(changes: &[Change]) -> Logic
     requires { IsWave changes.now }
     ensures { result ≡ latest X changes.now 0 }
 {

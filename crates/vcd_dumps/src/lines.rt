@@ -11,7 +11,8 @@ use gate_stimulus::Timescale;
 use gate_values::Logic;
 use itoa::write_digits;
 
-fn letter(value: Logic) -> u8
+/// The letter of a value: `0`, `1`, `x` or `z` (IEEE 1364-2005, section 18.2).
+pub fn letter(value: Logic) -> u8
     ensures { result ≡ letter value }
 {
     match value {

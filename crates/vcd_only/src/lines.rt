@@ -8,18 +8,7 @@ use gate_stimulus::Timescale;
 use gate_values::Logic;
 use itoa::Buffer;
 use std::alloc::AllocError;
-use vcd_dumps::code;
-
-fn letter(value: Logic) -> u8
-    ensures { result ≡ letter value }
-{
-    match value {
-        Logic::Zero => b'0',
-        Logic::One => b'1',
-        Logic::X => b'x',
-        Logic::Z => b'z',
-    }
-}
+use vcd_dumps::{code, letter};
 
 /// Puts bytes at the end.
 pub fn push_text(text: &mut Vec<u8>, more: &str) -> Result<(), AllocError>

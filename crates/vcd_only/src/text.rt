@@ -3,12 +3,10 @@
 ghost use Rattle.std.specs.Prelude.{◌≡◌, ℕ, ◌<◌, ◌≤◌, ◌++◌, length, get_or, [], IfOk, OnOk};
 ghost use Rattle.std.specs.List.{AllByRecursion};
 ghost use Rattle.gate_netlist.specs.Circuit.{nets_of};
-ghost use Rattle.gate_values.specs.declared.logic.Logic.TheVariants.{X};
-ghost use Rattle.gate_values.specs.Changes.{latest};
 ghost use Rattle.net_waves.specs.declared.timeline.Stop.{Stop};
 ghost use Rattle.vcd_dumps.specs.Dump.{var_line, value_line};
 ghost use Rattle.vcd_dumps.specs.Inner.Walk.{stop_lines, walked, last_stop, tail_line};
-ghost use Rattle.net_waves.specs.Waves.{wave_of, wave_value, IsWave, IsUntil};
+ghost use Rattle.net_waves.specs.Waves.{wave_of, wave_value, IsUntil};
 ghost use Rattle.vcd_only.specs.Inner.Stops.{stops_in};
 ghost use Rattle.vcd_only.specs.Told.{if_told, told_vars, told_header, told_first, told_text};
 
@@ -16,9 +14,9 @@ use crate::lines::{push_scope, push_stamp, push_text, push_timescale, push_value
 use crate::stops::{Told, is_told, stops_of};
 use gate_netlist::Circuit;
 use gate_stimulus::Timescale;
-use gate_values::{Change, Logic};
 use net_waves::Waves;
 use std::alloc::{AllocError, Global};
+use vcd_dumps::first_value;
 
 /// The dump of a circuit's waves up to the horizon in which the nets alone are told that `told` marks, in units of
 /// the timescale, in the scope `top`: the whole dump's text without the lines of other nets, and without the times at
@@ -91,18 +89,6 @@ fn push_vars(text: &mut Vec<u8>, circuit: &Circuit, told: &[bool]) -> Result<(),
         push_told_var(text, circuit, told, net)?;
     }
     Ok(())
-}
-
-/// The value at 0 that the changes of a net leave.
-#[tactic(auto, using(gate_stimulus::proofs::WaveValues::first_values))]
-fn first_value(changes: &[Change]) -> Logic
-    requires { IsWave changes.now }
-    ensures { result ≡ latest X changes.now 0 }
-{
-    match changes {
-        [first, ..] if first.time == 0 => first.value,
-        _ => Logic::X,
-    }
 }
 
 /// Puts the value of a net at 0 at the end, where it is told.
