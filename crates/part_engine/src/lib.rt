@@ -21,5 +21,5 @@ pub use brought::{bring, bring_first};
 pub use initial::begins;
 pub use laws::{runs_are_lawful, runs_go_on};
 pub use moves::first_words;
-pub use next::{next_brought, next_time};
+pub use next::{brought_after, next_brought, next_time};
 pub use opening::opening_engine;

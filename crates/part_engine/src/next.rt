@@ -1,5 +1,5 @@
 //! When something happens next.
-ghost use Rattle.std.specs.Prelude.{◌≡◌, ◌≤◌, ◌<◌, ℕ, false};
+ghost use Rattle.std.specs.Prelude.{◌≡◌, ◌≢◌, ◌≤◌, ◌<◌, ℕ, Some, false};
 ghost use Rattle.warp_process.specs.Played.{played_view};
 ghost use Rattle.warp_process.specs.View.{IsLeast, IsEventTime, is_busy};
 ghost use Rattle.part_engine.specs.Runs.{IsEngine, IsNextBrought, begins_of};
@@ -13,6 +13,17 @@ pub fn next_brought(heard: &Heard, engine: &Engine) -> Option<u64>
     ensures { IsNextBrought heard.now engine.now.book.mark result }
 {
     heard.next(engine.mark().max(heard.floor()))
+}
+
+/// The same by the one before a time was played: it is looked for again only where it was that time.
+pub fn brought_after(heard: &Heard, engine: &Engine, time: u64, brought: Option<u64>) -> Option<u64>
+    requires { brought ≢ Some time → IsNextBrought heard.now engine.now.book.mark brought }
+    ensures { IsNextBrought heard.now engine.now.book.mark result }
+{
+    if brought == Some(time) {
+        return next_brought(heard, engine);
+    }
+    brought
 }
 
 /// The least time from an engine's mark to the horizon at which something happens to a net that a gate reads, by the least one at

@@ -1,5 +1,5 @@
 //! Plays a part that is told nothing but the stimulus, from time 0 to the horizon.
-ghost use Rattle.std.specs.Prelude.{◌≡◌, ◌≢◌, ◌≤◌, ◌<◌, ◌+◌, ℕ, Some, IfSome, IfOk, OnOk};
+ghost use Rattle.std.specs.Prelude.{◌≡◌, ◌≤◌, ◌<◌, ◌+◌, ℕ, Some, IfSome, IfOk, OnOk};
 ghost use Rattle.warp_process.specs.Heard.{IsReceived, IsHeardFrom};
 ghost use Rattle.warp_process.specs.Limits.{most_horizon};
 ghost use Rattle.warp_process.specs.Opening.{silent_view};
@@ -11,7 +11,9 @@ ghost use Rattle.part_engine.specs.Runs.{IsEngineOf, IsNextBrought, begins_of};
 ghost use Rattle.part_engine.specs.Histories.{TellLogs};
 
 use gate_stimulus::Stimulus;
-use part_engine::{begins, bring, bring_first, next_brought, next_time, opening_engine};
+use part_engine::{
+    begins, bring, bring_first, brought_after, next_brought, next_time, opening_engine,
+};
 use std::alloc::{AllocError, Global};
 use warp_engine::Engine;
 use warp_part::Part;
@@ -166,16 +168,4 @@ fn play_to(
     bring(heard, engine, time, brought, words)?;
     engine.play(time, words.as_slice())?;
     Ok(())
-}
-
-/// The least time, from an engine's mark on, at which something is brought, by the one before a time was played: it is looked for again
-/// only where it was that time.
-fn brought_after(heard: &Heard, engine: &Engine, time: u64, brought: Option<u64>) -> Option<u64>
-    requires { brought ≢ Some time → IsNextBrought heard.now engine.now.book.mark brought }
-    ensures { IsNextBrought heard.now engine.now.book.mark result }
-{
-    if brought == Some(time) {
-        return next_brought(heard, engine);
-    }
-    brought
 }

@@ -1,5 +1,5 @@
 //! How a block plays event times.
-ghost use Rattle.std.specs.Prelude.{◌≡◌, ◌≤◌, ◌<◌, ◌+◌, ◌≢◌, ◌⊎◌, IfOk, OnOk, OnErr, Some, false, length};
+ghost use Rattle.std.specs.Prelude.{◌≡◌, ◌≤◌, ◌<◌, ◌+◌, ◌⊎◌, IfOk, OnOk, OnErr, Some, false, length};
 ghost use Rattle.std.specs.List.{All};
 ghost use Rattle.warp_process.specs.declared.message.Sign.TheVariants.{Plus};
 ghost use Rattle.warp_process.specs.Advance.{IsAdvanced, IsAfterEvent};
@@ -14,7 +14,7 @@ ghost use Rattle.warp_block.specs.Shown.Block.{seen_by};
 ghost use Rattle.warp_block.specs.Inner.Held.{IsAt, IsQuietBelow, GoesOn};
 
 use event_times::Times;
-use part_engine::{bring, bring_first, next_brought, next_time};
+use part_engine::{bring, bring_first, brought_after, next_brought, next_time};
 use std::alloc::AllocError;
 use warp_engine::Engine;
 use warp_process::{Heard, Message};
@@ -47,18 +47,6 @@ fn play(
         brought = brought_after(heard, engine, time, brought);
     }
     Ok(steps)
-}
-
-/// The least time, from an engine's mark on, at which something is brought from outside, by the one before a time was played: it
-/// is looked for again only where it was that time.
-fn brought_after(heard: &Heard, engine: &Engine, time: u64, brought: Option<u64>) -> Option<u64>
-    requires { brought ≢ Some time → IsNextBrought heard.now engine.now.book.mark brought }
-    ensures { IsNextBrought heard.now engine.now.book.mark result }
-{
-    if brought == Some(time) {
-        return next_brought(heard, engine);
-    }
-    brought
 }
 
 /// Plays the next event time, by the least one at which something is brought from outside. An error is a refused growth; then it
