@@ -255,6 +255,7 @@ impl<L: Logs> Block<L> {
     pub fn into_history(self) -> Option<(Part, Steps<Word>)>
         ensures part { IfSome result (λ told. told.0 ≡ self.seen.part) }
         ensures history { IfSome result (λ told. TellLogs self.seen told.1) }
+        ensures done { IfSome result (λ _. IsDone self.seen) }
     {
         let Block {
             kernel,
@@ -332,6 +333,7 @@ impl Block {
         ensures others { (n : ℕ) → owns self.seen.part n ≡ false → wave_of (lists_in lists.new.items) n ≡ wave_of (lists_in lists.old.items) n }
         ensures part { IfSome result (λ told. told.0 ≡ self.seen.part) }
         ensures history { IfSome result (λ told. TellLogs self.seen told.1) }
+        ensures done { IfSome result (λ _. IsDone self.seen) }
     {
         let Block {
             kernel,
