@@ -33,7 +33,7 @@ pub use waves::{given_lists, own_nets};
 /// circuit; the horizon is at most [`MOST_HORIZON`](warp_block::MOST_HORIZON). Times are in the stimulus's timescale.
 ///
 /// Of matched blocks the answer is the waves, or that a growth was refused; of others it is the first fault that
-/// applies. The blocks are consumed either way.
+/// applies, or, but for a wrong number of blocks, that a growth was refused. The blocks are consumed either way.
 pub fn gather(
     alloc: Global,
     circuit: &Circuit,

@@ -9,11 +9,12 @@
 //! blocks that are matched: each is of its part of the cut, none has anything left to do, and each was told exactly
 //! what the others, and the stimulus, say. Of such blocks alone, whatever was played to reach them, the waves are those
 //! of the circuit's values by the transport-delay definition. Every other list of blocks is refused, for the first
-//! cause in the order of [`GatherFault`].
+//! cause in the order of [`GatherFault`]. [`gather_by`] looks at the blocks side by side, and [`gather_changes`] answers all changes
+//! by time, whichever logs the blocks keep; [`worthwhile`] tells how many threads are worth while.
 //!
 //! The definitions stand in `specs/`: `Matched` for matched blocks, `Values` for the circuit's waves, `Gather` for what
 //! is answered, `World` for the law of worlds and the least time, `Play` for events, `Drive` for rounds, `Schedule` for
-//! the text that [`read_schedule`] reads as a list of events.
+//! the text that [`read_schedule`] reads as a list of events, `Threads` for how many threads are worth while.
 #![tactic(auto)]
 
 mod driver;

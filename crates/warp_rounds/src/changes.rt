@@ -22,8 +22,9 @@ use warp_block::ReadLogs;
 use warp_core::gather_changes;
 
 /// All changes of the values of a circuit's nets under a stimulus by time, from time 0 to the horizon, by a run as [`run`](crate::run)
-/// plays it, whose blocks no gate is to see: they keep no list of a net that no other block reads. There is no answer where the changes have
-/// no form in which they can be had by time as they come. After each round the watch is told the floor that it led to.
+/// plays it, whose blocks no gate is to see: they keep no list of a net that no other block reads. There is no answer where the changes
+/// have no form in which they can be had by time as they come, or where a block wants memory for what nobody reads. After each round the
+/// watch is told the floor that it led to.
 pub fn run_changes<W: Watch, R: Threads + Wait + Sync>(
     rt: &R,
     alloc: Global,

@@ -12,7 +12,7 @@
 //! that is drawn stands for the block that it leaves when it is divided by the number of blocks, so that a block may take
 //! several turns between two floors; where turns are short, a worker goes on with blocks near by that have something to do, before it
 //! draws again. [`run_watched`] plays the same, counts what its blocks do, and tells a [`Watch`] how far it
-//! has come.
+//! has come. [`run_changes`] plays blocks that keep the logs of those nets alone that others read, and answers all changes by time.
 //!
 //! Times are whole numbers in units of the stimulus's timescale. The definitions stand in `specs/`: `Turn` says what a
 //! turn does to a block, what it reports, and what it has done where it meets a fault; `Visit` what is known of a turn under
