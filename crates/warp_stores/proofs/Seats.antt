@@ -2,12 +2,13 @@
 use Rattle.std.proofs.Common.{◌≡◌, ◌≢◌, ℕ, zero, suc, ◌+◌, ◌*◌, ◌/◌, ◌^◌, ◌<◌, ◌≤◌, ◌⊎◌, inl, inr, min, List, [], ◌∷◌, length, get_or, set, take, drop, replicate, refl, ap, sym, ◌∙◌, subst, arith, length-drop, mul_assoc, mul-le-mul_right, suc-mul, pow-suc, le-mul_of_pos_right, get_or-set_other}
 use Rattle.std.specs.Int.{IsPowerOfTwo}
 use Rattle.std.proofs.lemmas.Nat.{pow_pos}
+use Rattle.std.proofs.Math.Nat.{add-mul}
 use Rattle.std.proofs.lemmas.List.{get_or-drop, get_or-take, length-take-le}
 use Rattle.std.proofs.Math.Seq.{take-set-lt}
 use Rattle.warp_stores.specs.declared.least.TheConstants.{NEVER}
 use Rattle.warp_stores.specs.declared.least.Seat.{Seat}
 use Rattle.warp_stores.specs.Least.{least_of}
-use Rattle.warp_stores.specs.Inner.Least.{IsWon, IsTournament, HasPlaces, Covers, IsSeat, AreLater, IsHalf}
+use Rattle.warp_stores.specs.Inner.Least.{IsWon, IsTournament, HasPlaces, Covers, IsSeat, AreLater, IsPart}
 use Rattle.warp_stores.specs.Shown.Least.{leaves}
 use Rattle.warp_stores.proofs.Tournaments.{root_least}
 
@@ -109,7 +110,7 @@ seat_right {nodes} seat s wide =
     let c : Covers nodes (suc h.0) s.left seat.node seat.leaf = subst (λ (n : ℕ). Covers nodes n s.left seat.node seat.leaf) h.1 s.covers in
     record { level = h.0; left = suc s.left; width = h.2; covers = rw h.2 (covers_right c) }
 
-pub half_left : {nodes : List ℕ} (time : ℕ) (seat : Seat) → IsSeat nodes seat → 1 < seat.width → get_or nodes (2 * seat.node) 0 ≤ time → IsHalf time nodes seat (record { node = 2 * seat.node; width = seat.width / 2; leaf = seat.leaf })
+pub half_left : {nodes : List ℕ} (time : ℕ) (seat : Seat) → IsSeat nodes seat → 1 < seat.width → get_or nodes (2 * seat.node) 0 ≤ time → IsPart time nodes seat (record { node = 2 * seat.node; width = seat.width / 2; leaf = seat.leaf })
 half_left {nodes} time seat s wide found = record {
   is = seat_left seat s wide;
   width = omega arith;
@@ -119,7 +120,7 @@ half_left {nodes} time seat s wide found = record {
   passed = λ k a b. absurd (omega arith);
 }
 
-pub half_right : {nodes : List ℕ} (time : ℕ) (seat : Seat) → IsTournament nodes → IsSeat nodes seat → 1 < seat.width → get_or nodes seat.node 0 ≤ time → time < get_or nodes (2 * seat.node) 0 → IsHalf time nodes seat (record { node = 2 * seat.node + 1; width = seat.width / 2; leaf = seat.leaf + seat.width / 2 })
+pub half_right : {nodes : List ℕ} (time : ℕ) (seat : Seat) → IsTournament nodes → IsSeat nodes seat → 1 < seat.width → get_or nodes seat.node 0 ≤ time → time < get_or nodes (2 * seat.node) 0 → IsPart time nodes seat (record { node = 2 * seat.node + 1; width = seat.width / 2; leaf = seat.leaf + seat.width / 2 })
 half_right {nodes} time seat t s wide found late =
     let l : IsSeat nodes (record { node = 2 * seat.node; width = seat.width / 2; leaf = seat.leaf }) = seat_left seat s wide in
     let r : IsSeat nodes (record { node = 2 * seat.node + 1; width = seat.width / 2; leaf = seat.leaf + seat.width / 2 }) = seat_right seat s wide in
@@ -148,6 +149,87 @@ seat_one {nodes} seat s narrow = one nodes s.level s.left seat.width seat.node s
     one : (nodes : List ℕ) (level left width node leaf : ℕ) → width ≡ 2 ^ level → width ≤ 1 → Covers nodes level left node leaf → node ≡ leaf
     one nodes zero left width node leaf e h c = omega (arith, c.first)
     one nodes (suc l) left width node leaf e h c = absurd (omega (arith, twice l, pow_pos l))
+
+-- the four seats of a seat's halves' halves
+covers_quarter : {nodes : List ℕ} {level left node leaf : ℕ} → Covers nodes (suc (suc level)) left node leaf → (j : ℕ) → j < 4 → Covers nodes level (suc (suc left)) (4 * node + j) (leaf + j * 2 ^ level)
+covers_quarter {nodes} {level} {left} {node} {leaf} c j few =
+    let l : Covers nodes level (suc (suc left)) (2 * (2 * node)) leaf = covers_left (covers_left c) in
+    let four : 2 * (2 * node) ≡ 4 * node = omega arith in
+    let first : leaf ≡ 4 * node * 2 ^ level = l.first ∙ ap (λ (n : ℕ). n * 2 ^ level) four in
+    record {
+      many = l.many;
+      some = omega (arith, c.some);
+      within = omega (arith, c.within, twice left, twice (suc left));
+      first = omega (arith, first, add-mul (4 * node) j (2 ^ level));
+    }
+
+-- a seat of more than two has four such
+fours : (nodes : List ℕ) (level left width node leaf : ℕ) → width ≡ 2 ^ level → 2 < width → Covers nodes level left node leaf → (l : ℕ) × (level ≡ suc (suc l)) × (width / 4 ≡ 2 ^ l) × (width ≡ 4 * 2 ^ l)
+fours nodes zero left width node leaf e wide c = absurd (omega arith)
+fours nodes (suc zero) left width node leaf e wide c = absurd (omega (arith, twice 0))
+fours nodes (suc (suc l)) left width node leaf e wide c =
+    let is : width ≡ 4 * 2 ^ l = omega (arith, twice l, twice (suc l)) in
+    (l, refl, omega arith, is)
+
+quarter_seat : {nodes : List ℕ} (seat : Seat) → IsSeat nodes seat → 2 < seat.width → (j : ℕ) → j < 4 → IsSeat nodes (record { node = 4 * seat.node + j; width = seat.width / 4; leaf = seat.leaf + j * (seat.width / 4) })
+quarter_seat {nodes} seat s wide j few =
+    let h : (l : ℕ) × (s.level ≡ suc (suc l)) × (seat.width / 4 ≡ 2 ^ l) × (seat.width ≡ 4 * 2 ^ l) = fours nodes s.level s.left seat.width seat.node seat.leaf s.width wide s.covers in
+    let c : Covers nodes (suc (suc h.0)) s.left seat.node seat.leaf = subst (λ (n : ℕ). Covers nodes n s.left seat.node seat.leaf) h.1 s.covers in
+    record { level = h.0; left = suc (suc s.left); width = h.2; covers = rw h.2 (covers_quarter c j few) }
+
+pub quarters_within : {nodes : List ℕ} (seat : Seat) → IsSeat nodes seat → 2 < seat.width → 4 * seat.node + 3 < length nodes
+quarters_within {nodes} seat s wide =
+    let last : IsSeat nodes (record { node = 4 * seat.node + 3; width = seat.width / 4; leaf = seat.leaf + 3 * (seat.width / 4) }) = quarter_seat seat s wide 3 (omega arith) in
+    let e : (0 < 4 * seat.node + 3) × (0 < seat.width / 4) × (4 * seat.node + 3 ≤ seat.leaf + 3 * (seat.width / 4)) × ((seat.leaf + 3 * (seat.width / 4)) + seat.width / 4 ≤ length nodes) = seat_end last in
+    omega (arith, e.1, e.2, e.3)
+
+-- what nodes are later than, all that they stand for are later than
+later_quarters : {nodes : List ℕ} (time : ℕ) (seat : Seat) → IsTournament nodes → IsSeat nodes seat → 2 < seat.width → (j : ℕ) → j ≤ 3 → AreLater time nodes (4 * seat.node) (4 * seat.node + j)
+    → AreLater time nodes seat.leaf (seat.leaf + j * (seat.width / 4))
+later_quarters time seat t s wide zero few late = λ k a b. absurd (omega arith)
+later_quarters {nodes} time seat t s wide (suc j) few late =
+    let before : AreLater time nodes seat.leaf (seat.leaf + j * (seat.width / 4)) = later_quarters time seat t s wide j (omega arith) (λ k a b. late k a (omega arith)) in
+    let this : time < get_or nodes (4 * seat.node + j) 0 = late (4 * seat.node + j) (omega arith) (omega arith) in
+    let quarter : Seat = record { node = 4 * seat.node + j; width = seat.width / 4; leaf = seat.leaf + j * (seat.width / 4) } in
+    let own : AreLater time nodes (seat.leaf + j * (seat.width / 4)) ((seat.leaf + j * (seat.width / 4)) + seat.width / 4) = seat_later time quarter t (quarter_seat seat s wide j (omega arith)) this in
+    λ k a b. later_more time nodes seat.leaf (seat.leaf + j * (seat.width / 4)) ((seat.leaf + j * (seat.width / 4)) + seat.width / 4) before own k a (omega (arith, b, suc-mul j (seat.width / 4)))
+
+-- of four nodes the last one has what the others haven't
+last_quarter : {nodes : List ℕ} (time node : ℕ) → IsTournament nodes → 0 < node → 4 * node + 3 < length nodes → get_or nodes node 0 ≤ time → AreLater time nodes (4 * node) (4 * node + 3) → get_or nodes (4 * node + 3) 0 ≤ time
+last_quarter {nodes} time node t some inside found late =
+    let even : length nodes ≡ 2 * (length nodes / 2) = t.halves in
+    let top : get_or nodes node 0 ≡ min (get_or nodes (2 * node) 0) (get_or nodes (2 * node + 1) 0) = t.won node some (omega arith) in
+    let left : get_or nodes (2 * node) 0 ≡ min (get_or nodes (2 * (2 * node)) 0) (get_or nodes (2 * (2 * node) + 1) 0) = t.won (2 * node) (omega arith) (omega arith) in
+    let right : get_or nodes (2 * node + 1) 0 ≡ min (get_or nodes (2 * (2 * node + 1)) 0) (get_or nodes (2 * (2 * node + 1) + 1) 0) = t.won (2 * node + 1) (omega arith) (omega arith) in
+    let first : time < get_or nodes (2 * (2 * node)) 0 = late (2 * (2 * node)) (omega arith) (omega arith) in
+    let second : time < get_or nodes (2 * (2 * node) + 1) 0 = late (2 * (2 * node) + 1) (omega arith) (omega arith) in
+    let third : time < get_or nodes (2 * (2 * node + 1)) 0 = late (2 * (2 * node + 1)) (omega arith) (omega arith) in
+    let is : 4 * node + 3 ≡ 2 * (2 * node + 1) + 1 = omega arith in
+    let there : get_or nodes (4 * node + 3) 0 ≡ get_or nodes (2 * (2 * node + 1) + 1) 0 = ap (λ (k : ℕ). get_or nodes k 0) is in
+    omega arith
+
+-- the quarter behind those that are passed over
+pub quarter : {nodes : List ℕ} (time : ℕ) (seat : Seat) → IsTournament nodes → IsSeat nodes seat → 2 < seat.width → get_or nodes seat.node 0 ≤ time
+    → (j : ℕ) → j ≤ 3 → AreLater time nodes (4 * seat.node) (4 * seat.node + j) → (j < 3 → get_or nodes (4 * seat.node + j) 0 ≤ time)
+    → IsPart time nodes seat (record { node = 4 * seat.node + j; width = seat.width / 4; leaf = seat.leaf + j * (seat.width / 4) })
+quarter {nodes} time seat t s wide found j few late there =
+    let h : (l : ℕ) × (s.level ≡ suc (suc l)) × (seat.width / 4 ≡ 2 ^ l) × (seat.width ≡ 4 * 2 ^ l) = fours nodes s.level s.left seat.width seat.node seat.leaf s.width wide s.covers in
+    let four : seat.width ≡ 4 * (seat.width / 4) = omega (arith, h.2, h.3) in
+    let end : (j + 1) * (seat.width / 4) ≤ 4 * (seat.width / 4) = mul-le-mul_right (seat.width / 4) (omega arith) in
+    record {
+      is = quarter_seat seat s wide j (omega arith);
+      width = omega arith;
+      from = omega arith;
+      to = omega (arith, four, end, one_more j (seat.width / 4));
+      found = elim (some_or_all j few) [ inl less ↦ there less | inr all ↦ (rw all (last_quarter time seat.node t s.covers.some inside found (subst (λ (n : ℕ). AreLater time nodes (4 * seat.node) (4 * seat.node + n)) all late))) ];
+      passed = later_quarters time seat t s wide j few late;
+    }
+  where
+    some_or_all : (j : ℕ) → j ≤ 3 → (j < 3) ⊎ (j ≡ 3)
+    some_or_all j h = grind arith
+
+    inside : 4 * seat.node + 3 < length nodes
+    inside = quarters_within seat s wide
 
 -- on the way down
 pub record IsSoughtUnder (time : ℕ) (nodes : List ℕ) (seat below : Seat) : Type 0 where

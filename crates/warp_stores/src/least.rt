@@ -2,7 +2,7 @@
 ghost use Rattle.std.specs.Prelude.{◌≡◌, ◌≢◌, ◌<◌, ◌≤◌, ◌+◌, ◌*◌, ◌-◌, ◌/◌, ◌^◌, ℕ, IfOk, length, drop, slice_index, slice_set, replicate};
 ghost use Rattle.warp_stores.specs.Least.{least_of};
 ghost use Rattle.std.specs.Int.{IsPowerOfTwo};
-ghost use Rattle.warp_stores.specs.Inner.Least.{IsTournament, IsSeat, AreLater, IsHalf};
+ghost use Rattle.warp_stores.specs.Inner.Least.{IsTournament, IsSeat, AreLater, IsPart};
 
 use std::alloc::{AllocError, Global};
 use std::marker::Model;
@@ -114,9 +114,56 @@ fn descend(nodes: &[u64], seat: Seat, time: u64) -> usize
 {
     let mut below = seat;
     while below.width > 1 {
-        below = half_by(nodes, below, time);
+        below = part_by(nodes, below, time);
     }
     below.node
+}
+
+/// A half of a seat, or a quarter where there are quarters, in which the first time stands that is no later than a time.
+fn part_by(nodes: &[u64], seat: Seat, time: u64) -> Seat
+    requires tournament { IsTournament nodes.now }
+    requires seat { IsSeat nodes.now seat }
+    requires wide { 1 < seat.width }
+    requires found { slice_index nodes.now seat.node ≤ time }
+    ensures { IsPart time nodes.now seat result }
+{
+    if seat.width > 2 {
+        return quarter_by(nodes, seat, time);
+    }
+    half_by(nodes, seat, time)
+}
+
+/// The quarter of a seat in which the first time stands that is no later than a time. Its node is sought among four that lie side by
+/// side, of which none is waited for before the others are read.
+fn quarter_by(nodes: &[u64], seat: Seat, time: u64) -> Seat
+    requires tournament { IsTournament nodes.now }
+    requires seat { IsSeat nodes.now seat }
+    requires wide { 2 < seat.width }
+    requires found { slice_index nodes.now seat.node ≤ time }
+    ensures { IsPart time nodes.now seat result }
+{
+    let first = 4 * seat.node;
+    let width = seat.width / 4;
+    let passed = count_later(nodes, first, time);
+    Seat {
+        node: first + passed,
+        width,
+        leaf: seat.leaf + passed * width,
+    }
+}
+
+/// How many of three nodes side by side are later than a time, up to the first that isn't. There is no branch.
+#[inline(always)]
+fn count_later(nodes: &[u64], node: usize, time: u64) -> usize
+    requires { node + 2 < length nodes.now }
+    ensures few { result ≤ 3 }
+    ensures later { AreLater time nodes.now node (node + result) }
+    ensures found { result < 3 → slice_index nodes.now (node + result) ≤ time }
+{
+    let first = nodes[node] > time;
+    let second = first & (nodes[node + 1] > time);
+    let third = second & (nodes[node + 2] > time);
+    usize::from(first) + usize::from(second) + usize::from(third)
 }
 
 /// The half of a seat in which the first time stands that is no later than a time.
@@ -125,7 +172,7 @@ fn half_by(nodes: &[u64], seat: Seat, time: u64) -> Seat
     requires seat { IsSeat nodes.now seat }
     requires wide { 1 < seat.width }
     requires found { slice_index nodes.now seat.node ≤ time }
-    ensures { IsHalf time nodes.now seat result }
+    ensures { IsPart time nodes.now seat result }
 {
     let node = 2 * seat.node;
     let width = seat.width / 2;
@@ -168,5 +215,5 @@ fn beside(node: usize) -> usize
     ensures even { node ≡ 2 * (node / 2) → result ≡ 2 * (node / 2) + 1 }
     ensures odd { node ≡ 2 * (node / 2) + 1 → result ≡ 2 * (node / 2) }
 {
-    if node % 2 == 0 { node + 1 } else { node - 1 }
+    node ^ 1
 }

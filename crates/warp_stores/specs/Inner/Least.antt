@@ -44,11 +44,11 @@ pub record IsSeat (nodes : List ℕ) (seat : Seat) : Type 0 where
 abbrev pub AreLater : ℕ → List ℕ → ℕ → ℕ → Type 0
 AreLater time nodes from to = (k : ℕ) → from ≤ k → k < to → time < slice_index nodes k
 
--- the half of a seat in which the first time stands that is no later than one
-pub record IsHalf (time : ℕ) (nodes : List ℕ) (seat half : Seat) : Type 0 where
-  pub is : IsSeat nodes half
-  pub width : half.width < seat.width
-  pub from : seat.leaf ≤ half.leaf
-  pub to : half.leaf + half.width ≤ seat.leaf + seat.width
-  pub found : slice_index nodes half.node ≤ time
-  pub passed : AreLater time nodes seat.leaf half.leaf
+-- the part of a seat in which the first time stands that is no later than one
+pub record IsPart (time : ℕ) (nodes : List ℕ) (seat part : Seat) : Type 0 where
+  pub is : IsSeat nodes part
+  pub width : part.width < seat.width
+  pub from : seat.leaf ≤ part.leaf
+  pub to : part.leaf + part.width ≤ seat.leaf + seat.width
+  pub found : slice_index nodes part.node ≤ time
+  pub passed : AreLater time nodes seat.leaf part.leaf
