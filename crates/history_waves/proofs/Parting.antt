@@ -175,14 +175,20 @@ all_parts given ts begins parts are same each told all is s =
     after : (k : ℕ) → k + 1 ≡ suc k
     after k = omega arith
 
--- what is told of all time is all
-pub part_whole : (given : List Stop) (ts : List Telling) (all : List Stop) → AreAll given (map (part_of 0 None) ts) all → AreAll given ts all
-part_whole given ts all are s =
-    let whole : is_within 0 None s.time ≡ true = le_and 0 s.time (omega arith) in
-    omega (arith, are s, count_in_within 0 None s ts ∙ ap (λ (b : Bool). cond b (count_in s ts) 0) whole)
+-- a part of all times is the whole
+within_whole : (time : ℕ) → is_within 0 None time ≡ true
+within_whole time = le_and 0 time (omega arith)
   where
     le_and : (a b : ℕ) → a ≤ b → (nat_le a b && true) ≡ true
     le_and a b h = rw (le_true a b h) refl
+
+pub own_whole : (own : List (Option ℕ)) (s : Stop) (ds : List (Dated Move)) → count s (own_stops own (before_end None (since 0 ds))) ≡ count s (own_stops own ds)
+own_whole own s ds = own_within 0 None own s ds ∙ ap (λ (b : Bool). cond b (count s (own_stops own ds)) 0) (within_whole s.time)
+
+-- what is told of all time is all
+pub part_whole : (given : List Stop) (ts : List Telling) (all : List Stop) → AreAll given (map (part_of 0 None) ts) all → AreAll given ts all
+part_whole given ts all are s =
+    omega (arith, are s, count_in_within 0 None s ts ∙ ap (λ (b : Bool). cond b (count_in s ts) 0) (within_whole s.time))
 
 -- what holds where there is an answer, and what holds of the answer
 pub with_answer : {E : Type 0} (r : Result (Option ByTime) E) (A : Type 0) (P Q : ByTime → Type 0) → IfOk r (λ all. IfSome all (λ by_time. A)) → IfOk r (λ all. IfSome all P) → (A → (x : ByTime) → P x → Q x) → IfOk r (λ all. IfSome all Q)

@@ -10,7 +10,7 @@ use Rattle.warp_stores.specs.Words.{Move}
 use Rattle.warp_stores.specs.Dated.{Dated, at, first_time}
 use Rattle.history_waves.specs.Histories.{stop_of, own_stops, AreBoth}
 use Rattle.history_waves.specs.Stories.{Telling, count_in, AreAll}
-use Rattle.history_waves.specs.Inner.Pending.{count_at, AreGiven, AreOwnMoves, AreListed, AreUpTo, AreMore, AreTold, AreTaken, AreLeft, AreRead}
+use Rattle.history_waves.specs.Inner.Pending.{count_at, AreGiven, AreOwnMoves, AreListed, AreMore, AreTold, AreTaken, AreLeft, AreRead}
 
 own_append : (own : List (Option ℕ)) (a b : List (Dated Move)) → own_stops own (a ++ b) ≡ own_stops own a ++ own_stops own b
 own_append own a b = filter_map-append (stop_of own) a b
@@ -81,20 +81,26 @@ pub told_time : (own : List (Option ℕ)) (given : List Stop) (from some next ti
     → AreGiven given some next time mid moves → new ≡ old ++ map (stop_by time) moves → AreTold own given from next words old new
 told_time own given from some next time words mid moves old new listed more e s = omega (arith, listed s, more s, appended_moves s time moves old new e)
 
--- what is told by then
-pub up_more : (own : List (Option ℕ)) (given : List Stop) (told before next : ℕ) (read words : List (Dated Move)) (old mid new : List Stop) → AreUpTo own given told read old → AreMore given told before old mid
-    → AreTold own given before next words mid new → AreUpTo own given next (read ++ words) new
-up_more own given told before next read words old mid new up more all s = omega (arith, up s, more s, all s, own_count own s read words)
+-- the first few given changes are told, and what words of a history tell but for those that are left
+abbrev pub AreBut : List (Option ℕ) → List Stop → ℕ → List (Dated Move) → List (Dated Move) → List Stop → Type 0
+AreBut own given told left words all = (s : Stop) → count s all + count s (own_stops own left) ≡ count s (take told given) + count s (own_stops own words)
 
 -- nothing is told yet
-pub up_none : (own : List (Option ℕ)) (given all : List Stop) → all ≡ [] → AreUpTo own given 0 [] all
-up_none own given all e s = rw e refl
+pub but_all : (own : List (Option ℕ)) (given all : List Stop) (words : List (Dated Move)) → all ≡ [] → AreBut own given 0 words words all
+but_all own given all words e s = rw e refl
 
--- all that is given is told
-pub up_all : (own : List (Option ℕ)) (given : List Stop) (told n : ℕ) (words : List (Dated Move)) (old new : List Stop) → AreUpTo own given told words old → AreMore given told n old new → length given ≤ n → AreBoth own given words new
-up_all own given told n words old new up more l s =
+-- what is told by then
+pub but_less : (own : List (Option ℕ)) (given : List Stop) (told before next time : ℕ) (ws : List Move) (left rest words : List (Dated Move)) (old mid new : List Stop) → AreBut own given told left words old
+    → AreMore given told before old mid → AreTold own given before next (at time ws) mid new → at time ws ++ rest ≡ left → AreBut own given next rest words new
+but_less own given told before next time ws left rest words old mid new but more all e s =
+    let whole : count s (own_stops own left) ≡ count s (own_stops own (at time ws)) + count s (own_stops own rest) = ap (λ (ds : List (Dated Move)). count s (own_stops own ds)) (sym e) ∙ own_count own s (at time ws) rest in
+    omega (arith, but s, more s, all s, whole)
+
+-- all is told
+pub but_none : (own : List (Option ℕ)) (given : List Stop) (told n : ℕ) (words : List (Dated Move)) (old new : List Stop) → AreBut own given told [] words old → AreMore given told n old new → length given ≤ n → AreBoth own given words new
+but_none own given told n words old new but more l s =
     let whole : count s (take n given) ≡ count s given = ap (count s) (take_all n given l) in
-    omega (arith, up s, more s, whole)
+    omega (arith, but s, more s, whole)
 
 -- the words of a time, which are told, and those that are left
 pub taken_time : (own : List (Option ℕ)) (given : List Stop) (from next time : ℕ) (ws : List Move) (left all : List (Dated Move)) (old new : List NetMove) → at time ws ++ left ≡ all → AreListed own given from next (at time ws) time old new

@@ -1,5 +1,5 @@
--- What is read of a queue up to the time of its first word is at that time.
-use Rattle.std.proofs.Common.{◌≡◌, ◌∙◌, ℕ, ◌+◌, ◌<◌, ◌≤◌, inl, inr, Bool, true, false, cond, Option, Some, None, List, [], ◌∷◌, ◌++◌, length, refl, ap, subst, arith, nat_lt, nat_le}
+-- What is read of a history up to the time of its first word is at that time.
+use Rattle.std.proofs.Common.{◌≡◌, ◌∙◌, ℕ, ◌+◌, ◌<◌, ◌≤◌, inl, inr, Bool, true, false, cond, Option, Some, None, List, [], ◌∷◌, length, refl, ap, subst, arith, nat_lt, nat_le}
 use Rattle.std.specs.List.{filter, AllByRecursion}
 use Rattle.std.proofs.lemmas.Bool.{ltb-true, cases_Bool}
 use Rattle.warp_stores.proofs.Telling.{le_false}
@@ -48,9 +48,3 @@ read_less time [] e = absurd (none_some time e)
 read_less {T} time (d ∷ ds) e =
     let late : nat_le (time + 1) d.0 ≡ false = le_false (time + 1) d.0 (let same : d.0 ≡ time = some_at d.0 time e in omega (arith, same)) in
     rw late (omega (arith, filter_few (λ (w : Dated T). nat_le (time + 1) w.0) ds))
-
--- what is ahead rises where all that stands does
-pub ahead_rises : {T : Type 0} (low : ℕ) (read ahead : List (Dated T)) → RisesFrom low (read ++ ahead) → RisesFrom 0 ahead
-ahead_rises low [] [] h = tt
-ahead_rises low [] (d ∷ ds) h = (omega arith, h.1)
-ahead_rises low (r ∷ read) ahead h = ahead_rises r.0 read ahead h.1

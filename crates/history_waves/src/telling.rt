@@ -9,7 +9,7 @@ ghost use Rattle.history_waves.specs.Inner.Pending.{AreMore, AreTold};
 use crate::merging::{list_given, list_time};
 use net_waves::{ByTime, NetMove, Stop};
 use std::alloc::{AllocError, Global};
-use warp_stores::{Queue, Steps, Word};
+use warp_stores::{StepReader, Steps, Word};
 
 /// Up to a lesser horizon changes stand in words of four bytes each, else in keys of eight.
 pub const FAR: u64 = 32_768;
@@ -27,9 +27,9 @@ pub fn by_time_of(
     ensures { IfOk result (λ all. IfSome all (λ by_time. AreBoth own.now given.now history (stops_in by_time))) }
 {
     let mut by_time = no_changes(alloc, horizon);
-    let mut queue = history.into_queue();
+    let mut words = history.between(0, None);
     let mut moves = Vec::new(alloc);
-    if tell_all(alloc, own, &mut queue, given, &mut moves, &mut by_time)? {
+    if tell_all(own, &mut words, given, &mut moves, &mut by_time)? {
         return Ok(Some(by_time));
     }
     Ok(None)
@@ -46,31 +46,26 @@ pub(crate) fn no_changes(alloc: Global, horizon: u64) -> ByTime
     }
 }
 
-/// Appends the given changes and those of own nets that a queue tells, by time, and tells whether each came behind the one before. An
-/// error is a refused growth. The moves are a place to work in.
+/// Appends the given changes and those of own nets that the words of a history tell, by time, and tells whether each came behind the one
+/// before. An error is a refused growth. The moves are a place to work in.
 fn tell_all(
-    alloc: Global,
     own: &[Option<u32>],
-    queue: &mut Queue<Word>,
+    words: &mut StepReader<'_, Word>,
     given: &[Stop],
     moves: &mut Vec<NetMove>,
     by_time: &mut ByTime,
 ) -> Result<bool, AllocError>
-    requires read { queue.old.read ≡ [] }
     requires none { stops_in by_time.old ≡ [] }
-    ensures { IfOk result (λ done. done ≡ true → AreBoth own.now given.now queue.old.ahead (stops_in by_time.new)) }
+    ensures { IfOk result (λ done. done ≡ true → AreBoth own.now given.now words.old (stops_in by_time.new)) }
 {
-    let mut words = Vec::new(alloc);
     let mut told = 0;
-    while let Some(time) = queue.head() {
-        queue.law();
+    while let Some(time) = words.head() {
+        words.law();
         let Some(before) = tell_given(given, told, time, moves, by_time)? else {
             return Ok(false);
         };
-        words.clear();
-        queue.take_before(time + 1, &mut words)?;
-        let Some(next) = tell_time(own, time, words.as_slice(), given, before, moves, by_time)?
-        else {
+        let now = words.take_before(time + 1);
+        let Some(next) = tell_time(own, time, now, given, before, moves, by_time)? else {
             return Ok(false);
         };
         told = next;

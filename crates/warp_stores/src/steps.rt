@@ -91,13 +91,6 @@ impl<T: Copy> Steps<T> {
         self.words.count_ahead()
     }
 
-    /// The words, all of them ahead.
-    pub fn into_queue(self) -> Queue<T>
-        ensures { result ≡ record { dead = 0; read = []; ahead = self } }
-    {
-        self.words
-    }
-
     /// The words of the last step.
     pub fn last_step(&self) -> &[T]
         ensures { result.now ≡ undated (since (last_time self.now) self.now) }

@@ -5,7 +5,7 @@ use Rattle.net_waves.specs.declared.timeline.Stop.{Stop}
 use Rattle.net_waves.specs.Timeline.{count, stop_by}
 use Rattle.warp_stores.specs.Words.{Move}
 use Rattle.warp_stores.specs.Dated.{Dated}
-use Rattle.history_waves.specs.Histories.{own_stops, AreBoth}
+use Rattle.history_waves.specs.Histories.{own_stops}
 use Rattle.history_waves.specs.Stories.{Telling, count_in}
 
 -- how often moves of a time are a change
@@ -23,10 +23,6 @@ AreOwnMoves own words time old new = (s : Stop) → count_at s time new ≡ coun
 -- beside some moves of a time stand both
 abbrev pub AreListed : List (Option ℕ) → List Stop → ℕ → ℕ → List (Dated Move) → ℕ → List NetMove → List NetMove → Type 0
 AreListed own given from next words time old new = (s : Stop) → count_at s time new + count s (take from given) ≡ count_at s time old + (count s (take next given) + count s (own_stops own words))
-
--- the first few of some changes, and those of own nets that words tell
-abbrev pub AreUpTo : List (Option ℕ) → List Stop → ℕ → List (Dated Move) → List Stop → Type 0
-AreUpTo own given told words all = AreBoth own (take told given) words all
 
 -- beside some changes stand given ones, from a number on up to another
 abbrev pub AreMore : List Stop → ℕ → ℕ → List Stop → List Stop → Type 0
