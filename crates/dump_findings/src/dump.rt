@@ -1,4 +1,8 @@
 //! What is wrong with a dump: a stimulus, or one that is compared.
+ghost use Rattle.std.specs.Prelude.{◌≡◌, length, IfOk};
+ghost use Rattle.finding_words.specs.Sentences.{meant};
+ghost use Rattle.dump_findings.specs.Places.{IsOfWordAt};
+
 use crate::stamps::{is_behind_declarations, last_stamp};
 use Piece::{Number, Quoted, Text};
 use finding_words::{Kind, Look, Piece, Said, Word, mistaken, word_at, word_behind};
@@ -14,18 +18,31 @@ pub fn of_dump(
     kind: Kind,
     cause: StimCause,
     at: usize,
-) -> Result<Said, AllocError> {
+) -> Result<Said, AllocError>
+    ensures { IfOk result (IsOfWordAt at source.entry.text.now) }
+{
     let look = Look::of(alloc, source.text)?;
     if !matches!(look, Look::Dump | Look::Other) {
         return mistaken(alloc, look, kind);
     }
-    let word = word_at(source.text, at);
+    of_word(alloc, source, cause, &word_at(source.text, at))
+}
+
+/// What a fault of a dump is about that stands at a word.
+fn of_word<'a>(
+    alloc: Global,
+    source: Source<'a>,
+    cause: StimCause,
+    word: &Word<'a>,
+) -> Result<Said, AllocError>
+    ensures { IfOk result (λ said. meant said ≡ length word.now.text.now) }
+{
     match cause {
-        StimCause::BadToken => bad_token(alloc, source, &word),
-        StimCause::BadVar => bad_var(alloc, source, &word),
-        StimCause::StampFalls => stamp_falls(alloc, source, &word),
-        StimCause::UnknownCode => unknown_code(alloc, source, &word),
-        _ => of_command(alloc, cause, &word),
+        StimCause::BadToken => bad_token(alloc, source, word),
+        StimCause::BadVar => bad_var(alloc, source, word),
+        StimCause::StampFalls => stamp_falls(alloc, source, word),
+        StimCause::UnknownCode => unknown_code(alloc, source, word),
+        _ => of_command(alloc, cause, word),
     }
 }
 
@@ -34,12 +51,16 @@ fn said(
     word: &Word<'_>,
     cause: &[Piece<'_>],
     advice: &'static str,
-) -> Result<Said, AllocError> {
+) -> Result<Said, AllocError>
+    ensures { IfOk result (λ said. meant said ≡ length word.now.text.now) }
+{
     Said::new(alloc, word.text.len(), cause, &[Text(advice)])
 }
 
 /// A fault that is told without a look around.
-fn of_command(alloc: Global, cause: StimCause, word: &Word<'_>) -> Result<Said, AllocError> {
+fn of_command(alloc: Global, cause: StimCause, word: &Word<'_>) -> Result<Said, AllocError>
+    ensures { IfOk result (λ said. meant said ≡ length word.now.text.now) }
+{
     let named = Quoted(word.text);
     match cause {
         StimCause::UnclosedCommand => said(
@@ -86,7 +107,9 @@ fn is_std_logic(digit: u8) -> bool {
     )
 }
 
-fn bad_token(alloc: Global, source: Source<'_>, word: &Word<'_>) -> Result<Said, AllocError> {
+fn bad_token(alloc: Global, source: Source<'_>, word: &Word<'_>) -> Result<Said, AllocError>
+    ensures { IfOk result (λ said. meant said ≡ length word.now.text.now) }
+{
     let named = Quoted(word.text);
     if !is_behind_declarations(source.text, word.at) {
         let cause = [
@@ -137,7 +160,9 @@ fn words_of<'a>(text: &'a [u8], command: &Word<'_>) -> (usize, Word<'a>) {
     (4, second)
 }
 
-fn bad_var(alloc: Global, source: Source<'_>, word: &Word<'_>) -> Result<Said, AllocError> {
+fn bad_var(alloc: Global, source: Source<'_>, word: &Word<'_>) -> Result<Said, AllocError>
+    ensures { IfOk result (λ said. meant said ≡ length word.now.text.now) }
+{
     let (count, size) = words_of(source.text, word);
     if count < 4 {
         let cause = [
@@ -159,7 +184,9 @@ fn bad_var(alloc: Global, source: Source<'_>, word: &Word<'_>) -> Result<Said, A
     said(alloc, word, &cause, "")
 }
 
-fn stamp_falls<'a>(alloc: Global, source: Source<'a>, word: &Word<'a>) -> Result<Said, AllocError> {
+fn stamp_falls<'a>(alloc: Global, source: Source<'a>, word: &Word<'a>) -> Result<Said, AllocError>
+    ensures { IfOk result (λ said. meant said ≡ length word.now.text.now) }
+{
     let before = last_stamp(source.text, word.at);
     let cause = [
         Text("the stamp "),
@@ -175,7 +202,9 @@ fn stamp_falls<'a>(alloc: Global, source: Source<'a>, word: &Word<'a>) -> Result
     said(alloc, word, &cause, advice)
 }
 
-fn unknown_code(alloc: Global, source: Source<'_>, word: &Word<'_>) -> Result<Said, AllocError> {
+fn unknown_code(alloc: Global, source: Source<'_>, word: &Word<'_>) -> Result<Said, AllocError>
+    ensures { IfOk result (λ said. meant said ≡ length word.now.text.now) }
+{
     let code = match word.text {
         [b'b' | b'B' | b'r' | b'R' | b's' | b'S', ..] => word_behind(source.text, word),
         _ => Word::of(

@@ -168,7 +168,7 @@ fn unknown_help(
 ) -> Result<String, AllocError> {
     let names = bits.names(alloc)?;
     if let Some(near) = nearest(names.as_slice(), name) {
-        return sentence(alloc, &near.question());
+        return near.question(alloc);
     }
     if others.has(name) {
         return String::from_str(

@@ -1,2 +1,5 @@
 pub mod Circuits
+pub mod Looks
+pub mod Names
+pub mod Sentences
 pub mod Words

@@ -1,10 +1,9 @@
 //! What is wrong with a text of another kind than the expected one.
 ghost use Rattle.std.specs.Prelude.{◌≡◌, IfOk};
+ghost use Rattle.finding_words.specs.Looks.{kind_name, manner, IsMistaken};
 
 use crate::finding::{Finding, Said};
 use crate::look::Look;
-use crate::sentences::Piece;
-use Piece::Text;
 use std::alloc::{AllocError, Global};
 
 /// What a text is expected to be.
@@ -21,7 +20,9 @@ pub enum Kind {
 
 impl Kind {
     /// What it is called, with its article.
-    fn name(self) -> &'static str {
+    fn name(self) -> &'static str
+        ensures { result.now ≡ kind_name self }
+    {
         match self {
             Kind::Bench => "the bench",
             Kind::Settings => "the settings' text",
@@ -50,26 +51,33 @@ impl Kind {
     }
 }
 
-/// A text that looks like this stands where one of that kind is expected.
-pub fn mistaken(alloc: Global, look: Look, kind: Kind) -> Result<Said, AllocError> {
-    let end = match look {
+/// How a text is expected in place of one that looks like this.
+fn manner(look: Look) -> &'static str
+    ensures { result.now ≡ manner look }
+{
+    match look {
         Look::ByteOrderMark | Look::Utf16 => " is expected in UTF-8",
         Look::Gzip => " is expected as plain text",
         _ => " is expected here",
-    };
-    let cause = [
-        Text("this is "),
-        Text(look.name()),
-        Text(", and "),
-        Text(kind.name()),
-        Text(end),
-    ];
-    Said::new(alloc, 0, &cause, &[Text(kind.advice(look))])
+    }
+}
+
+/// A text that looks like this stands where one of that kind is expected.
+pub fn mistaken(alloc: Global, look: Look, kind: Kind) -> Result<Said, AllocError>
+    ensures { IfOk result (λ said. IsMistaken look kind said) }
+{
+    let found = look.name();
+    let expected = kind.name();
+    let manner = manner(look);
+    let cause = format!(in alloc; "this is {found}, and {expected}{manner}")?;
+    let help = String::from_str(alloc, kind.advice(look))?;
+    Ok(Said::of_texts(0, cause, help))
 }
 
 /// The same, told at the beginning of the text.
 pub fn misplaced(alloc: Global, look: Look, kind: Kind) -> Result<Finding, AllocError>
-    ensures { IfOk result (λ finding. finding.at ≡ 0) }
+    ensures at { IfOk result (λ finding. finding.at ≡ 0) }
+    ensures said { IfOk result (λ finding. IsMistaken look kind finding.said) }
 {
     Ok(Finding {
         at: 0,

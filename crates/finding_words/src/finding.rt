@@ -1,5 +1,6 @@
 //! What is found wrong with a text.
-ghost use Rattle.std.specs.Prelude.{◌≡◌, IfOk, string_bytes};
+ghost use Rattle.std.specs.Prelude.{◌≡◌, length, IfOk, string_bytes};
+ghost use Rattle.finding_words.specs.Sentences.{IsSaid, IsSaidWith};
 
 use crate::sentences::{Piece, sentence};
 use crate::words::Word;
@@ -21,7 +22,9 @@ impl Said {
         length: usize,
         cause: &[Piece<'_>],
         help: &[Piece<'_>],
-    ) -> Result<Said, AllocError> {
+    ) -> Result<Said, AllocError>
+        ensures { IfOk result (λ said. IsSaid length cause.now help.now said) }
+    {
         let help = sentence(alloc, help)?;
         Said::with_help(alloc, length, cause, help)
     }
@@ -32,12 +35,23 @@ impl Said {
         length: usize,
         cause: &[Piece<'_>],
         help: String,
-    ) -> Result<Said, AllocError> {
-        Ok(Said {
+    ) -> Result<Said, AllocError>
+        ensures { IfOk result (λ said. IsSaidWith length cause.now (string_bytes help) said) }
+    {
+        Ok(Said::of_texts(length, sentence(alloc, cause)?, help))
+    }
+
+    /// The same of sentences that are put together.
+    pub(crate) fn of_texts(length: usize, cause: String, help: String) -> Said
+        ensures length { result.length ≡ length }
+        ensures cause { string_bytes result.cause ≡ string_bytes cause }
+        ensures help { string_bytes result.help ≡ string_bytes help }
+    {
+        Said {
             length,
-            cause: sentence(alloc, cause)?,
+            cause,
             help,
-        })
+        }
     }
 
     /// How many bytes are meant, the cause and what helps, as they are.
@@ -69,7 +83,8 @@ impl Finding {
         cause: &[Piece<'_>],
         help: &[Piece<'_>],
     ) -> Result<Finding, AllocError>
-        ensures { IfOk result (λ finding. finding.at ≡ word.now.at) }
+        ensures at { IfOk result (λ finding. finding.at ≡ word.now.at) }
+        ensures said { IfOk result (λ finding. IsSaid (length word.now.text.now) cause.now help.now finding.said) }
     {
         Ok(Finding {
             at: word.at,
@@ -84,7 +99,8 @@ impl Finding {
         cause: &[Piece<'_>],
         help: String,
     ) -> Result<Finding, AllocError>
-        ensures { IfOk result (λ finding. finding.at ≡ word.now.at) }
+        ensures at { IfOk result (λ finding. finding.at ≡ word.now.at) }
+        ensures said { IfOk result (λ finding. IsSaidWith (length word.now.text.now) cause.now (string_bytes help) finding.said) }
     {
         Ok(Finding {
             at: word.at,

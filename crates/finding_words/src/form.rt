@@ -1,5 +1,6 @@
 //! The words and marks of a bench line, and where its form breaks.
-ghost use Rattle.std.specs.Prelude.{◌+◌, ◌≤◌, ℕ, length, All, IfOk, IfSome, OnOk};
+ghost use Rattle.std.specs.Prelude.{◌≡◌, ◌+◌, ◌≤◌, ℕ, length, All, IfOk, IfSome, OnOk};
+ghost use Rattle.finding_words.specs.Looks.{expected_in};
 ghost use Rattle.finding_words.specs.Words.{IsWithin};
 
 use crate::words::{Line, Word, is_space};
@@ -102,7 +103,9 @@ impl State {
     }
 
     /// What is expected there.
-    pub fn expects(self) -> &'static str {
+    pub fn expects(self) -> &'static str
+        ensures { result.now ≡ expected_in self }
+    {
         match self {
             State::Nothing => "a name, INPUT or OUTPUT",
             State::Port | State::Gate => "`(`",

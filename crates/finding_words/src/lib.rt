@@ -3,8 +3,9 @@
 //! A [`Finding`] is a place of a text and what is said of it, a sentence put together from its [`Piece`]s. Here is what those
 //! who find something share, of whichever text: its words and lines, the pieces of a bench's line, names that are near to
 //! others, what a text looks like that stands where another is expected, and the circuit that a bench and settings give.
-//! Nothing is promised of sentences, nor of what a text looks like. The definitions that contracts cite stand in
-//! `specs/Words` and `specs/Circuits`.
+//! Of what a text looks like only that is promised which its first bytes tell, and nothing of what helps a text of another
+//! kind. The definitions that contracts cite stand in `specs/Words`, `specs/Sentences`, `specs/Names`, `specs/Looks` and
+//! `specs/Circuits`.
 #![tactic(auto)]
 
 mod causes;

@@ -1,4 +1,7 @@
 //! What a text looks like that stands where another is expected.
+ghost use Rattle.std.specs.Prelude.{◌≡◌, IfOk, IfSome};
+ghost use Rattle.finding_words.specs.Looks.{look_by_bytes, look_name};
+
 use crate::form::{State, break_of, pieces};
 use crate::words::{Line, Word, is_space, without_end, word_from};
 use std::alloc::{AllocError, Global};
@@ -19,13 +22,12 @@ pub enum Look {
     Other,
 }
 
-/// The first bytes of an FST, whose head is 329 bytes long.
-const FST: [u8; 9] = [0, 0, 0, 0, 0, 0, 0, 1, 73];
-
 impl Look {
     /// What a text looks like: by its first bytes, or by the first line that says something, where the rest of the text bears
     /// that out.
-    pub fn of(alloc: Global, text: &[u8]) -> Result<Look, AllocError> {
+    pub fn of(alloc: Global, text: &[u8]) -> Result<Look, AllocError>
+        ensures { IfSome (look_by_bytes text.now) (λ look. IfOk result (λ found. found ≡ look)) }
+    {
         if let Some(look) = Look::of_bytes(text) {
             return Ok(look);
         }
@@ -38,7 +40,9 @@ impl Look {
     }
 
     /// By bytes that no text begins with.
-    fn of_bytes(text: &[u8]) -> Option<Look> {
+    fn of_bytes(text: &[u8]) -> Option<Look>
+        ensures { result ≡ look_by_bytes text.now }
+    {
         if text.starts_with(&[0xEF, 0xBB, 0xBF]) {
             return Some(Look::ByteOrderMark);
         }
@@ -48,7 +52,7 @@ impl Look {
         if text.starts_with(&[0x1F, 0x8B]) {
             return Some(Look::Gzip);
         }
-        if text.starts_with(&FST) {
+        if text.starts_with(&[0, 0, 0, 0, 0, 0, 0, 1, 73]) {
             return Some(Look::Fst);
         }
         match text {
@@ -85,7 +89,9 @@ impl Look {
     }
 
     /// What it is called, with its article.
-    pub(crate) fn name(self) -> &'static str {
+    pub(crate) fn name(self) -> &'static str
+        ensures { result.now ≡ look_name self }
+    {
         match self {
             Look::ByteOrderMark => "a text with a byte order mark",
             Look::Utf16 => "a text in UTF-16",

@@ -1,6 +1,9 @@
 //! Sentences, put together from their pieces.
+ghost use Rattle.std.specs.Prelude.{◌≡◌, ◌++◌, codes, IfOk, string_bytes};
+ghost use Rattle.finding_words.specs.Sentences.{quote_end, IsQuoted, IsWritten, IsSentence};
+
 use std::alloc::{AllocError, Global};
-use text_places::shown;
+use text_places::{front, shown};
 
 /// How many bytes of a quoted word are shown.
 const MOST_QUOTED: usize = 60;
@@ -19,41 +22,48 @@ pub enum Piece<'a> {
 }
 
 impl Piece<'_> {
-    fn push_to(self, alloc: Global, text: &mut String) -> Result<(), AllocError> {
+    /// What is written of it.
+    fn written(self, alloc: Global) -> Result<String, AllocError>
+        ensures { IfOk result (λ text. IsWritten self.entry (string_bytes text)) }
+    {
         match self {
-            Piece::Text(piece) => text.push_str(piece),
-            Piece::Quoted(word) => push_quoted(alloc, text, word),
-            Piece::Bytes(bytes) => push_bytes(alloc, text, bytes),
-            Piece::Number(number) => push_number(alloc, text, number),
+            Piece::Text(words) => String::from_str(alloc, words),
+            Piece::Quoted(word) => quoted(alloc, word),
+            Piece::Bytes(bytes) => shown(alloc, bytes),
+            Piece::Number(number) => format!(in alloc; "{number}"),
         }
     }
 }
 
-fn push_quoted(alloc: Global, text: &mut String, word: &[u8]) -> Result<(), AllocError> {
-    let (front, end) = match word.get(..MOST_QUOTED) {
-        Some(front) if front.len() < word.len() => (front, "..`"),
-        _ => (word, "`"),
-    };
-    text.push_str("`")?;
-    push_bytes(alloc, text, front)?;
-    text.push_str(end)
+/// What stands behind a quoted word.
+fn quote_end(word: &[u8]) -> &'static str
+    ensures { result.now ≡ quote_end word.now }
+{
+    if MOST_QUOTED < word.len() { "..`" } else { "`" }
 }
 
-fn push_bytes(alloc: Global, text: &mut String, bytes: &[u8]) -> Result<(), AllocError> {
-    let letters = shown(alloc, bytes)?;
-    text.push_str(letters.as_str())
+/// A word between backquotes, cut off where it is long.
+pub(crate) fn quoted(alloc: Global, word: &[u8]) -> Result<String, AllocError>
+    ensures { IfOk result (λ text. IsQuoted word.now (string_bytes text)) }
+{
+    let letters = shown(alloc, front(word, MOST_QUOTED))?;
+    in_quotes(alloc, letters.as_str(), quote_end(word))
 }
 
-fn push_number(alloc: Global, text: &mut String, number: u64) -> Result<(), AllocError> {
-    let digits = format!(in alloc; "{number}")?;
-    text.push_str(digits.as_str())
+fn in_quotes(alloc: Global, letters: &str, end: &str) -> Result<String, AllocError>
+    ensures { IfOk result (λ text. string_bytes text ≡ codes "`" ++ (letters.now ++ end.now)) }
+{
+    format!(in alloc; "`{letters}{end}")
 }
 
 /// The sentence of these pieces, empty where there are none.
-pub fn sentence(alloc: Global, pieces: &[Piece<'_>]) -> Result<String, AllocError> {
+pub fn sentence(alloc: Global, pieces: &[Piece<'_>]) -> Result<String, AllocError>
+    ensures { IfOk result (λ text. IsSentence pieces.now (string_bytes text)) }
+{
     let mut text = String::new(alloc);
     for piece in pieces {
-        piece.push_to(alloc, &mut text)?;
+        let written = piece.written(alloc)?;
+        text.push_str(written.as_str())?;
     }
     Ok(text)
 }

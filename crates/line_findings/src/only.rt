@@ -135,7 +135,7 @@ fn near_net_of(
 ) -> Result<Option<String>, AllocError> {
     let known = nets(alloc, circuit)?;
     match nearest(known.as_slice(), name) {
-        Some(near) => Ok(Some(sentence(alloc, &near.question())?)),
+        Some(near) => Ok(Some(near.question(alloc)?)),
         None => Ok(None),
     }
 }

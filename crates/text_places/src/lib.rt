@@ -7,6 +7,6 @@ mod place;
 mod showing;
 mod told;
 
-pub use place::{Place, within_line};
+pub use place::{Place, front, within_line};
 pub use showing::shown;
 pub use told::{Remark, Source, tell};

@@ -15,7 +15,7 @@ ghost use Rattle.text_places.specs.Places.{
 };
 
 /// The first so many bytes of a text, all where it has fewer.
-pub(crate) fn front(text: &[u8], count: usize) -> &[u8]
+pub fn front(text: &[u8], count: usize) -> &[u8]
     ensures { result.now ≡ take count text.now }
 {
     if text.len() < count {
