@@ -1,16 +1,32 @@
 -- What an engine plays that is told nothing but the stimulus.
-use Rattle.std.proofs.Common.{◌≡◌, ◌≢◌, ℕ, ◌+◌, ◌<◌, ◌≤◌, max, false, Option, Some, None, IfSome, inl, inr, ap, arith}
+use Rattle.std.proofs.Common.{◌≡◌, ◌≢◌, ℕ, ◌+◌, ◌<◌, ◌≤◌, max, false, Option, Some, None, IfSome, inl, inr, ap, ◌∙◌, arith}
 use Rattle.std.proofs.lemmas.Bool.{cases_lt, false_from_ne_true}
 use Rattle.warp_part.specs.Placing.{place_source, place_given}
 use Rattle.warp_process.specs.Heard.{IsHeardFrom}
 use Rattle.warp_process.specs.View.{View, IsLeast, IsEventTime, given_by, is_busy}
 use Rattle.warp_process.specs.Played.{played_view}
-use Rattle.warp_engine.specs.Runs.{Run, Ran}
-use Rattle.part_engine.specs.Runs.{IsEngineOf, IsNextBrought}
+use Rattle.warp_engine.specs.Runs.{Run, Ran, HasDropped}
+use Rattle.part_engine.specs.Runs.{IsEngine, IsEngineOf, IsNextBrought}
+use Rattle.warp_block.proofs.Stepping.{parted_like}
 
 -- what the engine has played
-abbrev pub ran : (v : View) (run : Run) → IsEngineOf v 0 run → Ran run
-ran v run engine = record { source = place_source v.part; given = place_given v.part (given_by v); floor = 0; is = engine.run.is }
+abbrev pub ran : (v : View) (run : Run) (floor : ℕ) → IsEngineOf v floor run → Ran run
+ran v run floor engine = record { source = place_source v.part; given = place_given v.part (given_by v); floor = floor; is = engine.run.is }
+
+-- an engine that forgot what only a way back to times before its mark needs
+pub forgotten : (v : View) (time : ℕ) (old new : Run) → IsEngine v old → HasDropped time old new → time ≡ old.book.mark → IsEngine v new
+forgotten v time old new h dropped at = (
+  time,
+  record {
+    received = h.1.received;
+    run = record {
+      is = dropped.keeps (place_source v.part) (place_given v.part (given_by v)) h.0 h.1.run.is (let low = h.1.run.is.low in omega (arith, low, at)) (omega (arith, at));
+      horizon = dropped.like.horizon ∙ h.1.run.horizon;
+      cells = dropped.like.alike.cells ∙ h.1.run.cells;
+      parted = parted_like v.part old new dropped.like h.1.run.parted;
+    };
+  },
+)
 
 -- where time 0 is no event time, nothing happens at it
 pub not_first : (v : View) (next : Option ℕ) → IsLeast (IsEventTime (played_view v 0)) next → next ≢ Some 0 → is_busy (played_view v 0) 0 ≡ false

@@ -7,7 +7,7 @@ ghost use Rattle.warp_process.specs.Played.{played_view};
 ghost use Rattle.warp_process.specs.View.{given_by};
 ghost use Rattle.warp_journal.specs.Books.{IsBrought};
 ghost use Rattle.warp_part.specs.Placing.{place_source, place_given};
-ghost use Rattle.part_engine.specs.Runs.{IsEngineOf, IsNextBrought, begins_of};
+ghost use Rattle.part_engine.specs.Runs.{IsEngine, IsEngineOf, IsNextBrought, begins_of};
 ghost use Rattle.part_engine.specs.Histories.{TellLogs};
 
 use gate_stimulus::Stimulus;
@@ -65,7 +65,7 @@ fn play_through<W: Watch>(
     requires engine { IsEngineOf heard.now 0 engine.old }
     requires floor { heard.now.floor ≡ 0 }
     requires mark { engine.old.book.mark ≡ 0 }
-    ensures engine { OnOk result (IsEngineOf heard.now 0 engine.new) }
+    ensures engine { OnOk result (IsEngine heard.now engine.new) }
     ensures mark { OnOk result (engine.new.book.mark ≡ heard.now.horizon + 1) }
 {
     let mut words = Vec::new(alloc);
@@ -106,30 +106,51 @@ fn bring_at_first(heard: &Heard, engine: &Engine, words: &mut Vec<Word>) -> Resu
 /// has come.
 const PARTS: u64 = 128;
 
-/// Plays all times from the mark to the horizon, and tells the watch before which all is played, at the mark too. An error is a refused growth. The words
-/// are a place to work in.
+/// How often, in the time up to the horizon, that is forgotten which only a way back needs: so seldom that to look for it costs nothing
+/// beside what is played, and so often that what stands in queues stays few.
+const TURNS: u64 = 512;
+
+/// Plays all times from the mark to the horizon, and tells the watch before which all is played, at the mark too. Now and then what only a
+/// way back needs is forgotten. An error is a refused growth. The words are a place to work in.
 fn play_all<W: Watch>(
     heard: &Heard,
     engine: &mut Engine,
     words: &mut Vec<Word>,
     watch: &mut W,
 ) -> Result<(), AllocError>
-    requires engine { IsEngineOf heard.now 0 engine.old }
+    requires engine { IsEngine heard.now engine.old }
     requires floor { heard.now.floor ≡ 0 }
     requires some { 0 < engine.old.book.mark }
     requires within { engine.old.book.mark ≤ heard.now.horizon + 1 }
-    ensures engine { OnOk result (IsEngineOf heard.now 0 engine.new) }
+    ensures engine { OnOk result (IsEngine heard.now engine.new) }
     ensures mark { OnOk result (engine.new.book.mark ≡ heard.now.horizon + 1) }
 {
     watch.floor(engine.mark());
     let mut brought = next_brought(heard, engine);
+    let mut since = engine.mark();
     while engine.mark() <= heard.horizon() {
         let time = next_stop(engine.mark(), brought, heard.horizon());
         play_to(heard, engine, time, brought, words)?;
         brought = brought_after(heard, engine, time, brought);
+        since = forget_played(heard, engine, since);
         watch.floor(engine.mark());
     }
     Ok(())
+}
+
+/// Forgets what only a way back needs, where enough time is played since the mark at which that was done last; answers at which mark it was
+/// done last by then.
+fn forget_played(heard: &Heard, engine: &mut Engine, since: u64) -> u64
+    requires engine { IsEngine heard.now engine.old }
+    ensures engine { IsEngine heard.now engine.new }
+    ensures mark { engine.new.book.mark ≡ engine.old.book.mark }
+{
+    let mark = engine.mark();
+    if mark.saturating_sub(since) <= heard.horizon() / TURNS {
+        return since;
+    }
+    engine.forget_below(mark);
+    mark
 }
 
 /// A time up to which an engine plays at once: at most a part of the time up to the horizon, and no further than to the least time at which
@@ -155,14 +176,14 @@ fn play_to(
     brought: Option<u64>,
     words: &mut Vec<Word>,
 ) -> Result<(), AllocError>
-    requires engine { IsEngineOf heard.now 0 engine.old }
+    requires engine { IsEngine heard.now engine.old }
     requires floor { heard.now.floor ≡ 0 }
     requires some { 0 < engine.old.book.mark }
     requires ahead { engine.old.book.mark ≤ time }
     requires within { time ≤ heard.now.horizon }
     requires quiet { (t : ℕ) → engine.old.book.mark ≤ t → t < time → IsHeardFrom heard.now 0 t → ⊥ }
     requires brought { IsNextBrought heard.now engine.old.book.mark brought }
-    ensures engine { OnOk result (IsEngineOf heard.now 0 engine.new) }
+    ensures engine { OnOk result (IsEngine heard.now engine.new) }
     ensures mark { OnOk result (engine.new.book.mark ≡ time + 1) }
 {
     bring(heard, engine, time, brought, words)?;

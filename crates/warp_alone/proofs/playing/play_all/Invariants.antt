@@ -1,11 +1,11 @@
 use Rattle.std.proofs.Common.{◌+◌, ◌-◌, ◌<◌, ◌≤◌}
-use Rattle.part_engine.specs.Runs.{IsEngineOf, IsNextBrought}
+use Rattle.part_engine.specs.Runs.{IsEngine, IsNextBrought}
 use Rattle.warp_alone.proofs.playing.play_all.Given as goal
 
 -- the engine is the part's, and it is known when something is brought next
 abbrev pub invariant-loop-brought : goal.invariant-loop-brought
 invariant-loop-brought g l = record {
-  engine : IsEngineOf l.heard 0 l.engine;
+  engine : IsEngine l.heard l.engine;
   some : 0 < l.engine.book.mark;
   within : l.engine.book.mark ≤ l.heard.horizon + 1;
   brought : IsNextBrought l.heard l.engine.book.mark l.brought;

@@ -7,7 +7,7 @@ use Rattle.warp_alone.proofs.playing.play_first.Goals as goal
 
 pub play-requires-clause-may : goal.play-requires-clause-may
 play-requires-clause-may c = record {
-  of = ran c.args.heard.now c.args.engine.now c.requires.engine;
+  of = ran c.args.heard.now c.args.engine.now 0 c.requires.engine;
   ahead = (let e = c.requires.mark in omega (arith, e));
   brought = brought_as c.args.heard.now c.args.engine.now.book.mark 0 c.bring_at_first.new.words.items c.as_slice.result.now c.as_slice.ensures.value c.in_ok-bring_at_first.ensures;
 }
