@@ -135,8 +135,14 @@ fn near_by<'k>(near: Near, known: &[&'k [u8]], name: &[u8]) -> Option<NearName<'
 pub fn nearest<'k>(known: &[&'k [u8]], name: &[u8]) -> Option<NearName<'k>>
     ensures { option_map text_of result ≡ nearest (texts known.now) name.now }
 {
-    near_by(Near::InAnyCase, known, name)
-        .or(near_by(Near::WithoutScope, known, name))
-        .or(near_by(Near::WithScope, known, name))
-        .or(near_by(Near::Bit, known, name))
+    if let Some(near) = near_by(Near::InAnyCase, known, name) {
+        return Some(near);
+    }
+    if let Some(near) = near_by(Near::WithoutScope, known, name) {
+        return Some(near);
+    }
+    if let Some(near) = near_by(Near::WithScope, known, name) {
+        return Some(near);
+    }
+    near_by(Near::Bit, known, name)
 }
