@@ -1,5 +1,5 @@
 -- What is told so far, with one change more.
-use Rattle.std.proofs.Common.{◌≡◌, ◌∙◌, ℕ, zero, suc, set, ◌+◌, ◌<◌, ◌≤◌, Option, Some, None, IfNone, List, [], ◌∷◌, ◌++◌, map, take, length, get_or, refl, ap, sym, subst, arith}
+use Rattle.std.proofs.Common.{◌≡◌, ◌∙◌, false, ℕ, zero, suc, set, ◌+◌, ◌<◌, ◌≤◌, Option, Some, None, is_some, IfNone, List, [], ◌∷◌, ◌++◌, map, take, length, get_or, refl, ap, sym, subst, arith}
 use Rattle.std.proofs.lemmas.List.{map-append, take_more, take_all}
 use Rattle.std.proofs.lemmas.List.Elements.{filter_map-append}
 use Rattle.net_waves.specs.declared.timeline.NetMove.{NetMove}
@@ -172,3 +172,29 @@ left_all given told n first left none mid last e up read more l s =
     let whole : count s (take n given) ≡ count s given = ap (count s) (take_all n given l) in
     let begun : count s none ≡ 0 = ap (count s) e in
     omega (arith, up s, more s, read s, whole, begun)
+
+-- what was told before, and more
+pub but_more : (own : List (Option ℕ)) (given : List Stop) (told before next time : ℕ) (ws : List Move) (left rest words : List (Dated Move)) (old some others : List Stop) → AreBut own given told left words old
+    → AreMore given told before [] some → AreTold own given before next (at time ws) [] others → at time ws ++ rest ≡ left → AreBut own given next rest words (old ++ (some ++ others))
+but_more own given told before next time ws left rest words old some others but more all e s =
+    let whole : count s (own_stops own left) ≡ count s (own_stops own (at time ws)) + count s (own_stops own rest) = ap (λ (ds : List (Dated Move)). count s (own_stops own ds)) (sym e) ∙ own_count own s (at time ws) rest in
+    omega (arith, but s, more s, all s, whole, count-append s old (some ++ others), count-append s some others)
+
+-- all is told, and more
+pub but_end : (own : List (Option ℕ)) (given : List Stop) (told n : ℕ) (left words : List (Dated Move)) (old more : List Stop) → AreBut own given told left words old → AreMore given told n [] more → first_time left ≡ None → length given ≤ n
+    → AreBoth own given words (old ++ more)
+but_end own given told n left words old more but are none l s =
+    let whole : count s (take n given) ≡ count s given = ap (count s) (take_all n given l) in
+    let rest : count s (own_stops own left) ≡ 0 = ap (λ (ds : List (Dated Move)). count s (own_stops own ds)) (none_left left none) in
+    omega (arith, but s, are s, whole, rest, count-append s old more)
+
+-- what was taken behind some changes
+pub more_told : (given : List Stop) (from next : ℕ) (old new more : List Stop) → new ≡ old ++ more → AreMore given from next [] more → AreMore given from next old new
+more_told given from next old new more e are s =
+    let whole : count s new ≡ count s old + count s more = ap (count s) e ∙ count-append s old more in
+    omega (arith, whole, are s)
+
+-- where there is none, what is said of none holds
+pub none_read : (o : Option ℕ) (P : Type 0) → false ≡ is_some o → IfNone o P → P
+none_read None P none said = said
+none_read (Some time) P none said = absurd cc

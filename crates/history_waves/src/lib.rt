@@ -14,4 +14,4 @@ mod untold;
 
 pub use parts::{by_time_of_all, by_time_of_all_by};
 pub use story::Story;
-pub use telling::{FAR, by_time_of};
+pub use telling::{FAR, no_changes, tell_history};

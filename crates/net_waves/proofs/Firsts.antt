@@ -14,7 +14,7 @@ use Rattle.net_waves.specs.Timeline.{one, count}
 use Rattle.net_waves.specs.Stops.{marked, AreStopsOf}
 use Rattle.net_waves.specs.Packed.{Packed, told, words_at, told_below, all_told, times}
 use Rattle.net_waves.specs.Waves.{wave_of}
-use Rattle.net_waves.specs.Inner.First.{first_by, first_from}
+use Rattle.net_waves.specs.First.{first_by, first_from}
 use Rattle.net_waves.proofs.Compared.{eq_true, eq_false, cases_eq}
 use Rattle.net_waves.proofs.Counting.{one-self}
 

@@ -1,6 +1,5 @@
 -- What only the proofs of this crate need: no contract of a public call speaks of it.
 pub mod Buckets
-pub mod First
 pub mod HeldWaves
 pub mod Keys
 pub mod Lists

@@ -3,6 +3,7 @@ pub mod Timeline
 pub mod Stops
 pub mod Packed
 pub mod Keys
+pub mod First
 pub mod ByTime
 pub mod Merging
 pub mod Inner

@@ -9,7 +9,7 @@ ghost use Rattle.net_waves.specs.Packed.{told, all_told};
 ghost use Rattle.net_waves.specs.Keys.{stops_of_keys};
 ghost use Rattle.net_waves.specs.Stops.{AreStopsOf};
 ghost use Rattle.net_waves.specs.Waves.{wave_of};
-ghost use Rattle.net_waves.specs.Inner.First.{first_by, first_from};
+ghost use Rattle.net_waves.specs.First.{first_by, first_from};
 
 use crate::by_time::ByTime;
 use crate::keyed::stop_of;
@@ -18,8 +18,8 @@ use crate::timeline::Stop;
 use gate_values::Logic;
 use std::alloc::{AllocError, Global};
 
-/// Takes the value of a stop at time 0 for its net.
-fn take(values: &mut [Logic], stop: Stop)
+/// Takes the value of a stop at time 0 for its net. One that is later, or of a net that there isn't, leaves all as it is.
+pub fn take_first(values: &mut [Logic], stop: Stop)
     ensures length { length values.new ≡ length values.old }
     ensures each { (n : ℕ) → n < length values.old → get_or values.new n X ≡ first_by stop (get_or values.old n X) n }
 {
@@ -38,7 +38,7 @@ fn take_all(values: &mut [Logic], stops: &[Stop])
     ensures each { (n : ℕ) → n < length values.old → get_or values.new n X ≡ first_from (get_or values.old n X) stops.now n }
 {
     for stop in stops {
-        take(values, *stop);
+        take_first(values, *stop);
     }
 }
 
@@ -48,7 +48,7 @@ fn take_words(values: &mut [Logic], words: &[u32])
     ensures each { (n : ℕ) → n < length values.old → get_or values.new n X ≡ first_from (get_or values.old n X) (map (told 0) words.now) n }
 {
     for word in words {
-        take(values, stop_at(0, *word));
+        take_first(values, stop_at(0, *word));
     }
 }
 
@@ -58,7 +58,7 @@ fn take_keys(values: &mut [Logic], keys: &[u64])
     ensures each { (n : ℕ) → n < length values.old → get_or values.new n X ≡ first_from (get_or values.old n X) (stops_of_keys keys.now) n }
 {
     for key in keys {
-        take(values, stop_of(*key));
+        take_first(values, stop_of(*key));
     }
 }
 

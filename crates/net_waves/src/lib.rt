@@ -16,12 +16,15 @@ mod merging;
 mod packed;
 mod packing;
 mod placing;
+mod taker;
 mod timeline;
 mod waves;
 
 pub use by_time::ByTime;
+pub use first::take_first;
 pub use keyed::{Keyed, stop_of};
 pub use merging::next_chunk;
 pub use packed::{Packed, stop_at};
+pub use taker::Taker;
 pub use timeline::{NetMove, Stop, Timeline, stops_by_time};
 pub use waves::{Waves, are_waves, is_wave};

@@ -33,7 +33,7 @@ first_lines-next v n = rw (add-one n) refl
 
 -- two functions that agree for the nets below `nets` at the times up to the horizon have the same dump
 module _ (f g : ℕ → ℕ → Logic) (nets horizon : ℕ) (agree : (n t : ℕ) → n < nets → t ≤ horizon → f n t ≡ g n t) where
-  same_first : (n : ℕ) → n ≤ nets → first_lines f n ≡ first_lines g n
+  pub same_first : (n : ℕ) → n ≤ nets → first_lines f n ≡ first_lines g n
   unfolding first_lines
   same_first zero h = refl
   same_first (suc n) h = rw (same_first n (omega arith), agree n 0 (omega arith) (omega arith)) refl

@@ -9,3 +9,4 @@ pub mod Coding
 pub mod PackedWalk
 pub mod KeyWalk
 pub mod PieceLaws
+pub mod Writing

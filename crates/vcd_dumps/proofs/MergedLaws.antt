@@ -1,5 +1,5 @@
 -- Laws of what is written of runs that are merged.
-use Rattle.std.proofs.Common.{◌≡◌, ℕ, ◌+◌, ◌<◌, ◌≤◌, List, [], ◌++◌, length, get_or, take, drop, refl, ap, sym, ◌∙◌, subst, arith}
+use Rattle.std.proofs.Common.{◌≡◌, ℕ, ◌<◌, ◌≤◌, List, [], ◌++◌, length, get_or, take, drop, refl, ap, sym, ◌∙◌, subst, arith}
 use Rattle.std.proofs.Math.ListN.{set}
 use Rattle.std.proofs.lemmas.List.{take-map, length-drop}
 use Rattle.std.specs.List.{AllByRecursion}
@@ -8,7 +8,8 @@ use Rattle.byte_sinks.specs.Sink.{Held}
 use Rattle.byte_sinks.specs.Lots.{Lot, Passes}
 use Rattle.net_waves.specs.declared.timeline.Stop.{Stop}
 use Rattle.net_waves.specs.Timeline.{IsRising, count, Timeline, run_of, AreRuns}
-use Rattle.vcd_dumps.specs.Inner.Walk.{walked, last_stop, IsWalked}
+use Rattle.vcd_dumps.specs.Walk.{walked, last_stop}
+use Rattle.vcd_dumps.specs.Inner.Walk.{IsWalked}
 use Rattle.net_waves.specs.Merging.{lefts, IsChunk}
 use Rattle.net_waves.specs.Inner.Merging.{flat, AreRunsOf}
 use Rattle.vcd_dumps.proofs.Walking.{walked_start, walked_chunk, chunk_known, walked_end}

@@ -9,7 +9,8 @@ use Rattle.byte_sinks.specs.Lots.{Lot, Passes}
 use Rattle.net_waves.specs.Timeline.{AtMost, Before, IsRising, is_same, count}
 use Rattle.net_waves.specs.Stops.{AreStopsOf}
 use Rattle.net_waves.specs.Packed.{Packed, IsPacked, told, words_at, told_below, all_told, times}
-use Rattle.vcd_dumps.specs.Inner.Walk.{walked, last_stop, GoesOn}
+use Rattle.vcd_dumps.specs.Walk.{walked, last_stop}
+use Rattle.vcd_dumps.specs.Inner.Walk.{GoesOn}
 use Rattle.net_waves.proofs.Compared.{cases_below}
 use Rattle.net_waves.proofs.Counting.{is_same-is, one-self, All-at}
 use Rattle.net_waves.proofs.TimelineLaws.{AtMost-refl}

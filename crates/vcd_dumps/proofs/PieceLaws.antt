@@ -15,7 +15,8 @@ use Rattle.net_waves.specs.declared.timeline.Stop.{Stop}
 use Rattle.net_waves.specs.Packed.{Packed, told, words_at, told_below}
 use Rattle.net_waves.specs.Keys.{stop_of, stops_of_keys}
 use Rattle.net_waves.proofs.Compared.{cases_below}
-use Rattle.vcd_dumps.specs.Inner.Walk.{walked, last_stop, tail_line, GoesOn}
+use Rattle.vcd_dumps.specs.Walk.{walked, last_stop}
+use Rattle.vcd_dumps.specs.Inner.Walk.{tail_line, GoesOn}
 use Rattle.vcd_dumps.specs.Inner.Pieces.{AreCuts}
 use Rattle.vcd_dumps.proofs.Walking.{walked-append, last_stop-append, All-parts}
 

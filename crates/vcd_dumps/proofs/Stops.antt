@@ -10,7 +10,8 @@ use Rattle.vcd_dumps.specs.Dump.{stamp, value_line, has_change, some_change, cha
 use Rattle.net_waves.specs.declared.timeline.Stop.{Stop}
 use Rattle.net_waves.specs.Timeline.{IsRising, count}
 use Rattle.net_waves.specs.Stops.{marked}
-use Rattle.vcd_dumps.specs.Inner.Walk.{walked, last_stop, tail_line}
+use Rattle.vcd_dumps.specs.Walk.{walked, last_stop}
+use Rattle.vcd_dumps.specs.Inner.Walk.{tail_line}
 use Rattle.net_waves.proofs.Counting.{count-append}
 use Rattle.net_waves.proofs.Rising.{All-append, All-weaker, Earlier, rising-push}
 use Rattle.vcd_dumps.proofs.Walking.{walked-append, last_stop-append}

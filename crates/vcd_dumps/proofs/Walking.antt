@@ -6,7 +6,8 @@ use Rattle.gate_values.specs.declared.logic.Logic.{Logic}
 use Rattle.byte_sinks.specs.Sink.{Held}
 use Rattle.byte_sinks.specs.Lots.{Lot, Passes}
 use Rattle.vcd_dumps.specs.Dump.{stamp, value_line}
-use Rattle.vcd_dumps.specs.Inner.Walk.{stop_lines, walked, last_stop, IsWalked, GoesOn}
+use Rattle.vcd_dumps.specs.Walk.{stop_lines, walked, last_stop}
+use Rattle.vcd_dumps.specs.Inner.Walk.{IsWalked, GoesOn}
 use Rattle.net_waves.specs.declared.timeline.Stop.{Stop}
 use Rattle.byte_sinks.proofs.Passing.{passes_then, passes_none}
 use Rattle.net_waves.proofs.Compared.{eq_false}

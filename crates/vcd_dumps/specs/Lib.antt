@@ -1,3 +1,5 @@
 pub mod Codes
 pub mod Dump
+pub mod Walk
 pub mod Inner
+pub mod Shown

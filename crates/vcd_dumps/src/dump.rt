@@ -16,7 +16,8 @@ ghost use Rattle.net_waves.specs.ByTime.{stops_in};
 ghost use Rattle.net_waves.specs.Packed.{told, told_below, all_told, times};
 ghost use Rattle.net_waves.specs.Keys.{stops_of_keys};
 ghost use Rattle.net_waves.specs.Stops.{AreStopsOf};
-ghost use Rattle.vcd_dumps.specs.Inner.Walk.{stop_lines, walked, last_stop, tail_line, GoesOn};
+ghost use Rattle.vcd_dumps.specs.Walk.{stop_lines, walked, last_stop};
+ghost use Rattle.vcd_dumps.specs.Inner.Walk.{tail_line, GoesOn};
 
 use crate::fault::WriteFault;
 use crate::lines::{put_scope, put_stamp, put_timescale, put_value, put_var};
@@ -416,7 +417,7 @@ fn put_stops<S: Sink>(sink: &mut S, lot: &mut Lot, mut last: u64, stops: &[Stop]
 }
 
 /// Puts a change after one at the time `last`.
-fn put_stop<S: Sink>(sink: &mut S, lot: &mut Lot, last: u64, stop: Stop)
+pub(crate) fn put_stop<S: Sink>(sink: &mut S, lot: &mut Lot, last: u64, stop: Stop)
     requires { stop.net < 1000000 }
     ensures { Passes (S.held sink.old) (S.held sink.new) lot.old (stop_lines last stop.time stop.net stop.value) lot.new }
 {

@@ -13,6 +13,7 @@ mod laws;
 mod lines;
 mod pieces;
 mod workers;
+mod writer;
 
 pub use codes::{code, code_laws};
 pub use dump::{first_value, write_changes, write_vcd, write_vcd_once};
@@ -20,3 +21,4 @@ pub use fault::WriteFault;
 pub use laws::dump_laws;
 pub use lines::letter;
 pub use workers::{changes_dump_by, dump_by};
+pub use writer::Writer;

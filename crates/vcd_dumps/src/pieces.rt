@@ -5,7 +5,8 @@ ghost use Rattle.std.specs.List.{AllByRecursion};
 ghost use Rattle.net_waves.specs.declared.timeline.Stop.{Stop};
 ghost use Rattle.net_waves.specs.Packed.{told_below, all_told, times};
 ghost use Rattle.net_waves.specs.Keys.{stops_of_keys};
-ghost use Rattle.vcd_dumps.specs.Inner.Walk.{last_stop, GoesOn};
+ghost use Rattle.vcd_dumps.specs.Walk.{last_stop};
+ghost use Rattle.vcd_dumps.specs.Inner.Walk.{GoesOn};
 ghost use Rattle.vcd_dumps.specs.Inner.Pieces.{AreCuts, ArePieces, times_text, keys_text};
 
 use crate::dump::{put_keys, put_times};

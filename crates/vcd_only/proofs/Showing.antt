@@ -12,7 +12,8 @@ use Rattle.net_waves.specs.Waves.{wave_of, wave_value, IsWave, IsUntil}
 use Rattle.net_waves.specs.declared.timeline.Stop.{Stop}
 use Rattle.net_waves.specs.Timeline.{InOrder, count}
 use Rattle.net_waves.specs.Inner.Stops.{stops_of, stops_below}
-use Rattle.vcd_dumps.specs.Inner.Walk.{walked, last_stop, tail_line}
+use Rattle.vcd_dumps.specs.Walk.{walked, last_stop}
+use Rattle.vcd_dumps.specs.Inner.Walk.{tail_line}
 use Rattle.net_waves.proofs.Compared.{cases_lt}
 use Rattle.vcd_dumps.proofs.Stops.{moments-walked, known_below, all_stops, all_stops-rising}
 use Rattle.vcd_dumps.proofs.WaveStops.{stops_are}

@@ -4,7 +4,7 @@ use Rattle.std.specs.List.{AllByRecursion}
 use Rattle.gate_values.specs.declared.logic.Logic.{Logic}
 use Rattle.net_waves.specs.declared.timeline.Stop.{Stop}
 use Rattle.vcd_dumps.specs.Dump.{var_line, value_line}
-use Rattle.vcd_dumps.specs.Inner.Walk.{stop_lines, walked, last_stop}
+use Rattle.vcd_dumps.specs.Walk.{stop_lines, walked, last_stop}
 use Rattle.vcd_only.specs.Told.{if_told, told_vars, told_first}
 use Rattle.vcd_only.specs.Inner.Stops.{IsWritten}
 

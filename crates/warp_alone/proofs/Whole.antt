@@ -10,14 +10,12 @@ use Rattle.gate_netlist.specs.Circuit.{Design, CutFits, nets_of}
 use Rattle.gate_netlist.specs.Cut.{Ownership, IsOwnership, is_owner, owner_of}
 use Rattle.gate_stimulus.specs.Given.{Given, Fits, AreItsChanges, changes_of}
 use Rattle.net_waves.specs.declared.timeline.Stop.{Stop}
-use Rattle.net_waves.specs.declared.by_time.ByTime.{ByTime}
-use Rattle.net_waves.specs.ByTime.{stops_in}
 use Rattle.net_waves.specs.Stops.{AreStopsOf}
 use Rattle.net_waves.specs.Waves.{wave_of}
 use Rattle.warp_stores.specs.Words.{Move}
 use Rattle.warp_stores.specs.Dated.{Dated}
 use Rattle.history_waves.specs.Histories.{AreBoth}
-use Rattle.history_waves.specs.Stories.{Telling, AreAll}
+use Rattle.history_waves.specs.Stories.{Telling}
 use Rattle.warp_part.specs.Portion.{owns}
 use Rattle.warp_part.specs.PartOf.{is_own, part_of}
 use Rattle.warp_process.specs.declared.message.Message.{Message}
@@ -36,19 +34,13 @@ use Rattle.warp_core.specs.World.{Scene, IsBefore, IsLawfulWorld, IsFlying}
 use Rattle.warp_core.proofs.Finished.{log_wave}
 use Rattle.warp_core.proofs.Finishing.{world_matched}
 use Rattle.warp_core.proofs.Hearing.{heard_from}
-use Rattle.warp_core.proofs.Histories.{told_more, told_when}
+use Rattle.warp_core.proofs.Histories.{told_more, told_in_step}
 use Rattle.warp_core.proofs.Matching.{matched_changes}
 use Rattle.warp_core.proofs.Parts.{owner_owns, other_owns}
 
 owner_is : (b : ℕ) (o : Option ℕ) → is_owner b o ≡ true → o ≡ Some b
 owner_is b None e = absurd cc
 owner_is b (Some o) e = ap (λ (k : ℕ). Some k) (eqb-true o b e)
-
--- what one history tells is what all of one do
-both_all : (own : List (Option ℕ)) (given : List Stop) (words : List (Dated Move)) (all : Option ByTime) → IfSome all (λ by_time. AreBoth own given words (stops_in by_time))
-    → IfSome all (λ by_time. AreAll given (record { own = own; words = words } ∷ []) (stops_in by_time))
-both_all own given words None both = tt
-both_all own given words (Some by_time) both = λ s. omega (arith, both s)
 
 some_none : (o : ℕ) (e : Option ℕ) → e ≡ Some o → e ≡ None → ⊥
 some_none o e some none = cc
@@ -159,8 +151,8 @@ module _ (d : Design) (cut : Ownership) (g : Given) (horizon : ℕ) (fits : CutF
 
     -- what is given, and what is told of its own nets, are the circuit's changes
     pub whole : (own : List (Option ℕ)) → AreOwn (part_of d cut 0) own → (words : List (Dated Move)) → TellLogs view words → (stops : List Stop) → AreStopsOf before stops
-        → (all : Option ByTime) → IfSome all (λ by_time. AreBoth own stops words (stops_in by_time)) → IfSome all (λ by_time. AreStopsOf (circuit_waves d g horizon) (stops_in by_time))
+        → (all : List Stop) → AreBoth own stops words all → AreStopsOf (circuit_waves d g horizon) all
     whole own are words tell stops step all both =
         let telling : Telling = record { own = own; words = words } in
         let told = told_more view received.part own are words tell (λ n. (log_wave view lawful n).0) before (circuit_waves d g horizon) own_none own_wave other_wave [] before (λ s. omega arith) in
-        told_when stops (telling ∷ []) before (circuit_waves d g horizon) step told all (both_all own stops words all both)
+        told_in_step before (circuit_waves d g horizon) stops all (telling ∷ []) step told (λ s. omega (arith, both s))

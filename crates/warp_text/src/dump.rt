@@ -14,12 +14,13 @@ use byte_sinks::{Grow, Sink};
 use gate_netlist::{Circuit, Cut};
 use gate_stimulus::Stimulus;
 use gate_values::Logic;
+use history_waves::FAR;
 use net_waves::{ByTime, Waves};
 use std::alloc::{AllocError, Global};
 use std::sync::Wait;
 use std::thread::Threads;
-use vcd_dumps::{changes_dump_by, write_vcd_once};
-use warp_alone::changes_alone;
+use vcd_dumps::{Writer, changes_dump_by, write_vcd_once};
+use warp_alone::{changes_alone, tell_alone};
 use warp_rounds::{RunFault, Watch, run_changes};
 
 /// The dump of a circuit's waves under a stimulus, up to the horizon. The waves' lists are given back before the text grows.
@@ -104,8 +105,30 @@ fn told_dump<R: Threads + Sync>(
     )
 }
 
-/// The dump of a circuit that is played alone under a stimulus, up to the horizon, written by up to so many threads side by side, at least
-/// one; none where its changes can't be had by time as they come. The watch is told how far it has come. An error is a refused growth.
+/// The dump of a circuit that is played alone under a stimulus, up to the horizon, which is written as its changes come; none where they
+/// can't be written so. The watch is told how far the run has come. An error is a refused growth.
+fn told_alone<W: Watch>(
+    alloc: Global,
+    circuit: &Circuit,
+    stimulus: &Stimulus,
+    horizon: u64,
+    watch: &mut W,
+) -> Result<Option<Vec<u8>>, AllocError>
+    requires fits { Fits stimulus.now circuit.now }
+    requires near { horizon ≤ most_horizon }
+    ensures { IfOk result (λ dump. IfSome dump (λ dump. dump.items ≡ vcd_text (codes "top") circuit.now stimulus.now (value_under circuit.now stimulus.now) horizon)) }
+{
+    let mut writer = Writer::new(alloc, circuit, stimulus.timescale())?;
+    if !tell_alone(alloc, circuit, stimulus, horizon, watch, &mut writer)? {
+        return Ok(None);
+    }
+    let dump = writer.finish(horizon)?;
+    Ok(Some(dump))
+}
+
+/// The dump of a circuit that is played alone under a stimulus, up to the horizon; none where its changes can't be had by time as they come.
+/// Where there are several workers, of which there is at least one, and changes by time take four bytes each, up to so many threads
+/// write it side by side. The watch is told how far it has come. An error is a refused growth.
 pub fn alone_dump<W: Watch, R: Threads + Sync>(
     rt: &R,
     alloc: Global,
@@ -120,6 +143,9 @@ pub fn alone_dump<W: Watch, R: Threads + Sync>(
     requires near { horizon ≤ most_horizon }
     ensures { IfOk result (λ dump. IfSome dump (λ dump. dump.items ≡ vcd_text (codes "top") circuit.now stimulus.now (value_under circuit.now stimulus.now) horizon)) }
 {
+    if workers == 1 || horizon >= FAR {
+        return told_alone(alloc, circuit, stimulus, horizon, watch);
+    }
     let Some(by_time) = changes_alone(alloc, circuit, stimulus, horizon, watch)? else {
         return Ok(None);
     };

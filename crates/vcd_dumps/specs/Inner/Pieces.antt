@@ -2,7 +2,7 @@
 use Rattle.std.specs.Prelude.{◌≡◌, ℕ, ◌+◌, ◌-◌, ◌<◌, ◌≤◌, List, [], ◌++◌, length, get_or, slice_index_or, take, Result, Vec, IfOk}
 use Rattle.net_waves.specs.Keys.{stops_of_keys}
 use Rattle.net_waves.specs.Packed.{Packed, told_below}
-use Rattle.vcd_dumps.specs.Inner.Walk.{walked}
+use Rattle.vcd_dumps.specs.Walk.{walked}
 
 -- the places at which a row is cut, from its beginning to its end: they never fall
 pub record AreCuts (cuts : List ℕ) (end : ℕ) : Type 0 where

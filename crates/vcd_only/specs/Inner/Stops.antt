@@ -4,7 +4,7 @@ use Rattle.std.specs.List.{AllByRecursion, range_with_len}
 use Rattle.gate_values.specs.declared.logic.Change.{Change}
 use Rattle.net_waves.specs.Waves.{wave_of}
 use Rattle.net_waves.specs.declared.timeline.Stop.{Stop}
-use Rattle.vcd_dumps.specs.Inner.Walk.{walked, last_stop}
+use Rattle.vcd_dumps.specs.Walk.{walked, last_stop}
 use Rattle.vcd_only.specs.declared.stops.Told.{Told}
 use Rattle.vcd_only.specs.Told.{is_told}
 

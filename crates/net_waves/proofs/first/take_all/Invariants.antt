@@ -1,6 +1,6 @@
 use Rattle.std.proofs.Common.{◌≡◌, ◌<◌, ℕ, take, length, get_or}
 use Rattle.gate_values.specs.declared.logic.Logic.TheVariants.{X}
-use Rattle.net_waves.specs.Inner.First.{first_from}
+use Rattle.net_waves.specs.First.{first_from}
 use Rattle.net_waves.proofs.first.take_all.Given as goal
 
 -- the values by the stops so far

@@ -1,7 +1,7 @@
 use Rattle.std.proofs.Common.{◌∙◌, ℕ, List, map, get_or, ap, sym, arith}
 use Rattle.gate_values.specs.declared.logic.Logic.TheVariants.{X}
 use Rattle.net_waves.specs.Packed.{told}
-use Rattle.net_waves.specs.Inner.First.{first_from}
+use Rattle.net_waves.specs.First.{first_from}
 use Rattle.net_waves.proofs.Firsts.{first-packed, first-empty}
 use Rattle.net_waves.proofs.first.take_packed.Goals as goal
 

@@ -1,7 +1,7 @@
 use Rattle.std.proofs.Common.{◌≡◌, ◌<◌, ℕ, map, take, length, get_or}
 use Rattle.gate_values.specs.declared.logic.Logic.TheVariants.{X}
 use Rattle.net_waves.specs.Packed.{told}
-use Rattle.net_waves.specs.Inner.First.{first_from}
+use Rattle.net_waves.specs.First.{first_from}
 use Rattle.net_waves.proofs.first.take_words.Given as goal
 
 -- the values by the words so far

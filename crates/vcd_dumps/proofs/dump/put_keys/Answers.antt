@@ -2,7 +2,7 @@ use Rattle.std.proofs.Common.{◌≡◌, ◌<◌, ◌+◌, ◌∷◌, length, ge
 use Rattle.std.proofs.lemmas.List.{drop_more}
 use Rattle.byte_sinks.specs.Lots.{Passes}
 use Rattle.net_waves.specs.Keys.{stop_of, stops_of_keys}
-use Rattle.vcd_dumps.specs.Inner.Walk.{stop_lines}
+use Rattle.vcd_dumps.specs.Walk.{stop_lines}
 use Rattle.vcd_dumps.proofs.Walking.{walked_start, walked_step}
 use Rattle.vcd_dumps.proofs.dump.put_keys.Goals as goal
 

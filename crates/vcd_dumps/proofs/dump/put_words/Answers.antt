@@ -1,7 +1,7 @@
 use Rattle.std.proofs.Common.{◌≡◌, suc, length}
 use Rattle.net_waves.specs.Packed.{all_told}
 use Rattle.net_waves.specs.Waves.{wave_value}
-use Rattle.vcd_dumps.specs.Inner.Walk.{last_stop}
+use Rattle.vcd_dumps.specs.Walk.{last_stop}
 use Rattle.byte_sinks.proofs.Passing.{passes_as, passes_then}
 use Rattle.vcd_dumps.proofs.Stops.{moments-walked, all_stops}
 use Rattle.vcd_dumps.proofs.PackedWalk.{told-all, all-known}

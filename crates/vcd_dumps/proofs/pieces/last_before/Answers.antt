@@ -1,7 +1,7 @@
 use Rattle.std.proofs.Common.{◌≡◌, ◌-◌, ◌+◌, ℕ, length, sym, ◌∙◌, ap, arith}
 use Rattle.std.proofs.lemmas.Bool.Decides.{nat_tests}
 use Rattle.net_waves.specs.Packed.{words_at, told_below}
-use Rattle.vcd_dumps.specs.Inner.Walk.{last_stop}
+use Rattle.vcd_dumps.specs.Walk.{last_stop}
 use Rattle.vcd_dumps.proofs.PieceLaws.{last-here, last-earlier}
 use Rattle.vcd_dumps.proofs.pieces.last_before.Goals as goal
 

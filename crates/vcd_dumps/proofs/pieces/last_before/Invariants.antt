@@ -1,6 +1,6 @@
 use Rattle.std.proofs.Common.{◌≡◌, ◌≤◌}
 use Rattle.net_waves.specs.Packed.{told_below}
-use Rattle.vcd_dumps.specs.Inner.Walk.{last_stop}
+use Rattle.vcd_dumps.specs.Walk.{last_stop}
 use Rattle.vcd_dumps.proofs.pieces.last_before.Given as goal
 
 -- no word tells a stop from here on

@@ -1,7 +1,6 @@
-use Rattle.std.proofs.Common.{◌≡◌, ◌≤◌, ◌∙◌, ◌++◌, List, ℕ, length, ap, subst, IfOk, arith}
+use Rattle.std.proofs.Common.{◌≡◌, ◌≤◌, ◌∙◌, List, ℕ, length, subst, IfOk, arith}
 use Rattle.std.specs.Prelude.{codes}
 use Rattle.net_waves.specs.Waves.{wave_value}
-use Rattle.vcd_dumps.specs.Dump.{header, first_lines}
 use Rattle.vcd_dumps.proofs.PieceLaws.{whole-text}
 use Rattle.vcd_dumps.proofs.workers.changes_dump_by.Goals as goal
 

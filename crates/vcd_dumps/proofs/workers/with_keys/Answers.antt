@@ -4,7 +4,7 @@ use Rattle.std.specs.List.{AllByRecursion}
 use Rattle.net_waves.specs.declared.timeline.Stop.{Stop}
 use Rattle.net_waves.specs.Waves.{wave_value}
 use Rattle.net_waves.specs.Keys.{stops_of_keys}
-use Rattle.vcd_dumps.specs.Inner.Walk.{walked, last_stop}
+use Rattle.vcd_dumps.specs.Walk.{walked, last_stop}
 use Rattle.vcd_dumps.proofs.Stops.{all_stops}
 use Rattle.vcd_dumps.proofs.KeyWalk.{keys-all, keys-known}
 use Rattle.vcd_dumps.proofs.PieceLaws.{text-moments}

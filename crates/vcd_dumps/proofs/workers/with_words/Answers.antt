@@ -1,7 +1,7 @@
 use Rattle.std.proofs.Common.{rules, ◌≡◌, suc, length, ap, ◌∙◌, subst, IfOk, List, ℕ, ◌++◌}
 use Rattle.net_waves.specs.Waves.{wave_value}
 use Rattle.net_waves.specs.Packed.{all_told, told_below}
-use Rattle.vcd_dumps.specs.Inner.Walk.{walked, last_stop}
+use Rattle.vcd_dumps.specs.Walk.{walked, last_stop}
 use Rattle.vcd_dumps.proofs.Stops.{all_stops}
 use Rattle.vcd_dumps.proofs.PackedWalk.{told-all, all-known}
 use Rattle.vcd_dumps.proofs.PieceLaws.{text-moments}

@@ -3,7 +3,7 @@ use Rattle.std.proofs.lemmas.List.{length-replicate, get_or-replicate}
 use Rattle.gate_values.specs.declared.logic.Logic.{Logic}
 use Rattle.gate_values.specs.declared.logic.Logic.TheVariants.{X}
 use Rattle.net_waves.specs.ByTime.{stops_in}
-use Rattle.net_waves.specs.Inner.First.{first_from}
+use Rattle.net_waves.specs.First.{first_from}
 use Rattle.net_waves.proofs.Firsts.{first-told, written}
 use Rattle.net_waves.proofs.by_time.ByTime.first_values.Goals as goal
 

@@ -13,7 +13,7 @@ use Rattle.warp_process.specs.Played.{played_view}
 use Rattle.part_engine.specs.Histories.{TellLogs}
 use Rattle.warp_core.specs.OwnNets.{AreOwn}
 use Rattle.warp_alone.proofs.Whole.{whole}
-use Rattle.warp_alone.proofs.alone.changes_alone.Goals as goal
+use Rattle.warp_alone.proofs.alone.tell_alone.Goals as goal
 
 pub returns : goal.returns
 returns g c =
@@ -31,7 +31,12 @@ returns g c =
     let given = c.in_ok-lists.ensures in
     let nets : length (lists_in lists.items) ≡ c.nets.result = length-map lists.items (λ (v : Vec Change Global). v.items) ∙ (omega (arith, given.nets, lists.ok.0)) in
     let step : AreStopsOf (lists_in lists.items) c.in_ok-given.given.items = subst (λ (vs : List (Vec Change Global)). AreStopsOf (lists_in vs) c.in_ok-given.given.items) c.as_slice.ensures.value c.in_ok-given.ensures.stops in
-    whole d cut g horizon c.in_ok-cut.ensures.fits c.law.ensures one c.requires.stimulus c.law-2.ensures c.requires.horizon received (lists_in lists.items) (nets ∙ c.nets.ensures.count)
-    (λ n l. given.given n (let same = c.nets.ensures.count in omega (arith, l, same))) (λ n l. given.none n (let same = c.nets.ensures.count in omega (arith, l, same)))
-    c.in_ok-played.played.own.items own c.in_ok-played.played.history told c.in_ok-given.given.items step c.in_ok-all.all
-    (rw c.as_slice-2.ensures.value at (rw c.as_slice-3.ensures.value at c.in_ok-all.ensures))
+    λ done.
+    (let all = c.in_ok-done.ensures done in (
+      all.0,
+      all.1,
+      whole d cut g horizon c.in_ok-cut.ensures.fits c.law.ensures one c.requires.stimulus c.law-2.ensures c.requires.horizon received (lists_in lists.items) (nets ∙ c.nets.ensures.count)
+          (λ n l. given.given n (let same = c.nets.ensures.count in omega (arith, l, same))) (λ n l. given.none n (let same = c.nets.ensures.count in omega (arith, l, same)))
+          c.in_ok-played.played.own.items own c.in_ok-played.played.history told c.in_ok-given.given.items step all.0
+          (rw c.as_slice-2.ensures.value at (rw c.as_slice-3.ensures.value at all.2)),
+    ))
